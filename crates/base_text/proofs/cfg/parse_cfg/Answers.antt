@@ -1,0 +1,31 @@
+use Rattle.std.proofs.Common.{List, ℕ, rules, lit<, sym, ap, ◌∙◌, ◌<◌}
+use Rattle.std.proofs.lemmas.Str.Pattern.{split_once_first, split_parts, IsSplitOnceResult}
+use Rattle.std.proofs.Common.{◌≡◌}
+use Rattle.std.specs.Prelude.{Option, Some}
+use Rattle.std.specs.Borrow.{Bor}
+use Rattle.base_text.proofs.CfgLemmas.{names_flag, names_key, names_none, SplitsAtEquals}
+use Rattle.base_text.proofs.cfg.parse_cfg.Goals as goal
+
+splits : (text : List ℕ) (r : Option (Bor (List ℕ) × Bor (List ℕ))) (key quoted : Bor (List ℕ)) → IsSplitOnceResult 61 text r → r ≡ Some (key, quoted)
+    → SplitsAtEquals text key.now quoted.now
+splits text r key quoted cases is =
+    let first = rw is at (split_once_first 61 text r cases (lit< tt)) in
+    let parts = rw is at (split_parts 61 text r cases (lit< tt)) in
+    record { within = first.0; before = first.1; after = first.2; whole = parts.0 }
+
+pub returns-in_ok-name-in-None : goal.returns-in_ok-name-in-None
+returns-in_ok-name-in-None c =
+    let none = rw c.in-None.is at (split_once_first 61 _ _ c.split_once.ensures.cases (lit< tt)) in
+    let named = names_flag c.args.text.now _ none c.in_ok-name-in-None.ensures in
+    record { ok = named.0; bad = search rules; again = named.1 }
+
+pub returns-in-None-unquoted-clause-bad : goal.returns-in-None-unquoted-clause-bad
+returns-in-None-unquoted-clause-bad c =
+    λ _. names_none _ _ _ (splits _ _ _ _ c.split_once.ensures.cases c.in-Some.is) c.in-None-unquoted.ensures.value
+
+pub returns-in_ok-value-in-Some-unquoted : goal.returns-in_ok-value-in-Some-unquoted
+returns-in_ok-value-in-Some-unquoted c =
+    let at = splits _ _ _ _ c.split_once.ensures.cases c.in-Some.is in
+    let in_quotes = c.in-Some-unquoted.ensures in
+    let named = names_key _ _ _ _ at in_quotes.value in_quotes.between _ _ c.in_ok-key-in-Some-unquoted.ensures c.in_ok-value-in-Some-unquoted.ensures in
+    record { ok = named.0; bad = search rules; again = named.1 }

@@ -1,0 +1,92 @@
+//! Values beside those of an arena: a map from the arena's numbers.
+
+ghost use Rattle.std.specs.Prelude.{◌≡◌, IfOk, OnOk, OnErr};
+ghost use Rattle.std.specs.Option.{option_copied, option_copied_mut};
+ghost use Rattle.std.specs.FinMap as map;
+ghost use Rattle.std.specs.Borrow.{sem};
+ghost use Rattle.base_text.specs.Arena.{number_of};
+
+use crate::arena::Idx;
+use std::alloc::{AllocError, Global};
+use std::collections::BTreeMap;
+use std::marker::{Model, PhantomData};
+
+/// A map from the numbers of an arena whose tag is `K`.
+#[derive(Drop)]
+#[derive_where(Debug; V)]
+pub struct ArenaMap<K, V> {
+    values: BTreeMap<u32, V>,
+    tag: PhantomData<K>,
+}
+
+impl<K, V> Model for ArenaMap<K, V> {
+    ghost use Rattle.std.specs.Ordering.{nat_cmp};
+    ghost use Rattle.std.specs.FinMap.{FinMap, code, from_entries};
+    ghost use Rattle.std.specs.Coded.{coded_ℕ};
+
+    ghost Value = { FinMap nat_cmp V };
+
+    ghost coded = { code coded_ℕ V.code };
+
+    ghost view = { λ a. from_entries a.values.entries };
+}
+
+impl<K, V> ArenaMap<K, V> {
+    ghost use Rattle.base_text.specs.ArenaMapLends.{lends_value};
+
+    pub fn new(alloc: Global) -> Self
+        ensures { result ≡ map.empty }
+    {
+        ArenaMap {
+            values: BTreeMap::new(alloc),
+            tag: PhantomData,
+        }
+    }
+
+    pub fn get(&self, id: Idx<K>) -> Option<&V>
+        ensures { option_copied result ≡ map.get self.now (number_of id) }
+    {
+        self.values.get(&id.into_raw())
+    }
+
+    pub fn get_mut(&mut self, id: Idx<K>) -> Option<&mut V>
+        ensures* writes_back { sem 𝓛 (lends_value K.row V.row self.entry (number_of id) result) }
+        ensures value { option_copied_mut result ≡ map.get self.old (number_of id) }
+    {
+        self.values.get_mut(&id.into_raw())
+    }
+}
+
+impl<K, V: Drop> ArenaMap<K, V> {
+    /// Puts a value at a number, and gives the one that was there.
+    pub fn insert(&mut self, id: Idx<K>, value: V) -> Result<Option<V>, AllocError>
+        ensures old { IfOk result (λ old. old ≡ map.get self.old (number_of id)) }
+        ensures put { OnOk result (self.new ≡ map.insert self.old (number_of id) value) }
+        ensures unchanged { OnErr result (self.new ≡ self.old) }
+    {
+        let old = self.values.insert(id.into_raw(), value)?;
+        Ok(old)
+    }
+}
+
+#[cfg(test)]
+mod tests {
+    use super::*;
+    use std::test::Fail;
+
+    enum Letter {}
+
+    #[test]
+    fn an_insertion_gives_the_value_that_was_there(rt: HostRuntime) -> Result<(), Fail> {
+        let mut map: ArenaMap<Letter, char> = ArenaMap::new(rt.alloc());
+        let id = Idx::from_raw(0);
+        assert_eq!(rt; map.insert(id, 'x')?, None);
+        assert_eq!(rt; map.insert(id, 'y')?, Some('x'));
+        if let Some(value) = map.get_mut(id) {
+            *value = 'z';
+        }
+        assert_eq!(rt; map.get(id), Some(&'z'));
+        assert_eq!(rt; map.get(Idx::from_raw(1)), None);
+        Ok(())
+    }
+}

@@ -1,0 +1,100 @@
+//! Counts of steps that a caller can read back, where a promise speaks of work done.
+
+ghost use Rattle.std.specs.Prelude.{◌≡◌, ℕ};
+ghost use Rattle.base_text.specs.Causes.{raised};
+
+use crate::try_clone::TryClone;
+use std::alloc::{AllocError, Global};
+use std::marker::Model;
+
+/// A count of steps, which stops at the greatest u64.
+pub trait Ledger {
+    // The steps so far.
+    ghost count: { Self → ℕ };
+
+    /// Counts one step.
+    fn tick(&mut self)
+        ensures { count self.new ≡ raised (count self.old) };
+
+    fn count(&self) -> u64
+        ensures { result ≡ count self.now };
+}
+
+/// A ledger that is one number, and is seen as that number.
+#[derive(Debug, Drop)]
+pub struct Counter {
+    steps: u64,
+}
+
+impl Model for Counter {
+    ghost use Rattle.std.specs.Prelude.{ℕ};
+
+    ghost Value = { ℕ };
+
+    ghost view = { λ a. a.steps };
+}
+
+impl Counter {
+    pub fn new() -> Self
+        ensures { result ≡ 0 }
+    {
+        Counter { steps: 0 }
+    }
+}
+
+impl TryClone for Counter {
+    fn try_clone(&self, _alloc: Global) -> Result<Self, AllocError> {
+        Ok(Counter { steps: self.steps })
+    }
+}
+
+impl Ledger for Counter {
+    ghost count = { λ n. n };
+
+    fn tick(&mut self)
+        ensures { self.new ≡ raised self.old }
+    {
+        self.steps = self.steps.saturating_add(1);
+    }
+
+    fn count(&self) -> u64
+        ensures { result ≡ self.now }
+    {
+        self.steps
+    }
+}
+
+/// The steps of a call that counts what it does.
+#[derive(Debug, Drop)]
+pub struct Steps<L: Ledger> {
+    pub ledger: L,
+}
+
+#[cfg(test)]
+mod tests {
+    use super::*;
+    use std::test::Fail;
+
+    fn tick_twice<L: Ledger>(steps: &mut Steps<L>)
+        ensures { L.count steps.new.ledger ≡ raised (raised (L.count steps.old.ledger)) }
+    {
+        steps.ledger.tick();
+        steps.ledger.tick();
+    }
+
+    fn count_of<L: Ledger>(steps: &Steps<L>) -> u64 {
+        steps.ledger.count()
+    }
+
+    #[test]
+    fn a_counter_counts_its_ticks(rt: HostRuntime) -> Result<(), Fail> {
+        let mut steps = Steps {
+            ledger: Counter::new(),
+        };
+        assert_eq!(rt; count_of(&steps), 0);
+        tick_twice(&mut steps);
+        assert_eq!(rt; count_of(&steps), 2);
+        assert_eq!(rt; steps.ledger.try_clone(rt.alloc())?.count(), 2);
+        Ok(())
+    }
+}
