@@ -1,0 +1,12 @@
+pub mod Account
+pub mod Cuts
+pub mod Deciding
+pub mod Events
+pub mod Existing
+pub mod Feeding
+pub mod Outcomes
+pub mod Pages
+pub mod Room
+pub mod Running
+pub mod Turns
+pub mod Words

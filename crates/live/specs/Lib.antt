@@ -1,0 +1,10 @@
+pub mod Cli
+pub mod Config
+pub mod Event
+pub mod Fault
+pub mod Lines
+pub mod Page
+pub mod Run
+pub mod Session
+pub mod Turn
+pub mod Written
