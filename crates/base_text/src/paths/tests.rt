@@ -7,7 +7,7 @@ use std::hash::{DefaultHasher, Hash, Hasher};
 use std::test::Fail;
 
 #[test]
-fn the_rules_of_paths_hold_by_example(rt: HostRuntime) -> Result<(), Fail> {
+fn a_new_path_is_clean(rt: HostRuntime) -> Result<(), Fail> {
     let alloc = rt.alloc();
     let cleaned = [
         ("/a//./b/", "/a/b"),
@@ -25,6 +25,12 @@ fn the_rules_of_paths_hold_by_example(rt: HostRuntime) -> Result<(), Fail> {
             "{text}"
         );
     }
+    Ok(())
+}
+
+#[test]
+fn joining_and_resolving_by_example(rt: HostRuntime) -> Result<(), Fail> {
+    let alloc = rt.alloc();
     let joined = [
         ("/a", "../c", "/a/../c", "/c"),
         ("/a", "b/../c", "/a/b/../c", "/a/c"),
@@ -43,6 +49,12 @@ fn the_rules_of_paths_hold_by_example(rt: HostRuntime) -> Result<(), Fail> {
             "{tail}"
         );
     }
+    Ok(())
+}
+
+#[test]
+fn what_lies_below_a_path_by_example(rt: HostRuntime) -> Result<(), Fail> {
+    let alloc = rt.alloc();
     let below = [
         ("/a/b/c", "/a", Some("b/c")),
         ("/a", "/a", Some("")),
@@ -61,6 +73,12 @@ fn the_rules_of_paths_hold_by_example(rt: HostRuntime) -> Result<(), Fail> {
         let left = whole.as_path().strip_prefix(front.as_path());
         assert_eq!(rt; left.map(|left| left.as_str()), rest, "{path}");
     }
+    Ok(())
+}
+
+#[test]
+fn names_and_extensions_by_example(rt: HostRuntime) -> Result<(), Fail> {
+    let alloc = rt.alloc();
     let names = [
         ("/d/x.tar.gz", Some("x.tar.gz"), Some("x.tar"), Some("gz")),
         ("/.git", Some(".git"), Some(".git"), None),
@@ -75,6 +93,12 @@ fn the_rules_of_paths_hold_by_example(rt: HostRuntime) -> Result<(), Fail> {
         assert_eq!(rt; path.as_path().file_stem(), stem, "{text}");
         assert_eq!(rt; path.as_path().extension(), extension, "{text}");
     }
+    Ok(())
+}
+
+#[test]
+fn parents_by_example(rt: HostRuntime) -> Result<(), Fail> {
+    let alloc = rt.alloc();
     let parents = [("/a/b", Some("/a")), ("/a", Some("/")), ("/", None)];
     for (text, parent) in parents {
         let mut path = AbsPathBuf::new(alloc, text)?;
