@@ -10,6 +10,7 @@ pub mod CfgOrder
 pub mod Command
 pub mod Faulty
 pub mod FileName
+pub mod Nonce
 pub mod PathOrder
 pub mod Paths
 pub mod Rows
