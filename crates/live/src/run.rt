@@ -64,7 +64,8 @@ fn finish_run<K: ByteSink>(
 fn read_some<S: ByteSource>(input: &mut S, buffer: &mut [u8], room: u64) -> Result<usize, LiveError>
     requires some { 0 < length buffer.old }
     requires small { room ≤ 2 ^ 30 }
-    ensures read { IfOk result (λ count. Consumes (S.left input.old) (S.left input.new) (take count buffer.new)) }
+    ensures read { IfOk result (λ count.
+        Consumes (S.left input.old) (S.left input.new) (take count buffer.new)) }
     ensures most { IfOk result (λ count. (count ≤ room + 1) × (count ≤ length buffer.new)) }
     ensures end { IfOk result (λ count. count ≡ 0 → IsAtEnd (S.left input.new)) }
     ensures err { IfErr result (λ e. e ≡ ReadFault) }
