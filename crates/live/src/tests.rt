@@ -80,10 +80,15 @@ fn lines_that_are_no_events_are_refused_by_number(rt: HostRuntime) -> Result<(),
 fn a_line_that_is_not_text_is_refused(rt: HostRuntime) -> Result<(), Fail> {
     let alloc = rt.alloc();
     let mut live = Live::new(alloc)?;
-    let mut input = MemorySource::new([0xffu8, b'\n'].to_vec(alloc)?);
+    let mut input = MemorySource::new(b"{\"event\":\"flush\"}\n\xff\n".to_vec(alloc)?);
     let mut out = MemorySink::new(alloc);
-    let answer = live_run(alloc, &mut live, &mut input, &mut out);
-    assert_eq!(rt; answer, Err(LiveError::Script(1)));
+    let mut err = MemorySink::new(alloc);
+    let status = live_cli(alloc, &[], &mut live, &mut input, &mut out, &mut err);
+    let pages = String::from_utf8_lossy(alloc, out.bytes())?;
+    let told = String::from_utf8_lossy(alloc, err.bytes())?;
+    assert_eq!(rt; status, 5);
+    assert_eq!(rt; pages.as_str(), EMPTY);
+    assert_eq!(rt; told.as_str(), "script line 2\n");
     Ok(())
 }
 
