@@ -4,6 +4,8 @@ pub mod Deciding
 pub mod Events
 pub mod Existing
 pub mod Feeding
+pub mod Numbers
+pub mod Options
 pub mod Outcomes
 pub mod Pages
 pub mod Room

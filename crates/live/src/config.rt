@@ -1,7 +1,7 @@
-//! What the words of the command line set. There are no options yet, so any word is wrong.
+//! What the words of the command line set.
 
-ghost use Rattle.std.specs.Prelude.{◌≡◌, ◌↔◌, IfOk, IsErrOf, IsTrue, map, string_bytes, Some, None};
-ghost use Rattle.live.specs.Config.{FitsLimits, config_of};
+ghost use Rattle.std.specs.Prelude.{◌≡◌, ◌≤◌, ◌↔◌, IfOk, IsErrOf, IsTrue, map, string_bytes, Some, None};
+ghost use Rattle.live.specs.Config.{FitsGiven, FitsLimits, config_of, nothing_given, number_up_to, once, set_by, with_option, with_options};
 
 use base_text::Limits;
 use std::alloc::Global;
@@ -23,18 +23,16 @@ pub struct LiveConfig {
 }
 
 impl LiveConfig {
+    #[tactic(auto, unfolding(crate::specs::Config::config_of))]
     /// The configuration that the words give.
-    pub fn of_words(_alloc: Global, words: &[String]) -> Result<LiveConfig, WordsError>
+    pub fn of_words(alloc: Global, words: &[String]) -> Result<LiveConfig, WordsError>
         ensures ok { IfOk result (λ config. config_of (map string_bytes words.now) ≡ Some config) }
         ensures fits { IfOk result (λ config. FitsLimits config.limits) }
         ensures usage { IsErrOf result WordsError.Usage → config_of (map string_bytes words.now) ≡ None }
     {
-        if words.is_empty() {
-            Ok(LiveConfig {
-                limits: Limits::greatest(),
-            })
-        } else {
-            Err(WordsError::Usage)
+        match read_options(alloc, words) {
+            Ok(given) => Ok(given.config()),
+            Err(error) => Err(error),
         }
     }
 
@@ -48,5 +46,125 @@ impl LiveConfig {
             && self.limits.packages <= greatest.packages
             && self.limits.targets <= greatest.targets
             && self.limits.crates <= greatest.crates
+    }
+}
+
+// The options that were given so far, each at most once.
+#[derive(Clone, Copy)]
+pub(crate) struct Given {
+    bytes: Option<u64>,
+    paths: Option<u32>,
+}
+
+// Reads the words option by option.
+fn read_options(alloc: Global, words: &[String]) -> Result<Given, WordsError>
+    ensures fits { IfOk result FitsGiven }
+    ensures ok { IfOk result (λ given. with_options nothing_given (map string_bytes words.now) ≡ Some given) }
+    ensures usage { IsErrOf result WordsError.Usage → with_options nothing_given (map string_bytes words.now) ≡ None }
+{
+    let mut given = Given {
+        bytes: None,
+        paths: None,
+    };
+    let mut left = words;
+    while let Some((word, after)) = left.split_first() {
+        let Some((value, more)) = after.split_first() else {
+            return Err(WordsError::Usage);
+        };
+        match given.with(alloc, word, value) {
+            Ok(more) => given = more,
+            Err(error) => return Err(error),
+        }
+        left = more;
+    }
+    Ok(given)
+}
+
+impl Given {
+    // The configuration that these options set.
+    fn config(self) -> LiveConfig
+        requires { FitsGiven self }
+        ensures set { result ≡ set_by self }
+        ensures fits { FitsLimits result.limits }
+    {
+        let greatest = Limits::greatest();
+        LiveConfig {
+            limits: Limits {
+                bytes: self.bytes.unwrap_or(greatest.bytes),
+                paths: self.paths.unwrap_or(greatest.paths),
+                ..greatest
+            },
+        }
+    }
+
+    #[tactic(auto, unfolding(crate::specs::Config::with_option))]
+    // These options and one more.
+    fn with(self, alloc: Global, word: &str, value: &str) -> Result<Given, WordsError>
+        requires { FitsGiven self }
+        ensures fits { IfOk result FitsGiven }
+        ensures ok { IfOk result (λ given. with_option self word.now value.now ≡ Some given) }
+        ensures usage { IsErrOf result WordsError.Usage → with_option self word.now value.now ≡ None }
+    {
+        let greatest = Limits::greatest();
+        match word {
+            "--limit-bytes" => match read_once(alloc, self.bytes.is_some(), greatest.bytes, value) {
+                Ok(bytes) => Ok(Given {
+                    bytes: Some(bytes),
+                    paths: self.paths,
+                }),
+                Err(error) => Err(error),
+            },
+            "--limit-paths" => match read_once(
+                alloc,
+                self.paths.is_some(),
+                greatest.paths.into(),
+                value,
+            ) {
+                Ok(paths) => Ok(Given {
+                    bytes: self.bytes,
+                    paths: Some(paths as u32),
+                }),
+                Err(error) => Err(error),
+            },
+            _ => Err(WordsError::Usage),
+        }
+    }
+}
+
+// The number of an option that was not given before.
+fn read_once(alloc: Global, given: bool, most: u64, text: &str) -> Result<u64, WordsError>
+    ensures ok { IfOk result (λ number. once given (number_up_to most text.now) ≡ Some number) }
+    ensures most { IfOk result (λ number. number ≤ most) }
+    ensures usage { IsErrOf result WordsError.Usage → once given (number_up_to most text.now) ≡ None }
+{
+    if given {
+        return Err(WordsError::Usage);
+    }
+    match read_number(alloc, most, text) {
+        Ok(number) => Ok(number),
+        Err(error) => Err(error),
+    }
+}
+
+// The number of a decimal text without sign or leading zero, if it is at most this.
+fn read_number(alloc: Global, most: u64, text: &str) -> Result<u64, WordsError>
+    ensures ok { IfOk result (λ number. number_up_to most text.now ≡ Some number) }
+    ensures most { IfOk result (λ number. number ≤ most) }
+    ensures usage { IsErrOf result WordsError.Usage → number_up_to most text.now ≡ None }
+{
+    let Ok(number) = text.parse::<u64>() else {
+        return Err(WordsError::Usage);
+    };
+    if number > most {
+        return Err(WordsError::Usage);
+    }
+    let written = match number.to_string(alloc) {
+        Ok(written) => written,
+        Err(_) => return Err(WordsError::OutOfMemory),
+    };
+    if written.as_str() == text {
+        Ok(number)
+    } else {
+        Err(WordsError::Usage)
     }
 }

@@ -92,13 +92,52 @@ fn a_line_that_is_not_text_is_refused(rt: HostRuntime) -> Result<(), Fail> {
     Ok(())
 }
 
+const USAGE: &str = "usage: live [options] or live generate N\n";
+
 #[test]
-fn any_word_is_wrong(rt: HostRuntime) -> Result<(), Fail> {
+fn a_word_that_is_no_option_is_wrong(rt: HostRuntime) -> Result<(), Fail> {
     let word = String::from_str(rt.alloc(), "--nope")?;
     let (status, pages, told) = run_words(rt.alloc(), "{\"event\":\"flush\"}\n", &[word])?;
     assert_eq!(rt; status, 2);
     assert_eq!(rt; pages.as_str(), "");
-    assert_eq!(rt; told.as_str(), "usage: live [options] or live generate N\n");
+    assert_eq!(rt; told.as_str(), USAGE);
+    Ok(())
+}
+
+// Words as a program is given them: the pieces between blanks.
+fn words_of(alloc: Global, line: &str) -> Result<Vec<String>, Fail> {
+    let mut words = Vec::new(alloc);
+    for word in line.split(' ') {
+        words.push(String::from_str(alloc, word)?)?;
+    }
+    Ok(words)
+}
+
+#[test]
+fn options_set_limits_or_are_wrong(rt: HostRuntime) -> Result<(), Fail> {
+    let files =
+        "{\"event\":\"file\",\"path\":\"/1\",\"text\":\"\"}\n{\"event\":\"file\",\"path\":\"/2\",\"text\":\"\"}\n{\"event\":\"file\",\"path\":\"/3\",\"text\":\"\"}\n";
+    let rows = [
+        ("--limit-paths 2", 17, "too many paths\n"),
+        ("--limit-paths 3 --limit-bytes 1000", 0, ""),
+        ("--limit-bytes 18 --limit-paths 3", 17, "too many bytes\n"),
+        ("--limit-paths 0", 17, "too many paths\n"),
+        ("--limit-paths 1048576", 0, ""),
+        ("--limit-paths 1048577", 2, USAGE),
+        ("--limit-paths 01", 2, USAGE),
+        ("--limit-paths +2", 2, USAGE),
+        ("--limit-paths ", 2, USAGE),
+        ("--limit-paths", 2, USAGE),
+        ("--limit-paths 2 --limit-paths 2", 2, USAGE),
+        ("--limit-bytes --limit-paths 3", 2, USAGE),
+    ];
+    for (line, status, text) in rows {
+        let words = words_of(rt.alloc(), line)?;
+        let (got, pages, told) = run_words(rt.alloc(), files, words.as_slice())?;
+        assert_eq!(rt; got, status, "of {line}");
+        assert_eq!(rt; pages.as_str(), "", "of {line}");
+        assert_eq!(rt; told.as_str(), text, "of {line}");
+    }
     Ok(())
 }
 
