@@ -1,0 +1,5 @@
+pub mod Parts
+pub mod Lists
+pub mod Entries
+pub mod ReadAgain
+pub mod Rows

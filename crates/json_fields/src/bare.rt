@@ -1,0 +1,146 @@
+//! The bare version: no pre-release, no build metadata, and the third number may be left out.
+
+ghost use Rattle.std.specs.Prelude.{◌≡◌, ◌==◌, ◌||◌, IfOk, Ok, count_by, string_bytes};
+ghost use Rattle.semver.specs.Identifiers.{parts_text};
+ghost use Rattle.semver.specs.Parse.{version_parts};
+ghost use Rattle.json_fields.specs.Versions.{GivesBare, bare_at, bare_parts, completed, first_mark, or_not_version, version_data};
+
+use crate::place::ReadError;
+use crate::reading::{Json, Present, missed};
+use crate::versions::Version;
+use base_text::TryClone;
+use serde_json::Value;
+use std::alloc::{AllocError, Global};
+use std::marker::Model;
+
+/// Why a text is no bare version.
+#[derive(Debug, Drop)]
+pub enum BareError {
+    PreRelease,
+    BuildMetadata,
+    NotVersion,
+    OutOfMemory,
+}
+
+/// The first `-` or `+` decides, and with exactly one dot `.0` is appended.
+#[tactic(auto, unfolding(crate::specs::Versions::bare_parts))]
+pub fn bare_version(alloc: Global, text: &str) -> Result<Version, BareError>
+    ensures exact { GivesBare result (bare_parts text.now) }
+    ensures again { IfOk result (λ p. bare_parts (parts_text p) ≡ Ok p) }
+{
+    match first_mark(text.as_bytes()) {
+        Some(b'-') => Err(BareError::PreRelease),
+        Some(_) => Err(BareError::BuildMetadata),
+        None => completed_version(alloc, text),
+    }
+}
+
+fn first_mark(text: &[u8]) -> Option<u8>
+    ensures { result ≡ first_mark text.now }
+{
+    text.iter().copied().find(|b| *b == b'-' || *b == b'+')
+}
+
+fn completed_version(alloc: Global, text: &str) -> Result<Version, BareError>
+    ensures exact { GivesBare result (or_not_version (version_parts (completed text.now))) }
+{
+    if count_dots(text.as_bytes()) != 1 {
+        return plain_version(alloc, text);
+    }
+    match format!(in alloc; "{text}.0") {
+        Ok(whole) => plain_version(alloc, whole.as_str()),
+        Err(_) => Err(BareError::OutOfMemory),
+    }
+}
+
+fn count_dots(text: &[u8]) -> usize
+    ensures { result ≡ count_by (λ b. b == 46) text.now }
+{
+    text.iter().filter(|b| **b == b'.').count()
+}
+
+fn plain_version(alloc: Global, text: &str) -> Result<Version, BareError>
+    ensures { GivesBare result (or_not_version (version_parts text.now)) }
+{
+    match semver::Version::parse(alloc, text) {
+        Ok(inner) => Ok(Version::new(inner)),
+        Err(error) => {
+            if error == semver::Error::from(AllocError) {
+                return Err(BareError::OutOfMemory);
+            }
+            Err(BareError::NotVersion)
+        }
+    }
+}
+
+/// The table of a bare version, which is read into a `Version`.
+#[derive(PartialEq, Eq, Drop)]
+pub struct BareVersion {
+    version: Version,
+}
+
+impl Model for BareVersion {
+    ghost use Rattle.std.specs.Prelude.{ℕ, List};
+
+    ghost Value = { ℕ × ℕ × ℕ × List ℕ × List ℕ };
+
+    ghost view = { λ a. a.version };
+
+    ghost inverse = { λ parts. record { version = parts } };
+}
+
+impl BareVersion {
+    pub fn new(version: Version) -> Self
+        ensures { result ≡ version }
+    {
+        BareVersion { version }
+    }
+
+    pub fn as_version(&self) -> &Version
+        ensures { result.now ≡ self.now }
+    {
+        &self.version
+    }
+
+    pub fn into_inner(self) -> Version
+        ensures { result ≡ self }
+    {
+        self.version
+    }
+}
+
+impl TryClone for BareVersion {
+    fn try_clone(&self, alloc: Global) -> Result<Self, AllocError> {
+        Ok(BareVersion {
+            version: self.version.try_clone(alloc)?,
+        })
+    }
+}
+
+#[tactic(auto, unfolding(crate::specs::Versions::bare_at, crate::specs::Versions::version_data))]
+impl Json for BareVersion {
+    ghost reads = { bare_at };
+
+    ghost writes = { version_data };
+
+    fn read(alloc: Global, value: &Value) -> Result<BareVersion, ReadError> {
+        let Some(text) = value.as_str() else {
+            return missed(alloc);
+        };
+        match bare_version(alloc, text) {
+            Ok(version) => Ok(BareVersion { version }),
+            Err(BareError::OutOfMemory) => Err(ReadError::OutOfMemory),
+            Err(_) => missed(alloc),
+        }
+    }
+
+    fn write(&self, alloc: Global) -> Result<Value, AllocError> {
+        self.version.write(alloc)
+    }
+}
+
+impl Present for BareVersion {
+    ghost use Rattle.json_fields.specs.Versions.{version_data-present};
+
+    ghost present = { version_data-present };
+}
