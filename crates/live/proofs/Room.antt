@@ -5,7 +5,7 @@ use Rattle.std.specs.Option.{is_some}
 use Rattle.std.proofs.lemmas.Bool.Decides.{nat_tests}
 use Rattle.std.proofs.lemmas.Map.Made.{is_some-lookup}
 use Rattle.std.proofs.lemmas.Grind.{common_steps}
-use Rattle.vfs_core.specs.Files.{Files, Follows, IsFullFor, found, kind_of}
+use Rattle.vfs_core.specs.Files.{Files, Follows, IsFullFor, found, kind_of, no_files}
 use Rattle.vfs_core.specs.declared.marks.Mark.{Mark}
 use Rattle.vfs_core.specs.Marks.{live_text, kept, mentioned}
 use Rattle.vfs_core.specs.VfsPath.{Place, place_eq}
@@ -56,12 +56,12 @@ unfolding turn
 refuses_file live s path text none holds = rw none (record { refused = refl; holds = holds; silent = refl })
 
 -- no mark, no file
-pub Follows-nil : (limit : ℕ) → Follows (record { limit = limit; entries = [] }) []
+pub Follows-nil : (limit : ℕ) → Follows (no_files limit) []
 unfolding live_text kept
 Follows-nil limit = record { numbers = refl; states = λ place. refl }
 
 -- a session to which nothing was said
-pub Holds-first : (live : Live) → live.config.limits ≡ greatest → live.files ≡ record { limit = live.config.limits.paths; entries = [] } → live.ended ≡ false → Holds live first_state
+pub Holds-first : (live : Live) → live.config.limits ≡ greatest → live.files ≡ no_files live.config.limits.paths → live.ended ≡ false → Holds live first_state
 Holds-first live limits files ended = record {
   config = λ i. record { limits = limits i };
   limit = ap (λ f. f.limit) files ∙ ap (λ l. l.paths) limits;

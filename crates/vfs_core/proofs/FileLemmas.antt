@@ -1,21 +1,16 @@
 -- What contents that come for a path make of the numbers and the states of all paths.
-use Rattle.std.proofs.Common.{◌≡◌, ℕ, zero, suc, ◌+◌, ◌<◌, Bool, true, false, not, cond, ◌&&◌, ◌||◌, List, [], ◌∷◌, ◌++◌, Option, Some, None, refl, sym, ◌∙◌, ap, arith, nat_eq, eqb-true, eq-eqb, if◌then◌else◌, slice_get, position, length, nat_lt, eqb, length-append}
-use Rattle.std.specs.Bool.{beq}
-use Rattle.std.specs.Cmp.{booleans_Decides, bool_eq_equiv, IsEquivalence}
-use Rattle.std.proofs.lemmas.Cmp.{and_equiv, on_equiv, nat_list_eq_equiv}
-use Rattle.std.specs.Cmp.Lexicographic.{pointwise, bytes_decides}
+use Rattle.std.proofs.Common.{◌≡◌, ℕ, zero, suc, ◌<◌, Bool, true, false, cond, ◌||◌, List, [], ◌∷◌, ◌++◌, Option, Some, None, refl, sym, ◌∙◌, ap, arith, eqb-true, if◌then◌else◌, slice_get, position, length, nat_lt, eqb, length-append}
 use Rattle.std.specs.List.{list_any, position_or_len}
-use Rattle.std.specs.Map.{keys_of, lookup}
+use Rattle.std.specs.Map.{keys_of}
 use Rattle.std.specs.Option.{unwrap_or}
 use Rattle.std.proofs.lemmas.Bool.Decides.{nat_tests}
 use Rattle.std.proofs.lemmas.List.Folds.{prefix_len-append}
-use Rattle.std.proofs.lemmas.Grind.{common_steps}
 use Rattle.indexmap.specs.IndexMap.{insert_entry}
 use Rattle.vfs_core.specs.declared.file_state.FileState.{FileState}
 use Rattle.vfs_core.specs.declared.file_state.FileState.TheVariants.{Exists, Deleted}
 use Rattle.vfs_core.specs.declared.marks.Mark.{Mark}
 use Rattle.vfs_core.specs.FileState.{state_after, state_of}
-use Rattle.vfs_core.specs.Files.{Files, Follows, KeepsNumbers, found, kind_of, places, state_at, set_contents}
+use Rattle.vfs_core.specs.Files.{Files, Follows, KeepsNumbers, found, kind_of, places, state_at}
 use Rattle.vfs_core.specs.Hash.{content_hash}
 use Rattle.vfs_core.specs.Marks.{kept_next, live_text, merged, same_hash, with_place}
 use Rattle.vfs_core.specs.PlaceOrder.{place_eq-same, place_equiv}

@@ -1,5 +1,9 @@
+pub mod BatchLemmas
 pub mod FileLemmas
 pub mod LiveLemmas
 pub mod MarkLemmas
 pub mod NormalLemmas
 pub mod NumberLemmas
+pub mod PartLemmas
+pub mod RoomLemmas
+pub mod TrimLemmas

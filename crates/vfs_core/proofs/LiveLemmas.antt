@@ -1,5 +1,5 @@
 -- Where the files follow marks, those that exist are the live ones, in order of first mention.
-use Rattle.std.proofs.Common.{◌≡◌, ℕ, zero, suc, ◌+◌, ◌<◌, Bool, true, false, cond, List, [], ◌∷◌, Option, Some, None, refl, sym, ◌∙◌, ap, map, slice_get, slice_index_or, length, is_some, if◌then◌else◌}
+use Rattle.std.proofs.Common.{◌≡◌, ℕ, zero, suc, ◌+◌, Bool, true, false, cond, List, [], ◌∷◌, Option, Some, None, refl, sym, ◌∙◌, ap, map, slice_get, slice_index_or, is_some, if◌then◌else◌}
 use Rattle.std.specs.List.{AllByRecursion, IsDistinct, filter}
 use Rattle.std.specs.Map.{keys_of, lookup}
 use Rattle.std.specs.Option.{unwrap_or}
@@ -9,8 +9,8 @@ use Rattle.vfs_core.specs.declared.file_state.FileState.{FileState}
 use Rattle.vfs_core.specs.declared.file_state.FileState.TheVariants.{Deleted}
 use Rattle.vfs_core.specs.declared.marks.Mark.{Mark}
 use Rattle.vfs_core.specs.FileState.{is_existing, state_of}
-use Rattle.vfs_core.specs.Files.{Files, Follows, existing, existing_from, found, places, state_at}
-use Rattle.vfs_core.specs.Marks.{live_places, live_text, mentioned}
+use Rattle.vfs_core.specs.Files.{Files, Follows, existing, existing_from, places, state_at}
+use Rattle.vfs_core.specs.Marks.{live_places, live_text}
 use Rattle.vfs_core.specs.VfsPath.{Place, place_eq}
 use Rattle.vfs_core.specs.PlaceOrder.{place_equiv}
 use Rattle.vfs_core.proofs.NumberLemmas.{all-at, keys_at}

@@ -1,10 +1,10 @@
 -- Normal paths: once each `..` is resolved none is left, and resolving again changes nothing.
-use Rattle.std.proofs.Common.{◌≡◌, ℕ, Bool, true, false, List, [], ◌∷◌, ◌++◌, ◌-◌, length, take, refl, sym, ◌∙◌, ap, subst, append_assoc, append-nil, if◌then◌else◌}
+use Rattle.std.proofs.Common.{◌≡◌, ℕ, Bool, true, false, List, [], ◌∷◌, ◌++◌, ◌-◌, length, refl, sym, ◌∙◌, ap, subst, append_assoc, append-nil, if◌then◌else◌}
 use Rattle.std.proofs.lemmas.List.Elements.{All-from_recursion, recursion_from_All, All-take, All-push}
 use Rattle.std.specs.List.{All, AllByRecursion, fold}
 use Rattle.std.specs.Prelude.{codes, bytes_eq}
 use Rattle.base_text.specs.Paths.{components, path_text, resolve, resolved, without_last, IsClean}
-use Rattle.vfs_core.specs.VfsPath.{IsNormal}
+use Rattle.vfs_core.specs.RealPath.{IsNormal}
 
 -- a component that is not `..`
 abbrev pub IsDown : List ℕ → Type 0

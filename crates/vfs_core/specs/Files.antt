@@ -1,26 +1,33 @@
--- What contracts see of the file system: the limit, and each path with its state, in order of first mention.
+-- What contracts see of the file system: the limit, each path with its state, in order of first mention, and the batch.
 -- The place of a path in that order is its number.
-use Rattle.std.specs.Prelude.{◌≡◌, ℕ, ◌+◌, ◌≤◌, Bool, List, [], ◌∷◌, ◌++◌, Option, Some, None, length, map, position, slice_get, if◌then◌else◌}
+use Rattle.std.specs.Prelude.{◌≡◌, ℕ, ◌+◌, ◌≤◌, Bool, List, [], ◌∷◌, Option, Some, None, length, map, position, slice_get, if◌then◌else◌}
 use Rattle.std.specs.Option.{option_map, option_and_then, unwrap_or}
-use Rattle.std.specs.List.{IsDistinct}
+use Rattle.std.specs.List.{IsDistinct, position_or_len}
 use Rattle.std.specs.Map.{keys_of, lookup}
 use Rattle.std.specs.declared.vec.Vec.{Vec}
 use Rattle.std.specs.Borrow.{Bor}
 use Rattle.indexmap.specs.IndexMap.{insert_entry}
 use Rattle.vfs_core.specs.declared.file_state.FileState.{FileState}
-use Rattle.vfs_core.specs.declared.file_state.FileState.TheVariants.{Deleted}
+use Rattle.vfs_core.specs.declared.file_state.FileState.TheVariants.{Deleted, Excluded}
+use Rattle.vfs_core.specs.declared.changed_file.ChangedFile.{ChangedFile}
+use Rattle.vfs_core.specs.Batch.{changed, with_call, with_noted, IsBatch}
 use Rattle.vfs_core.specs.declared.file_state.FileExcluded.{FileExcluded}
 use Rattle.vfs_core.specs.declared.marks.Mark.{Mark}
 use Rattle.vfs_core.specs.declared.marks.MarkKind.{MarkKind}
 use Rattle.vfs_core.specs.declared.marks.MarkKind.TheVariants.{Text, Gone}
-use Rattle.vfs_core.specs.FileState.{is_change, is_existing, shown, state_after, state_of}
-use Rattle.vfs_core.specs.Marks.{live_places, live_text, mentioned}
+use Rattle.vfs_core.specs.FileState.{change_made, is_change, is_existing, shown, state_after, state_of}
+use Rattle.vfs_core.specs.Marks.{live_places, live_text, mentioned, with_place}
 use Rattle.vfs_core.specs.VfsPath.{Place, place_eq}
 
--- the greatest number of paths, and each path with its state
+-- the greatest number of paths, each path with its state, and the changes since they were last taken
 pub record Files : Type 0 where
   pub limit : ℕ
   pub entries : List (Place × FileState)
+  pub batch : List (ℕ × ChangedFile)
+
+-- no files, and no changes
+abbrev pub no_files : ℕ → Files
+no_files limit = record { limit = limit; entries = []; batch = [] }
 
 -- numbers stay within 31 bits, and no path comes twice
 pub record IsWellMade (limit : ℕ) (entries : List (Place × FileState)) : Type 0 where
@@ -52,10 +59,21 @@ state_at files place = unwrap_or (found files place) Deleted
 abbrev pub with_state : Files → Place → FileState → Files
 with_state files place state = record files { entries = insert_entry place_eq files.entries place state }
 
+-- the number that a path has, or takes where it is new
+abbrev pub number_for : Files → Place → ℕ
+number_for files place = position_or_len (place_eq place) (places files)
+
+-- what contents, or a deletion where there are none, do to the file of a path, if anything
+abbrev pub call_made : Files → Place → Option (List ℕ) → Option ChangedFile
+call_made files place contents =
+    option_map (changed (number_for files place)) (change_made (state_at files place) contents)
+
 -- the files after contents, or a deletion where there are none, come for a path
 abbrev pub set_contents : Files → Place → Option (List ℕ) → Files
-set_contents files place contents =
-    with_state files place (state_after (state_at files place) contents)
+set_contents files place contents = record files {
+  entries = insert_entry place_eq files.entries place (state_after (state_at files place) contents);
+  batch = with_noted (call_made files place contents) files.batch;
+}
 
 -- whether contents, or a deletion where there are none, change a file
 abbrev pub changes : Files → Place → Option (List ℕ) → Bool
@@ -70,9 +88,18 @@ abbrev pub SetsState : Files → Files → Place → Option (List ℕ) → Type 
 SetsState old new path contents = (place : Place) → found new place
     ≡ (if place_eq path place then Some (state_after (state_at old path) contents) else found old place)
 
+-- one path is left out, each other path has the state that it had
+abbrev pub Excludes : Files → Files → Place → Type 0
+Excludes old new path = (place : Place) → found new place
+    ≡ (if place_eq path place then Some Excluded else found old place)
+
 -- a path is new where no more paths may come
 abbrev pub IsFullFor : Files → Place → Type 0
 IsFullFor files place = (found files place ≡ None) × (files.limit ≤ length files.entries)
+
+-- one more path keeps within the numbers
+abbrev pub HasRoomFor : Files → Place → Type 0
+HasRoomFor files place = length (with_place place (places files)) ≤ 0x7fff_ffff
 
 -- each path that had a number has it still, and each number its path
 pub record KeepsNumbers (old new : Files) : Type 0 where
@@ -129,3 +156,20 @@ KeepsMarks old new = (marks : List Mark) → Follows old marks → Follows new m
 abbrev pub ListsLive : Files → List (ℕ × Place) → Type 0
 ListsLive files listed = (marks : List Mark)
     → Follows files marks → map (λ file. file.1) listed ≡ live_places marks
+
+-- the batch is what these calls made, newest first: those that answered true since the changes were last taken
+abbrev pub Gathers : Files → List ChangedFile → Type 0
+Gathers files calls = IsBatch files.batch calls
+
+-- whatever calls the batch gathered, it gathers these and this one, where it changed its file
+abbrev pub TakesCall : Files → Files → Place → Option (List ℕ) → Type 0
+TakesCall old new path contents = (calls : List ChangedFile)
+    → Gathers old calls → Gathers new (with_call (call_made old path contents) calls)
+
+-- whatever calls the batch gathered, it gathers them still
+abbrev pub KeepsCalls : Files → Files → Type 0
+KeepsCalls old new = (calls : List ChangedFile) → Gathers old calls → Gathers new calls
+
+-- whatever calls the batch gathered, this is their batch
+abbrev pub GivesBatch : Files → List (ℕ × ChangedFile) → Type 0
+GivesBatch files batch = (calls : List ChangedFile) → Gathers files calls → IsBatch batch calls

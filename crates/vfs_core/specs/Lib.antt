@@ -1,7 +1,11 @@
-pub mod Files
+pub mod Batch
 pub mod FileState
+pub mod Files
 pub mod Hash
 pub mod Marks
 pub mod PlaceOrder
+pub mod RealPath
+pub mod RelPath
 pub mod VfsError
 pub mod VfsPath
+pub mod VirtualPath

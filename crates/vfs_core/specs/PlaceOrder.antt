@@ -3,13 +3,13 @@ use Rattle.std.specs.Prelude.{◌≡◌, ℕ, Bool, true, false, ◌&&◌, List,
 use Rattle.std.proofs.Common.{refl, sym, ◌∙◌, ap, subst, true≢false}
 use Rattle.std.specs.Bool.{beq, one_answer}
 use Rattle.std.specs.Cmp.{and_equiv, bool_cmp_total, bool_eq_equiv, booleans_Decides, on_equiv, on_total, partial_order_from_agreeing_total, then_total, tied_itself, IsEquivalence, IsPartialOrder, IsTotalOrder}
-use Rattle.std.specs.Cmp.Lexicographic.{nat_list_cmp_total, nat_list_eq_equiv, pointwise, pointwise_decides, bytes_decides, slice_cmp, texts_ties}
+use Rattle.std.specs.Cmp.Lexicographic.{lists_total, nat_list_cmp_total, nat_list_eq_equiv, pointwise, pointwise_decides, bytes_decides, slice_cmp, texts_ties}
 use Rattle.std.specs.declared.cmp.Ordering.{Ordering}
 use Rattle.std.specs.declared.cmp.Ordering.TheVariants.{Less, Equal, Greater}
-use Rattle.std.specs.Ordering.{as_partial_cmp, bool_cmp, eq_by_cmp, is_eq, nat_cmp, on, ordering_then, then_cmp}
-use Rattle.base_text.specs.PathOrder.{path_cmp, path_cmp_total, path_ties}
+use Rattle.std.specs.Ordering.{as_partial_cmp, bool_cmp, eq_by_cmp, is_eq, nat_cmp, ordering_then}
+use Rattle.base_text.specs.PathOrder.{path_cmp, path_ties}
 use Rattle.base_text.specs.Paths.{components, path_text, IsClean}
-use Rattle.vfs_core.specs.VfsPath.{Place, place_cmp, place_eq}
+use Rattle.vfs_core.specs.VfsPath.{Place, place_cmp, place_eq, real_parts}
 
 -- both of two tests that hold together
 both : (first second : Bool) → (first && second) ≡ true → (first ≡ true) × (second ≡ true)
@@ -33,7 +33,7 @@ place_equiv = and_equiv (on_equiv (λ p. p.is_virtual) bool_eq_equiv) (on_equiv 
 -- the order is total
 pub place_cmp_total : IsTotalOrder place_cmp
 place_cmp_total = then_total (on_total (λ p. p.is_virtual) bool_cmp_total)
-    (then_total (on_total (λ p. p.text) path_cmp_total) (on_total (λ p. p.text) nat_list_cmp_total))
+    (then_total (on_total real_parts (lists_total nat_list_cmp_total)) (on_total (λ p. p.text) nat_list_cmp_total))
 
 -- a chain of three ties where its first and its last do
 tied_ends : (a b c : Ordering) → is_eq (ordering_then a (ordering_then b c)) ≡ true → (is_eq a ≡ true) × (is_eq c ≡ true)
@@ -53,7 +53,8 @@ tied_bools false false h = refl
 -- places that tie are one
 tied_places : (x y : Place) → eq_by_cmp place_cmp x y ≡ true → x ≡ y
 tied_places x y h =
-    let ends = tied_ends (bool_cmp x.is_virtual y.is_virtual) (path_cmp x.text y.text) (slice_cmp nat_cmp x.text y.text) h in
+    let ends = tied_ends (bool_cmp x.is_virtual y.is_virtual) (slice_cmp (slice_cmp nat_cmp) (real_parts x) (real_parts y))
+    (slice_cmp nat_cmp x.text y.text) h in
     same_parts x y (tied_bools x.is_virtual y.is_virtual ends.0) ((bytes_decides x.text y.text).0 (texts_ties x.text y.text ∙ ends.1))
 
 -- places tie exactly where they are equal

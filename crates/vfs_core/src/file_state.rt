@@ -1,9 +1,13 @@
 //! What is known of one file.
 
-ghost use Rattle.std.specs.Prelude.{◌≡◌};
+ghost use Rattle.std.specs.Prelude.{◌≡◌, Some};
 ghost use Rattle.std.specs.Option.{option_map};
+ghost use Rattle.vfs_core.specs.FileState.{change_made, state_after, state_left};
+ghost use Rattle.vfs_core.specs.declared.file_state.FileState.TheVariants.{Exists};
 
+use crate::changed_file::Change;
 use crate::hash::content_hash;
+use base_text::Items;
 
 /// The state of a file. Contents are known by their hash alone.
 #[derive(Clone, Copy, Debug, PartialEq, Eq)]
@@ -17,16 +21,22 @@ pub enum FileState {
 }
 
 impl FileState {
-    ghost use Rattle.vfs_core.specs.FileState.{is_existing, shown, state_after};
+    ghost use Rattle.vfs_core.specs.FileState.{change_made, is_existing, shown, state_after, state_left};
 
-    /// The state after these contents come, or a deletion where there are none.
-    pub(crate) fn after(self, contents: Option<Vec<u8>>) -> FileState
-        ensures { result ≡ state_after self (option_map (λ v. v.items) contents) }
+    /// The change that these contents make of the file, or a deletion where there are none.
+    pub(crate) fn change(self, contents: Option<Vec<u8>>) -> Option<Change>
+        ensures change { result ≡ change_made self (option_map (λ v. v.items) contents) }
+        ensures state { state_left self result ≡ state_after self (option_map (λ v. v.items) contents) }
     {
         match (self, contents) {
-            (FileState::Excluded, _) => FileState::Excluded,
-            (_, None) => FileState::Deleted,
-            (_, Some(bytes)) => FileState::Exists(content_hash(bytes.as_slice())),
+            (FileState::Excluded, _) => None,
+            (FileState::Deleted, None) => None,
+            (FileState::Deleted, Some(bytes)) => {
+                let hash = content_hash(bytes.as_slice());
+                Some(Change::Create(Items::new(bytes), hash))
+            }
+            (FileState::Exists(_), None) => Some(Change::Delete),
+            (FileState::Exists(before), Some(bytes)) => modification(before, bytes),
         }
     }
 
@@ -45,6 +55,19 @@ impl FileState {
         ensures { result ≡ is_existing self.now }
     {
         matches!(self, FileState::Exists(_))
+    }
+}
+
+/// The change from contents of a hash to others. Contents of equal hash are none.
+fn modification(before: u64, bytes: Vec<u8>) -> Option<Change>
+    ensures change { result ≡ change_made (Exists before) (Some bytes.items) }
+    ensures state { state_left (Exists before) result ≡ state_after (Exists before) (Some bytes.items) }
+{
+    let hash = content_hash(bytes.as_slice());
+    if hash == before {
+        None
+    } else {
+        Some(Change::Modify(Items::new(bytes), hash))
     }
 }
 

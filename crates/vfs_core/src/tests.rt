@@ -1,8 +1,13 @@
 //! What no clause says: outside values of the hash, and that each call succeeds where memory is ample.
 
+mod paths;
+
 use crate::marks::{follow_marks, live_text};
-use crate::{FileExcluded, FileId, Mark, MarkKind, Vfs, VfsError, VfsPath, content_hash};
-use base_text::{AbsPathBuf, Text, TryClone};
+use crate::{
+    Change, ChangeKind, ChangedFile, FileExcluded, FileId, Mark, MarkKind, Vfs, VfsError, VfsPath,
+    content_hash,
+};
+use base_text::{Items, Text, TryClone};
 use std::alloc::{AllocError, Global};
 use std::process::Abort;
 use std::test::Fail;
@@ -25,7 +30,7 @@ fn text(alloc: Global, text: &str) -> Result<MarkKind, AllocError> {
     Ok(MarkKind::Text(text))
 }
 
-fn real(rt: &impl Abort, alloc: Global, path: &str) -> VfsPath {
+pub(crate) fn real(rt: &impl Abort, alloc: Global, path: &str) -> VfsPath {
     VfsPath::new_real_path(alloc, path).expect(rt, "an absolute path")
 }
 
@@ -100,90 +105,96 @@ fn a_path_keeps_its_number_through_all_changes(rt: HostRuntime) -> Result<(), Fa
 }
 
 #[test]
-fn a_real_path_is_normal(rt: HostRuntime) {
+fn a_batch_holds_one_change_for_each_file(rt: HostRuntime) -> Result<(), Fail> {
     let alloc = rt.alloc();
-    for (path, normal) in [
-        ("/a/../b", "/b"),
-        ("//a/./b/", "/a/b"),
-        ("/..", "/"),
-        ("/", "/"),
-    ] {
-        let path = real(&rt, alloc, path);
-        assert_eq!(rt; path.as_str(), normal);
-        assert_eq!(rt; path.as_path().map(|path| path.as_str()), Some(normal));
-    }
-    assert!(rt; VfsPath::new_real_path(alloc, "a").is_err());
-}
-
-#[test]
-fn an_absolute_path_is_normalized(rt: HostRuntime) -> Result<(), Fail> {
-    let alloc = rt.alloc();
-    let path = AbsPathBuf::new(alloc, "/a/../b").expect(&rt, "an absolute path");
-    let made = VfsPath::from_abs(alloc, path)?;
-    assert_eq!(rt; made.as_str(), "/b");
-    assert!(rt; copied(alloc, &made)? == made);
-    assert!(rt; made.into_abs_path().is_some());
-    Ok(())
-}
-
-#[test]
-fn paths_begin_with_whole_components(rt: HostRuntime) {
-    let alloc = rt.alloc();
-    for (path, front, rest) in [("/a/b", "/a", Some("b")), ("/ab", "/a", None)] {
-        let (path, front) = (real(&rt, alloc, path), real(&rt, alloc, front));
-        assert_eq!(rt; path.starts_with(&front), rest.is_some());
-        assert_eq!(rt; path.strip_prefix(&front).map(|rest| rest.as_str()), rest);
-    }
-}
-
-#[test]
-fn names_are_cut_at_the_last_dot(rt: HostRuntime) {
-    let alloc = rt.alloc();
-    let rows = [
-        ("/a/x.tar.gz", Some(("x.tar", Some("gz")))),
-        ("/.git", Some((".git", None))),
-        ("/", None),
+    let mut vfs = Vfs::new(alloc, 10);
+    let steps: [(&str, Option<&[u8]>); 4] = [
+        ("/n.rs", Some(b"a")),
+        ("/m.rs", Some(b"m")),
+        ("/n.rs", None),
+        ("/n.rs", Some(b"b")),
     ];
-    for (path, name) in rows {
-        assert_eq!(rt; real(&rt, alloc, path).name_and_extension(), name);
+    for (path, contents) in steps {
+        let contents = match contents {
+            None => None,
+            Some(bytes) => Some(bytes.to_vec(alloc)?),
+        };
+        let changed = vfs.set_file_contents(real(&rt, alloc, path), contents);
+        assert_eq!(rt; changed, Ok(true), "at {path}");
     }
-}
-
-#[test]
-fn a_parent_lacks_the_last_component(rt: HostRuntime) -> Result<(), Fail> {
-    let alloc = rt.alloc();
-    for (path, above) in [("/a/b", "/a"), ("/a", "/")] {
-        let mut path = real(&rt, alloc, path);
-        let above = real(&rt, alloc, above);
-        assert!(rt; path.parent(alloc)?.as_ref() == Some(&above));
-        assert!(rt; path.pop() && path == above);
+    let mut kinds = Vec::new(alloc);
+    for (id, changed) in vfs.take_changes().iter() {
+        kinds.push((*id, changed.kind()))?;
     }
-    let mut root = real(&rt, alloc, "/");
-    assert!(rt; root.parent(alloc)?.is_none() && !root.pop());
+    let expected = [
+        (FileId::from_raw(0), ChangeKind::Modify),
+        (FileId::from_raw(1), ChangeKind::Create),
+    ];
+    assert_eq!(rt; kinds.as_slice(), expected.as_slice());
+    assert!(rt; vfs.take_changes().is_empty());
     Ok(())
 }
 
 #[test]
-fn a_join_is_normal(rt: HostRuntime) -> Result<(), Fail> {
+fn a_change_holds_the_last_contents(rt: HostRuntime) -> Result<(), Fail> {
     let alloc = rt.alloc();
-    for (tail, joined) in [("../c", "/c"), ("/c", "/c"), ("b/./d", "/a/b/d")] {
-        let made = real(&rt, alloc, "/a").join(alloc, tail)?;
-        assert!(rt; made == Some(real(&rt, alloc, joined)), "at {tail}");
+    let mut vfs = Vfs::new(alloc, 10);
+    for contents in [b"a", b"b"] {
+        let contents = contents.to_vec(alloc)?;
+        let changed = vfs.set_file_contents(real(&rt, alloc, "/a"), Some(contents));
+        assert_eq!(rt; changed, Ok(true));
     }
+    let expected = Change::Create(Items::new(b"b".to_vec(alloc)?), content_hash(b"b"));
+    let mut held = false;
+    for (_, changed) in vfs.take_changes().iter() {
+        assert!(rt; changed.change == expected);
+        held = true;
+    }
+    assert!(rt; held);
     Ok(())
 }
 
 #[test]
-fn a_slash_sorts_before_all_other_bytes(rt: HostRuntime) {
+fn an_excluded_file_stays_out(rt: HostRuntime) -> Result<(), Fail> {
     let alloc = rt.alloc();
-    let (nested, dashed) = (real(&rt, alloc, "/a/b"), real(&rt, alloc, "/a-b"));
-    assert!(rt; comes_first(&nested, &dashed) && !comes_first(&dashed, &nested));
+    let mut vfs = Vfs::new(alloc, 1);
+    let contents = b"a".to_vec(alloc)?;
+    assert_eq!(rt;
+        vfs.set_file_contents(real(&rt, alloc, "/a"), Some(contents)),
+        Ok(true)
+    );
+    assert_eq!(rt; vfs.insert_excluded_file(real(&rt, alloc, "/a")), Ok(()));
+    assert_eq!(rt;
+        vfs.insert_excluded_file(real(&rt, alloc, "/b")),
+        Err(VfsError::TooMany)
+    );
+    let contents = b"b".to_vec(alloc)?;
+    assert_eq!(rt;
+        vfs.set_file_contents(real(&rt, alloc, "/a"), Some(contents)),
+        Ok(false)
+    );
+    let out = Some((FileId::from_raw(0), FileExcluded::Yes));
+    assert_eq!(rt; vfs.file_id(&real(&rt, alloc, "/a")), out);
+    assert!(rt; vfs.iter().next().is_none());
+    assert_eq!(rt; vfs.take_changes().len(), 1);
+    Ok(())
 }
 
-fn comes_first<T: Ord>(value: &T, other: &T) -> bool {
-    value < other
-}
-
-fn copied<T: TryClone>(alloc: Global, value: &T) -> Result<T, AllocError> {
-    value.try_clone(alloc)
+#[test]
+fn a_changed_file_tells_its_kind(rt: HostRuntime) -> Result<(), Fail> {
+    let alloc = rt.alloc();
+    let file_id = FileId::from_raw(0);
+    let created = ChangedFile {
+        file_id,
+        change: Change::Create(Items::empty(alloc), 0),
+    };
+    assert!(rt; created.is_created() && created.is_created_or_deleted() && created.exists());
+    let deleted = ChangedFile {
+        file_id,
+        change: Change::Delete,
+    };
+    assert!(rt; deleted.is_created_or_deleted() && !deleted.exists() && !deleted.is_modified());
+    let copy = created.try_clone(alloc)?;
+    assert!(rt; copy.change == created.change && copy.kind() == ChangeKind::Create);
+    Ok(())
 }

@@ -1,21 +1,27 @@
 //! The file system: each path has a number for good, and a state. The limit bounds how many paths may come.
 
-ghost use Rattle.std.specs.Prelude.{◌≡◌, ◌≤◌, ◌<◌, ◌↔◌, [], IfOk, IfSome, IsTrue, OnErr, OnOk, Some, length};
+ghost use Rattle.std.specs.Prelude.{◌≡◌, ◌≤◌, ◌<◌, ◌↔◌, [], IfErr, IfOk, IfSome, IsTrue, OnErr, OnOk, Some, length};
 ghost use Rattle.std.specs.Map.Iter.{ShowsInOrder};
 ghost use Rattle.std.specs.Result.{IsErrOf};
-ghost use Rattle.vfs_core.specs.Files.{bytes_of, changes, existing, existing_at, looked_up, number_of, numbered_path, place_at, places, set_contents};
-ghost use Rattle.vfs_core.specs.Files.{Follows, IsFullFor, KeepsMarks, KeepsNumbers, ListsLive, SetsState, TakesMark};
+ghost use Rattle.indexmap.specs.IndexMap.{spare};
+ghost use Rattle.vfs_core.specs.Batch.{noted};
+ghost use Rattle.vfs_core.specs.Files.{bytes_of, changes, existing, existing_at, looked_up, no_files, number_for, number_of};
+ghost use Rattle.vfs_core.specs.Files.{numbered_path, place_at, places, set_contents, state_at, with_state};
+ghost use Rattle.vfs_core.specs.Files.{Excludes, Follows, Gathers, GivesBatch, HasRoomFor, IsFullFor, KeepsCalls, KeepsMarks};
+ghost use Rattle.vfs_core.specs.Files.{KeepsNumbers, ListsLive, SetsState, TakesCall, TakesMark};
+ghost use Rattle.vfs_core.specs.declared.file_state.FileState.TheVariants.{Excluded};
 ghost use Rattle.vfs_core.specs.Marks.{with_place};
 
+use crate::changed_file::{Change, ChangedFile};
 use crate::file_state::{FileExcluded, FileState};
 use crate::vfs_iter::VfsIter;
 use crate::vfs_path::VfsPath;
 use base_text::FileId;
 use indexmap::IndexMap;
-use std::alloc::{AllocFailed, Global};
+use std::alloc::{AllocError, AllocFailed, Global};
 use std::error::Error;
-use std::fmt;
 use std::marker::Model;
+use std::{fmt, mem};
 
 /// Why a path was not taken.
 #[derive(Debug, Drop, PartialEq, Eq)]
@@ -23,6 +29,17 @@ pub enum VfsError {
     /// The path is new, and the limit is reached.
     TooMany,
     OutOfMemory,
+}
+
+impl From<AllocError> for VfsError {
+    ghost use Rattle.std.specs.Prelude.{◌≡◌};
+    ghost use Rattle.vfs_core.specs.declared.vfs.VfsError.TheVariants.{OutOfMemory};
+
+    ghost from_gives = { λ _ e. e ≡ OutOfMemory };
+
+    fn from(_error: AllocError) -> Self {
+        VfsError::OutOfMemory
+    }
 }
 
 impl<T: Drop> From<AllocFailed<T>> for VfsError {
@@ -52,11 +69,13 @@ impl fmt::Display for VfsError {
 
 impl Error for VfsError {}
 
-/// The paths that were mentioned, in order, each with its state.
+/// The paths that were mentioned, in order, each with its state, and what has changed since that was last taken.
 #[derive(Drop)]
 pub struct Vfs {
+    alloc: Global,
     limit: u32,
     entries: IndexMap<VfsPath, FileState>,
+    batch: IndexMap<FileId, ChangedFile>,
 }
 
 impl Model for Vfs {
@@ -64,22 +83,25 @@ impl Model for Vfs {
 
     ghost Value = { Files };
 
-    ghost view = { λ a. record { limit = a.limit; entries = a.entries.entries } };
+    ghost view = { λ a. record { limit = a.limit; entries = a.entries.entries; batch = a.batch.entries } };
 
     ghost invariant = { λ a. IsWellMade a.limit a.entries.entries };
 }
 
 impl Vfs {
-    #[tactic(auto, using(crate::proofs::MarkLemmas::live_text_none))]
+    #[tactic(auto, using(crate::proofs::MarkLemmas::live_text_none, crate::proofs::BatchLemmas::batch_of_none))]
     /// A file system that knows no path.
     pub fn new(alloc: Global, limit: u32) -> Self
         requires { limit ≤ 0x7fff_ffff }
-        ensures empty { result ≡ record { limit = limit; entries = [] } }
+        ensures empty { result ≡ no_files limit }
         ensures follows { Follows result [] }
+        ensures gathers { Gathers result [] }
     {
         Vfs {
+            alloc,
             limit,
             entries: IndexMap::new(alloc),
+            batch: IndexMap::new(alloc),
         }
     }
 
@@ -88,6 +110,7 @@ impl Vfs {
         requires { limit ≤ 0x7fff_ffff }
         ensures limit { self.new ≡ record self.old { limit = limit } }
         ensures follows { KeepsMarks self.old self.new }
+        ensures gathers { KeepsCalls self.old self.new }
     {
         self.limit = limit;
     }
@@ -99,23 +122,81 @@ impl Vfs {
         path: VfsPath,
         contents: Option<Vec<u8>>,
     ) -> Result<bool, VfsError>
+        // What becomes of the files.
         ensures changed { IfOk result (λ yes. yes ≡ changes self.old path (bytes_of contents)) }
         ensures files { OnOk result (self.new ≡ set_contents self.old path (bytes_of contents)) }
         ensures every_path { OnOk result (SetsState self.old self.new path (bytes_of contents)) }
         ensures paths { OnOk result (places self.new ≡ with_place path (places self.old)) }
         ensures stable { KeepsNumbers self.old self.new }
+
+        // The marks and the calls that are followed.
         ensures follows { OnOk result (TakesMark self.old self.new path (bytes_of contents)) }
+        ensures gathers { OnOk result (TakesCall self.old self.new path (bytes_of contents)) }
+
         ensures too_many { IsErrOf result VfsError.TooMany ↔ IsFullFor self.old path }
         ensures err { OnErr result (self.new ≡ self.old) }
     {
-        let old = match self.entries.get(&path) {
-            Some(state) => *state,
-            None if self.entries.len() >= self.limit as usize => return Err(VfsError::TooMany),
-            None => FileState::Deleted,
-        };
-        let new = old.after(contents);
-        self.entries.insert(path, new)?;
-        Ok(new != old)
+        let (id, old) = self.file_for(&path)?;
+        match old.change(contents) {
+            None => {
+                self.entries.insert(path, old)?;
+                Ok(false)
+            }
+            Some(change) => {
+                self.batch.reserve(1)?;
+                self.entries.insert(path, change.state())?;
+                note(&mut self.batch, id, change);
+                Ok(true)
+            }
+        }
+    }
+
+    #[tactic(auto, using(crate::proofs::FileLemmas::keys_insert_entry))]
+    /// Leaves a file out for good. A change of it that was not taken yet stays.
+    pub fn insert_excluded_file(&mut self, path: VfsPath) -> Result<(), VfsError>
+        // What becomes of the files.
+        ensures files { OnOk result (self.new ≡ with_state self.old path Excluded) }
+        ensures every_path { OnOk result (Excludes self.old self.new path) }
+        ensures paths { OnOk result (places self.new ≡ with_place path (places self.old)) }
+        ensures stable { KeepsNumbers self.old self.new }
+        ensures gathers { KeepsCalls self.old self.new }
+
+        ensures too_many { IsErrOf result VfsError.TooMany ↔ IsFullFor self.old path }
+        ensures err { OnErr result (self.new ≡ self.old) }
+    {
+        self.file_for(&path)?;
+        self.entries.insert(path, FileState::Excluded)?;
+        Ok(())
+    }
+
+    /// The number that a path has, or takes, and the state of its file.
+    fn file_for(&self, path: &VfsPath) -> Result<(FileId, FileState), VfsError>
+        ensures file { IfOk result (λ file. file ≡ (number_for self.now path.now, state_at self.now path.now)) }
+        ensures room { OnOk result (¬ (IsFullFor self.now path.now)) }
+        ensures fits { OnOk result (HasRoomFor self.now path.now) }
+        ensures full { IfErr result (λ e. e ≡ VfsError.TooMany) }
+        ensures full_only { OnErr result (IsFullFor self.now path.now) }
+    {
+        match self.entries.get_full(path) {
+            Some((index, _, state)) => Ok((FileId::from_raw(index as u32), *state)),
+            None if self.entries.len() >= self.limit as usize => Err(VfsError::TooMany),
+            None => {
+                let next = self.entries.len() as u32;
+                Ok((FileId::from_raw(next), FileState::Deleted))
+            }
+        }
+    }
+
+    /// The changes since they were last taken: one for each changed file, in order of first change.
+    pub fn take_changes(&mut self) -> IndexMap<FileId, ChangedFile>
+        ensures taken { result.entries ≡ self.old.batch }
+        ensures emptied { self.new ≡ record self.old { batch = [] } }
+        ensures batch { GivesBatch self.old result.entries }
+        ensures gathers { Gathers self.new [] }
+        ensures stable { KeepsNumbers self.old self.new }
+        ensures follows { KeepsMarks self.old self.new }
+    {
+        mem::replace(&mut self.batch, IndexMap::new(self.alloc))
     }
 
     #[tactic(auto, using(crate::proofs::NumberLemmas::path_of_number))]
@@ -163,5 +244,24 @@ impl Vfs {
         ensures runs { ShowsInOrder numbered_path }
     {
         VfsIter::new(self.entries.iter())
+    }
+}
+
+/// Puts a change into a batch that has room, in place of an earlier change of the file and with what is left of it.
+fn note(batch: &mut IndexMap<FileId, ChangedFile>, id: FileId, change: Change)
+    requires { 0 < spare batch.old }
+    ensures { batch.new.entries ≡ noted batch.old.entries id change }
+{
+    let earlier = match batch.get(&id) {
+        None => None,
+        Some(changed) => Some(changed.kind()),
+    };
+    let changed = ChangedFile {
+        file_id: id,
+        change: change.merged(earlier),
+    };
+    match batch.insert(id, changed) {
+        Ok(_) => {}
+        Err(_) => unreachable!(),
     }
 }

@@ -1,39 +1,55 @@
-//! Paths of the file system. They are real: normal and absolute. Their value has room for virtual ones.
+//! Paths of the file system: real ones, which are normal and absolute, and virtual ones, which are texts.
+//! No call takes one kind for the other.
 
-ghost use Rattle.std.specs.Prelude.{◌≡◌, ◌↔◌, IfOk, IsFalse, None, Some, codes, if◌then◌else◌};
-ghost use Rattle.std.specs.Option.{option_map};
+ghost use Rattle.std.specs.Prelude.{◌≡◌, ◌↔◌, IfOk, IsFalse, None, Some, codes, if◌then◌else◌, is_some, string_bytes, unwrap_or};
+ghost use Rattle.std.specs.Option.{option_copied, option_map};
 ghost use Rattle.std.specs.Result.{IsErrOf};
-ghost use Rattle.base_text.specs.Paths.{components, normal, path_text, without_last, IsAbsolute};
+ghost use Rattle.base_text.specs.Paths.{components, normal, path_text, IsAbsolute};
 
-use base_text::{AbsPath, AbsPathBuf, PathError, RelPath, TryClone};
+mod repr;
+mod traits;
+
+use crate::real_path::RealPath;
+use crate::rel_path::RelPath;
+use crate::vfs_path::repr::VfsPathRepr;
+use crate::virtual_path::VirtualPath;
+use base_text::{AbsPath, AbsPathBuf, PathError};
 use std::alloc::{AllocError, Global};
-use std::cmp::Ordering;
-use std::fmt;
-use std::hash::{Hash, Hasher};
 use std::marker::Model;
 
-/// A normal absolute path. Contracts see its place.
+/// A path of the file system. Contracts see its place.
 #[derive(Debug, Drop)]
 pub struct VfsPath {
-    path: AbsPathBuf,
+    repr: VfsPathRepr,
 }
 
 impl Model for VfsPath {
-    ghost use Rattle.vfs_core.specs.VfsPath.{real, IsNormal, Place};
+    ghost use Rattle.vfs_core.specs.VfsPath.{place_of, Place};
 
     ghost Value = { Place };
 
-    ghost view = { λ a. real a.path };
-
-    ghost invariant = { λ a. IsNormal a.path };
+    ghost view = { λ a. place_of a.repr };
 }
 
 impl VfsPath {
-    ghost use Rattle.base_text.specs.AbsPath.{abs_text, rel_text};
-    ghost use Rattle.vfs_core.specs.VfsPath.{begins_with, name_texts, named, parts_above, real, real_parent, rest_behind};
-    ghost use Rattle.vfs_core.specs.VfsPath.{AreReal, IsNormal, IsReal, JoinsReal};
+    ghost use Rattle.base_text.specs.AbsPath.{abs_text};
+    ghost use Rattle.vfs_core.specs.RelPath.{rest_text};
+    ghost use Rattle.vfs_core.specs.RealPath.{name_texts, named, IsNormal};
+    ghost use Rattle.vfs_core.specs.VfsPath.{begins_with, parts_above, real, real_above, rest_behind, text_above, virtual, virtual_above};
+    ghost use Rattle.vfs_core.specs.VfsPath.{AreOfTwoKinds, AreReal, AreVirtual, IsReal, IsVirtual, JoinsReal, JoinsVirtual};
+    ghost use Rattle.vfs_core.specs.VirtualPath.{popped, virtual_named, virtual_rest};
 
-    /// The path of a text, which is cleaned and normalized.
+    /// The virtual path of a text, which stays as it is.
+    pub fn new_virtual_path(path: String) -> Self
+        requires { IsAbsolute (string_bytes path) }
+        ensures { result ≡ virtual (string_bytes path) }
+    {
+        VfsPath {
+            repr: VfsPathRepr::Virtual(VirtualPath::new(path)),
+        }
+    }
+
+    /// The real path of a text, which is cleaned and normalized.
     pub fn new_real_path(alloc: Global, path: &str) -> Result<Self, PathError>
         ensures ok { IfOk result (λ made. made ≡ real (path_text (normal path.now))) }
         ensures same_components { IfOk result (λ made. components made.text ≡ normal path.now) }
@@ -44,20 +60,49 @@ impl VfsPath {
         Ok(made)
     }
 
-    /// The path of an absolute path, which is normalized.
+    /// The real path of an absolute path, which is normalized.
     pub fn from_abs(alloc: Global, path: AbsPathBuf) -> Result<Self, AllocError>
         ensures ok { IfOk result (λ made. made ≡ real (path_text (normal path))) }
         ensures same_components { IfOk result (λ made. components made.text ≡ normal path) }
     {
-        let path = path.as_path().normalize(alloc)?;
-        Ok(VfsPath { path })
+        let path = RealPath::of_abs(alloc, path)?;
+        Ok(VfsPath::of_real(path))
+    }
+
+    fn of_real(path: RealPath) -> Self
+        ensures { result ≡ real path }
+    {
+        VfsPath {
+            repr: VfsPathRepr::Real(path),
+        }
+    }
+
+    fn of_virtual(path: VirtualPath) -> Self
+        ensures { result ≡ virtual path }
+    {
+        VfsPath {
+            repr: VfsPathRepr::Virtual(path),
+        }
+    }
+
+    /// Whether the path is virtual.
+    pub fn is_virtual(&self) -> bool
+        ensures { result ≡ self.now.is_virtual }
+    {
+        match &self.repr {
+            VfsPathRepr::Real(_) => false,
+            VfsPathRepr::Virtual(_) => true,
+        }
     }
 
     /// The path itself, where it is real.
     pub fn as_path(&self) -> Option<AbsPath<'_>>
         ensures { option_map abs_text result ≡ (if self.now.is_virtual then None else Some self.now.text) }
     {
-        Some(self.path.as_path())
+        match &self.repr {
+            VfsPathRepr::Real(path) => Some(path.as_path()),
+            VfsPathRepr::Virtual(_) => None,
+        }
     }
 
     /// The text held.
@@ -65,153 +110,122 @@ impl VfsPath {
         ensures text { result.now ≡ self.now.text }
         ensures normal { IsReal self.now → IsNormal result.now }
     {
-        self.path.as_str()
+        match &self.repr {
+            VfsPathRepr::Real(path) => path.as_str(),
+            VfsPathRepr::Virtual(path) => path.as_str(),
+        }
     }
 
     /// The path itself, where it is real.
     pub fn into_abs_path(self) -> Option<AbsPathBuf>
         ensures { result ≡ (if self.is_virtual then None else Some self.text) }
     {
-        Some(self.path)
+        match self.repr {
+            VfsPathRepr::Real(path) => Some(path.into_abs_path()),
+            VfsPathRepr::Virtual(_) => None,
+        }
     }
 
-    /// The path with a tail behind it, normalized. An absolute tail stands alone.
-    /// A real path always has one.
+    /// The path with a tail behind it.
+    /// A real path always has one: it is normalized, and an absolute tail stands alone.
     pub fn join(&self, alloc: Global, path: &str) -> Result<Option<VfsPath>, AllocError>
         ensures real { IfOk result (JoinsReal self.now path.now) }
+        ensures virtual_path { IfOk result (JoinsVirtual self.now path.now) }
     {
-        let path = self.path.as_path().absolutize(alloc, path)?;
-        Ok(Some(VfsPath { path }))
-    }
-
-    /// Drops the last component. Answers whether there was one.
-    pub fn pop(&mut self) -> bool
-        ensures path { IsReal self.old → self.new ≡ real (path_text (parts_above self.old)) }
-        ensures components { IsReal self.old → components self.new.text ≡ parts_above self.old }
-        ensures at_root { IsReal self.old → IsFalse result ↔ (self.old.text ≡ codes "/") }
-    {
-        self.path.pop()
-    }
-
-    /// The path without its last component.
-    pub fn parent(&self, alloc: Global) -> Result<Option<VfsPath>, AllocError>
-        ensures real { IsReal self.now → IfOk result (λ above. above ≡ real_parent self.now) }
-    {
-        match self.path.as_path().parent() {
-            None => Ok(None),
-            Some(above) => {
-                let path = above.to_path_buf(alloc)?;
-                Ok(Some(VfsPath { path }))
+        match &self.repr {
+            VfsPathRepr::Real(base) => {
+                let path = base.join(alloc, path)?;
+                Ok(Some(VfsPath::of_real(path)))
+            }
+            VfsPathRepr::Virtual(base) => {
+                let path = base.join(alloc, path)?;
+                Ok(path.map(VfsPath::of_virtual))
             }
         }
     }
 
-    /// Whether the first components are those of `other`.
+    /// Drops the last component of a real path, or what stands behind the last slash of a virtual one.
+    /// Answers whether there was one.
+    pub fn pop(&mut self) -> bool
+        ensures path { IsReal self.old → self.new ≡ real (path_text (parts_above self.old)) }
+        ensures components { IsReal self.old → components self.new.text ≡ parts_above self.old }
+        ensures at_root { IsReal self.old → IsFalse result ↔ (self.old.text ≡ codes "/") }
+        ensures virtual_path { IsVirtual self.old → self.new ≡ virtual (unwrap_or (popped self.old.text) self.old.text) }
+        ensures cut { IsVirtual self.old → result ≡ is_some (popped self.old.text) }
+    {
+        match &mut self.repr {
+            VfsPathRepr::Real(path) => path.pop(),
+            VfsPathRepr::Virtual(path) => path.pop(),
+        }
+    }
+
+    /// What `pop` leaves, where it drops something.
+    pub fn parent(&self, alloc: Global) -> Result<Option<VfsPath>, AllocError>
+        ensures real { IsReal self.now → IfOk result (λ above. above ≡ real_above self.now) }
+        ensures virtual_path { IsVirtual self.now → IfOk result (λ above. above ≡ virtual_above self.now) }
+    {
+        match &self.repr {
+            VfsPathRepr::Real(path) => {
+                let above = path.parent(alloc)?;
+                Ok(above.map(VfsPath::of_real))
+            }
+            VfsPathRepr::Virtual(path) => {
+                let above = path.parent(alloc)?;
+                Ok(above.map(VfsPath::of_virtual))
+            }
+        }
+    }
+
+    /// The text of the path above, for which no memory is taken.
+    pub fn parent_text(&self) -> Option<&str>
+        ensures { option_copied result ≡ text_above self.now }
+    {
+        match &self.repr {
+            VfsPathRepr::Real(path) => path.parent_text(),
+            VfsPathRepr::Virtual(path) => path.parent_text(),
+        }
+    }
+
+    /// Whether `other` is of one kind with the path, and the first components are those of `other`.
     pub fn starts_with(&self, other: &VfsPath) -> bool
-        ensures { AreReal self.now other.now → result ≡ begins_with self.now other.now }
+        ensures { result ≡ begins_with self.now other.now }
     {
-        self.path.as_path().starts_with(other.path.as_path())
+        match (&self.repr, &other.repr) {
+            (VfsPathRepr::Real(path), VfsPathRepr::Real(front)) => path.starts_with(front),
+            (VfsPathRepr::Virtual(path), VfsPathRepr::Virtual(front)) => path.starts_with(front),
+            _ => false,
+        }
     }
 
-    /// What is left behind the components of `other`, where they come first.
+    /// What is left behind the components of `other`, where it is of one kind with the path, and they come first.
     pub fn strip_prefix(&self, other: &VfsPath) -> Option<RelPath<'_>>
-        ensures { AreReal self.now other.now → option_map rel_text result ≡ rest_behind self.now other.now }
+        ensures real { AreReal self.now other.now → option_map rest_text result ≡ rest_behind self.now other.now }
+        ensures virtual_path { AreVirtual self.now other.now
+            → option_map rest_text result ≡ virtual_rest other.now.text self.now.text }
+        ensures of_two_kinds { AreOfTwoKinds self.now other.now → result ≡ None }
     {
-        self.path.as_path().strip_prefix(other.path.as_path())
+        match (&self.repr, &other.repr) {
+            (VfsPathRepr::Real(path), VfsPathRepr::Real(front)) => {
+                let rest = path.strip_prefix(front)?;
+                Some(RelPath::new(rest.as_str()))
+            }
+            (VfsPathRepr::Virtual(path), VfsPathRepr::Virtual(front)) => {
+                let rest = path.strip_prefix(front)?;
+                Some(RelPath::new(rest))
+            }
+            _ => None,
+        }
     }
 
-    /// The last component as a stem and an extension. A dot that comes first begins no extension.
+    /// The last name as a stem and an extension. A dot that comes first begins no extension.
+    /// In a virtual path one slash at the end plays no part, and an empty name is none.
     pub fn name_and_extension(&self) -> Option<(&str, Option<&str>)>
-        ensures { IsReal self.now → option_map name_texts result ≡ named self.now }
+        ensures real { IsReal self.now → option_map name_texts result ≡ named self.now.text }
+        ensures virtual_path { IsVirtual self.now → option_map name_texts result ≡ virtual_named self.now.text }
     {
-        let path = self.path.as_path();
-        let stem = path.file_stem()?;
-        Some((stem, path.extension()))
-    }
-}
-
-impl TryClone for VfsPath {
-    fn try_clone(&self, alloc: Global) -> Result<Self, AllocError> {
-        let path = self.path.try_clone(alloc)?;
-        Ok(VfsPath { path })
-    }
-}
-
-impl PartialEq for VfsPath {
-    ghost use Rattle.std.proofs.Common.{rules};
-    ghost use Rattle.std.specs.Cmp.Rules.{comparing};
-    ghost use Rattle.vfs_core.specs.VfsPath.{place_eq};
-
-    ghost eq = { place_eq };
-
-    ghost laws = { Prim.search (comparing, rules) };
-
-    fn eq(&self, other: &Self) -> bool {
-        self.path.as_str() == other.path.as_str()
-    }
-}
-
-impl Eq for VfsPath {
-    ghost use Rattle.std.proofs.Common.{rules};
-    ghost use Rattle.std.specs.Cmp.Rules.{comparing};
-
-    ghost laws = { Prim.search (comparing, rules) };
-}
-
-impl PartialOrd for VfsPath {
-    ghost use Rattle.std.specs.Ordering.{as_partial_cmp};
-    ghost use Rattle.vfs_core.specs.VfsPath.{place_cmp};
-    ghost use Rattle.vfs_core.specs.PlaceOrder.{place_po};
-
-    ghost partial_cmp = { as_partial_cmp place_cmp };
-
-    ghost laws = { place_po };
-
-    fn partial_cmp(&self, other: &Self) -> Option<Ordering> {
-        Some(self.cmp(other))
-    }
-}
-
-impl Ord for VfsPath {
-    ghost use Rattle.std.specs.Prelude.{refl};
-    ghost use Rattle.vfs_core.specs.VfsPath.{place_cmp};
-    ghost use Rattle.vfs_core.specs.PlaceOrder.{place_cmp_total, place_ties};
-
-    ghost cmp = { place_cmp };
-
-    ghost total = { place_cmp_total };
-
-    ghost matches_partial_cmp = { λ x y. refl };
-
-    ghost matches_eq = { place_ties };
-
-    fn cmp(&self, other: &Self) -> Ordering {
-        self.path.cmp(&other.path)
-    }
-}
-
-impl Hash for VfsPath {
-    ghost use Rattle.std.specs.Prelude.{◌++◌};
-    ghost use Rattle.std.specs.Hash as fed;
-    ghost use Rattle.std.specs.Cmp.Rules.{hashing};
-    ghost use Rattle.std.proofs.Common.{rules};
-
-    ghost hash_input = { λ p. fed.bool p.is_virtual ++ fed.str p.text };
-
-    ghost respects_eq = { Prim.search (hashing, rules) };
-
-    fn hash<H: Hasher>(&self, state: &mut H) {
-        false.hash(state);
-        self.path.as_str().hash(state);
-    }
-}
-
-impl fmt::Display for VfsPath {
-    ghost use Rattle.std.specs.Prelude.{Some};
-
-    ghost output = { λ path. Some path.text };
-
-    fn fmt<W: fmt::Write>(&self, f: &mut fmt::Formatter<W>) -> fmt::Result {
-        f.pad(self.as_str())
+        match &self.repr {
+            VfsPathRepr::Real(path) => path.name_and_extension(),
+            VfsPathRepr::Virtual(path) => path.name_and_extension(),
+        }
     }
 }

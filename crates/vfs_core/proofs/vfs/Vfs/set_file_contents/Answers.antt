@@ -1,14 +1,29 @@
-use Rattle.std.proofs.Common.{◌≡◌, ℕ, List, rules, arith}
+use Rattle.std.proofs.Common.{arith}
 use Rattle.std.proofs.lemmas.Grind.{common_steps}
-use Rattle.vfs_core.specs.Files.{Follows, KeepsNumbers, bytes_of}
+use Rattle.vfs_core.specs.Files.{bytes_of, call_made}
+use Rattle.vfs_core.proofs.BatchLemmas.{IsBatch_called}
 use Rattle.vfs_core.proofs.FileLemmas.{Follows_mark, KeepsNumbers_with, keys_insert_entry}
 use Rattle.vfs_core.proofs.vfs.Vfs.set_file_contents.Goals as goal
 
-pub returns-clause-stable : goal.returns-clause-stable
-returns-clause-stable c =
+pub returns-in_ok-insert-in-None-clause-stable : goal.returns-in_ok-insert-in-None-clause-stable
+returns-in_ok-insert-in-None-clause-stable c =
     KeepsNumbers_with _ _ c.args.path (grind (arith, common_steps, keys_insert_entry))
 
-pub returns-clause-follows : goal.returns-clause-follows
-returns-clause-follows c = λ marks before.
+pub returns-in_ok-insert-in-None-clause-follows : goal.returns-in_ok-insert-in-None-clause-follows
+returns-in_ok-insert-in-None-clause-follows c = λ marks before.
     Follows_mark _ _ c.args.path (bytes_of c.args.contents) marks
     (grind (arith, common_steps, keys_insert_entry)) (λ place. grind (arith, common_steps)) before
+
+pub returns-in_ok-insert-in-Some-clause-stable : goal.returns-in_ok-insert-in-Some-clause-stable
+returns-in_ok-insert-in-Some-clause-stable c =
+    KeepsNumbers_with _ _ c.args.path (grind (arith, common_steps, keys_insert_entry))
+
+pub returns-in_ok-insert-in-Some-clause-follows : goal.returns-in_ok-insert-in-Some-clause-follows
+returns-in_ok-insert-in-Some-clause-follows c = λ marks before.
+    Follows_mark _ _ c.args.path (bytes_of c.args.contents) marks
+    (grind (arith, common_steps, keys_insert_entry)) (λ place. grind (arith, common_steps)) before
+
+pub returns-in_ok-insert-in-Some-clause-gathers : goal.returns-in_ok-insert-in-Some-clause-gathers
+returns-in_ok-insert-in-Some-clause-gathers c = λ calls before.
+    IsBatch_called c.args.self.now.batch _ (call_made c.args.self.now c.args.path (bytes_of c.args.contents))
+    (grind (arith, common_steps)) calls before
