@@ -47,9 +47,9 @@ pub fn equality_tells_crates<Id: PartialEq>()
 
 /// Where new numbers are equal just as the old ones are, so are the dependencies that name them.
 pub fn renaming_keeps_dependencies<A: PartialEq, B: PartialEq>()
-    ensures { (f : A → B) → KeepsEquality A.eq B.eq f
+    ensures { (names : A → B) → KeepsEquality A.eq B.eq names
         → KeepsEquality ⟦<Dependency<A> as PartialEq>⟧.eq ⟦<Dependency<B> as PartialEq>⟧.eq
-        (renamed_dependency f) }
+        (renamed_dependency names) }
 {}
 
 /// Where new numbers are equal just as the old ones are, so are the crates that name them.
