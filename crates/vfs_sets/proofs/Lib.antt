@@ -1,0 +1,5 @@
+pub mod BesideLemmas
+pub mod CopyLemmas
+pub mod PartitionLemmas
+pub mod PlaceLemmas
+pub mod RootLemmas

@@ -1,0 +1,4 @@
+pub mod FileSet
+pub mod Partition
+pub mod Place
+pub mod Roots
