@@ -102,7 +102,7 @@ found-split file other call first rest false true f o more =
 found-split file other call first rest false false f o more = rw o more
 
 -- the call that a batch holds for a file after an insertion
-found_insert_entry : (batch : List (ℕ × ChangedFile)) (file other : ℕ) (call : ChangedFile)
+pub found_insert_entry : (batch : List (ℕ × ChangedFile)) (file other : ℕ) (call : ChangedFile)
     → lookup (nat_eq other) (insert_entry nat_eq batch file call) ≡ (if nat_eq other file then Some call else lookup (nat_eq other) batch)
 found_insert_entry [] file other call = refl
 found_insert_entry (entry ∷ batch) file other call =

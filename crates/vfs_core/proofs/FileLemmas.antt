@@ -7,15 +7,17 @@ use Rattle.std.proofs.lemmas.Bool.Decides.{nat_tests}
 use Rattle.std.proofs.lemmas.List.Folds.{prefix_len-append}
 use Rattle.indexmap.specs.IndexMap.{insert_entry}
 use Rattle.vfs_core.specs.declared.file_state.FileState.{FileState}
-use Rattle.vfs_core.specs.declared.file_state.FileState.TheVariants.{Exists, Deleted}
+use Rattle.vfs_core.specs.declared.file_state.FileState.TheVariants.{Exists, Deleted, Excluded}
 use Rattle.vfs_core.specs.declared.marks.Mark.{Mark}
+use Rattle.vfs_core.specs.declared.marks.MarkKind.{MarkKind}
+use Rattle.vfs_core.specs.declared.marks.MarkKind.TheVariants.{Text, Gone, Out}
 use Rattle.vfs_core.specs.FileState.{state_after, state_of}
-use Rattle.vfs_core.specs.Files.{Files, Follows, KeepsNumbers, found, kind_of, places, state_at}
+use Rattle.vfs_core.specs.Files.{Files, Follows, KeepsNumbers, found, kind_of, places, state_at, state_told}
 use Rattle.vfs_core.specs.Hash.{content_hash}
-use Rattle.vfs_core.specs.Marks.{kept_next, live_text, merged, same_hash, with_place}
+use Rattle.vfs_core.specs.Marks.{is_out, kept_next, kept_text, leaves_out, merged, same_hash, with_place}
 use Rattle.vfs_core.specs.PlaceOrder.{place_eq-same, place_equiv}
 use Rattle.vfs_core.specs.VfsPath.{Place, place_eq}
-use Rattle.vfs_core.proofs.MarkLemmas.{live_text_mark}
+use Rattle.vfs_core.proofs.MarkLemmas.{is_out_mark, kept_text_mark}
 
 -- one more path: the same with both tests known
 with_place-cons : (place first : Place) (rest : List Place) (is_first is_later : Bool)
@@ -62,20 +64,71 @@ state_after-kept None (Some before) = refl
 state_after-kept (Some text) None = refl
 state_after-kept (Some text) (Some before) = ap Exists (sym (merged-hash text (Some before)))
 
+-- the state that one more thing that is said makes of a file
+abbrev state_next : MarkKind → FileState → FileState
+state_next (Text text) before = state_after before (Some text)
+state_next Gone before = state_after before None
+state_next Out before = Excluded
+
+-- contents that come are said of a file
+state_next-contents : (contents : Option (List ℕ)) (before : FileState)
+    → state_next (kind_of contents) before ≡ state_after before contents
+state_next-contents None before = refl
+state_next-contents (Some text) before = refl
+
+-- the state that is told after one more thing that is said
+told-next : (kind : MarkKind) (was_out : Bool) (before : Option (List ℕ))
+    → cond (leaves_out kind || was_out) Excluded (state_of (kept_next kind before))
+    ≡ state_next kind (cond was_out Excluded (state_of before))
+told-next Out was_out before = refl
+told-next Gone true before = refl
+told-next Gone false before = sym (state_after-kept None before)
+told-next (Text text) true before = refl
+told-next (Text text) false before = sym (state_after-kept (Some text) before)
+
+-- the same by whether the mark is of the place
+told-split : (kind : MarkKind) (was_out : Bool) (before : Option (List ℕ)) (is_own : Bool)
+    → cond (cond is_own (leaves_out kind || was_out) was_out) Excluded (state_of (cond is_own (kept_next kind before) before))
+    ≡ cond is_own (state_next kind (cond was_out Excluded (state_of before))) (cond was_out Excluded (state_of before))
+told-split kind was_out before true = told-next kind was_out before
+told-split kind was_out before false = refl
+
+-- a mark of another place leaves the state that is told, one of its own what it says
+state_told-mark : (mark : Mark) (marks : List Mark) (place : Place)
+    → state_told (mark ∷ marks) place
+    ≡ cond (place_eq place mark.path) (state_next mark.kind (state_told marks place)) (state_told marks place)
+state_told-mark mark marks place =
+    rw (is_out_mark, kept_text_mark)
+    (told-split mark.kind (is_out marks place) (kept_text marks place) (place_eq place mark.path))
+
 -- the state of a place after a mark: the same by whether the mark is of the place
-state-split : (old new : Files) (path place : Place) (contents : Option (List ℕ))
-    (before : Option (List ℕ)) (is_own : Bool) → place_eq path place ≡ is_own
-    → state_at old place ≡ state_of before
-    → found new place ≡ (if is_own then Some (state_after (state_at old path) contents) else found old place)
-    → state_at new place ≡ state_of (cond is_own (kept_next (kind_of contents) before) before)
-state-split old new path place contents before true own states finds =
+state-split : (old new : Files) (path place : Place) (kind : MarkKind) (state told : FileState) (is_own : Bool)
+    → place_eq path place ≡ is_own → state_at old place ≡ told
+    → state ≡ state_next kind (state_at old path)
+    → found new place ≡ (if is_own then Some state else found old place)
+    → state_at new place ≡ cond is_own (state_next kind told) told
+state-split old new path place kind state told true own states is finds =
     let one : path ≡ place = place_eq-same path place own in
     ap (λ (s : Option FileState). unwrap_or s Deleted) finds
-    ∙ ap (λ p. state_after (state_at old p) contents) one
-    ∙ ap (λ s. state_after s contents) states
-    ∙ state_after-kept contents before
-state-split old new path place contents before false own states finds =
+    ∙ is ∙ ap (λ p. state_next kind (state_at old p)) one
+    ∙ ap (state_next kind) states
+state-split old new path place kind state told false own states is finds =
     ap (λ (s : Option FileState). unwrap_or s Deleted) finds ∙ states
+
+-- what is said of a path, and makes its state, is one more mark
+Follows-said : (old new : Files) (path : Place) (kind : MarkKind) (state : FileState) (marks : List Mark)
+    → state ≡ state_next kind (state_at old path)
+    → places new ≡ with_place path (places old)
+    → ((place : Place) → found new place ≡ (if place_eq path place then Some state else found old place))
+    → Follows old marks
+    → Follows new (record { path = path; kind = kind } ∷ marks)
+Follows-said old new path kind state marks is numbers finds before = record {
+  numbers = numbers ∙ ap (with_place path) before.numbers;
+  states = λ place.
+      rw (state_told-mark, place_equiv.symm place path)
+      (state-split old new path place kind state (state_told marks place) (place_eq path place) refl
+      (before.states place) is (finds place));
+}
 
 -- contents that come are one more mark
 pub Follows_mark : (old new : Files) (path : Place) (contents : Option (List ℕ)) (marks : List Mark)
@@ -84,13 +137,17 @@ pub Follows_mark : (old new : Files) (path : Place) (contents : Option (List ℕ
     ≡ (if place_eq path place then Some (state_after (state_at old path) contents) else found old place))
     → Follows old marks
     → Follows new (record { path = path; kind = kind_of contents } ∷ marks)
-Follows_mark old new path contents marks numbers finds before = record {
-  numbers = numbers ∙ ap (with_place path) before.numbers;
-  states = λ place.
-      rw (live_text_mark, place_equiv.symm place path)
-      (state-split old new path place contents (live_text marks place) (place_eq path place) refl
-      (before.states place) (finds place));
-}
+Follows_mark old new path contents marks =
+    Follows-said old new path (kind_of contents) (state_after (state_at old path) contents) marks
+    (sym (state_next-contents contents (state_at old path)))
+
+-- a path that is left out is one more mark
+pub Follows_out : (old new : Files) (path : Place) (marks : List Mark)
+    → places new ≡ with_place path (places old)
+    → ((place : Place) → found new place ≡ (if place_eq path place then Some Excluded else found old place))
+    → Follows old marks
+    → Follows new (record { path = path; kind = Out } ∷ marks)
+Follows_out old new path marks = Follows-said old new path Out Excluded marks refl
 
 -- where the first item that passes is
 pub position-in : (test : Place → Bool) (items : List Place) (number : ℕ) (is_in : Bool)

@@ -7,3 +7,4 @@ pub mod NumberLemmas
 pub mod PartLemmas
 pub mod RoomLemmas
 pub mod TrimLemmas
+pub mod TextLemmas

@@ -6,11 +6,11 @@ use Rattle.std.specs.Option.{unwrap_or}
 use Rattle.std.proofs.lemmas.List.Elements.{recursion_from_All}
 use Rattle.std.proofs.lemmas.Option.{slice_get-get_or}
 use Rattle.vfs_core.specs.declared.file_state.FileState.{FileState}
-use Rattle.vfs_core.specs.declared.file_state.FileState.TheVariants.{Deleted}
+use Rattle.vfs_core.specs.declared.file_state.FileState.TheVariants.{Deleted, Excluded}
 use Rattle.vfs_core.specs.declared.marks.Mark.{Mark}
 use Rattle.vfs_core.specs.FileState.{is_existing, state_of}
-use Rattle.vfs_core.specs.Files.{Files, Follows, existing, existing_from, places, state_at}
-use Rattle.vfs_core.specs.Marks.{live_places, live_text}
+use Rattle.vfs_core.specs.Files.{Files, Follows, existing, existing_from, places, state_at, state_told}
+use Rattle.vfs_core.specs.Marks.{is_out, kept_text, live_places, live_text}
 use Rattle.vfs_core.specs.VfsPath.{Place, place_eq}
 use Rattle.vfs_core.specs.PlaceOrder.{place_equiv}
 use Rattle.vfs_core.proofs.NumberLemmas.{all-at, keys_at}
@@ -54,10 +54,17 @@ lookup-own (first ∷ rest) (suc number) entry distinct h =
     let differs : place_eq entry.0 first.0 ≡ false = place_equiv.symm entry.0 first.0 ∙ other in
     rw differs (lookup-own rest number entry distinct.1 h)
 
--- a file exists where it has a text that counts
-existing-state : (text : Option (List ℕ)) → is_existing (state_of text) ≡ is_some text
-existing-state None = refl
-existing-state (Some text) = refl
+-- a file exists where it has a text that counts and is not left out
+existing-state : (is_left_out : Bool) (text : Option (List ℕ))
+    → is_existing (cond is_left_out Excluded (state_of text)) ≡ is_some (cond is_left_out None text)
+existing-state true text = refl
+existing-state false None = refl
+existing-state false (Some text) = refl
+
+existing-told : (marks : List Mark) (place : Place)
+    → is_existing (state_told marks place) ≡ is_some (live_text marks place)
+unfolding live_text
+existing-told marks place = existing-state (is_out marks place) (kept_text marks place)
 
 -- the existing files are the live ones
 pub existing_live : (files : Files) (marks : List Mark) → IsDistinct place_eq (places files)
@@ -70,5 +77,5 @@ existing_live files marks distinct follows =
     let state : state_at files entry.0 ≡ entry.1 =
     ap (λ (s : Option FileState). unwrap_or s Deleted)
     (lookup-own files.entries k entry distinct (slice_get-get_or files.entries k d within)) in
-    ap is_existing (sym state ∙ follows.states entry.0) ∙ existing-state (live_text marks entry.0)) in
+    ap is_existing (sym state ∙ follows.states entry.0) ∙ existing-told marks entry.0) in
     existing-passes test 0 files.entries agree ∙ ap (filter test) follows.numbers

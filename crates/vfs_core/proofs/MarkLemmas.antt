@@ -1,15 +1,15 @@
 -- One more mark: what it makes of the text that counts for a place.
-use Rattle.std.proofs.Common.{◌≡◌, ℕ, Bool, true, false, cond, List, [], ◌∷◌, Option, Some, None, ◌-◌, ◌<◌, ◌≤◌, length, take, drop, get_or, refl, sym, ◌∙◌, ap, arith, nat_eq, is_some, map, eqb-true, eq-eqb}
+use Rattle.std.proofs.Common.{◌≡◌, ℕ, Bool, ◌||◌, ◌&&◌, true, false, cond, List, [], ◌∷◌, Option, Some, None, ◌-◌, ◌<◌, ◌≤◌, length, take, drop, get_or, refl, sym, ◌∙◌, ap, arith, nat_eq, is_some, map, eqb-true, eq-eqb}
 use Rattle.std.specs.List.{cons_option, filter, filter_map, take_while}
 use Rattle.std.specs.Option.{option_map}
 use Rattle.std.proofs.lemmas.List.Sums.{take_while-cons}
 use Rattle.std.proofs.lemmas.Grind.{common_steps}
 use Rattle.vfs_core.specs.declared.marks.Mark.{Mark}
 use Rattle.vfs_core.specs.declared.marks.MarkKind.{MarkKind}
-use Rattle.vfs_core.specs.declared.marks.MarkKind.TheVariants.{Text, Gone}
+use Rattle.vfs_core.specs.declared.marks.MarkKind.TheVariants.{Text, Gone, Out}
 use Rattle.vfs_core.specs.Hash.{content_hash}
 use Rattle.vfs_core.specs.VfsPath.{Place, place_eq}
-use Rattle.vfs_core.specs.Marks.{own, texts_since, same_hash, last_after, first_of_run, kept, live_files, live_places, live_text, mentioned, merged, kept_next}
+use Rattle.vfs_core.specs.Marks.{is_out, kept_text, leaves_out, live_next, LivesNext, own, texts_since, same_hash, last_after, first_of_run, kept, live_files, live_places, live_text, mentioned, merged, kept_next}
 
 -- the marks of a place
 abbrev of_place : Place → List Mark → List Mark
@@ -72,6 +72,7 @@ kept-text text kinds = first_of_run-cons text (texts_since kinds)
 pub kept-next : (kind : MarkKind) (kinds : List MarkKind)
     → kept (kind ∷ kinds) ≡ kept_next kind (kept kinds)
 kept-next Gone kinds = unfold kept in refl
+kept-next Out kinds = unfold kept in refl
 kept-next (Text text) kinds = kept-text text kinds
 
 -- the same by whether the mark is of the place
@@ -82,33 +83,74 @@ own-split mark marks place true = kept-next mark.kind (own place marks)
 own-split mark marks place false = refl
 
 -- a mark of another place changes nothing, one of its own what it says
-pub live_text_mark : (mark : Mark) (marks : List Mark) (place : Place)
-    → live_text (mark ∷ marks) place
-    ≡ cond (place_eq place mark.path) (kept_next mark.kind (live_text marks place)) (live_text marks place)
+pub kept_text_mark : (mark : Mark) (marks : List Mark) (place : Place)
+    → kept_text (mark ∷ marks) place
+    ≡ cond (place_eq place mark.path) (kept_next mark.kind (kept_text marks place)) (kept_text marks place)
+unfolding kept_text
+kept_text_mark mark marks place = own-split mark marks place (place_eq place mark.path)
+
+-- no text counts where nothing was said
+pub kept_text_none : (place : Place) → kept_text [] place ≡ None
+unfolding kept_text kept
+kept_text_none place = refl
+
+-- the same of marks that are known by their first and the rest
+pub kept_text_split : (marks : List Mark) (place : Place) (mark : Mark)
+    → 1 ≤ length marks → mark ≡ get_or marks 0 mark
+    → kept_text marks place
+    ≡ cond (place_eq place mark.path)
+    (kept_next mark.kind (kept_text (take (length marks - 1) (drop 1 marks)) place))
+    (kept_text (take (length marks - 1) (drop 1 marks)) place)
+kept_text_split [] place mark some first = absurd (omega arith)
+kept_text_split (m ∷ ms) place mark some first =
+    let rest : take (length (m ∷ ms) - 1) ms ≡ ms = grind (arith, common_steps) in
+    rw (first, rest) (kept_text_mark m ms place)
+
+-- no marks
+pub kept_text_empty : (marks : List Mark) (place : Place) → length marks < 1 → kept_text marks place ≡ None
+kept_text_empty [] place few = kept_text_none place
+kept_text_empty (m ∷ ms) place few = absurd (omega arith)
+
+-- a place is left out: the same by whether the first mark is of the place
+out-split : (is_own leaves was_out : Bool)
+    → (is_own && leaves) || was_out ≡ cond is_own (leaves || was_out) was_out
+out-split true leaves was_out = refl
+out-split false leaves was_out = refl
+
+-- a place is left out by one more mark of its own that does so, or was before
+pub is_out_mark : (mark : Mark) (marks : List Mark) (place : Place)
+    → is_out (mark ∷ marks) place
+    ≡ cond (place_eq place mark.path) (leaves_out mark.kind || is_out marks place) (is_out marks place)
+is_out_mark mark marks place = out-split (place_eq place mark.path) (leaves_out mark.kind) (is_out marks place)
+
+-- what one more thing that is said makes of the live text, by whether the place was left out
+live-next : (kind : MarkKind) (was_out : Bool) (before : Option (List ℕ))
+    → cond (leaves_out kind || was_out) None (kept_next kind before)
+    ≡ live_next kind was_out (cond was_out None before)
+live-next Gone true before = refl
+live-next Gone false before = refl
+live-next Out was_out before = refl
+live-next (Text text) true before = refl
+live-next (Text text) false before = refl
+
+-- the same by whether the mark is of the place
+live-split : (mark : Mark) (was_out : Bool) (before : Option (List ℕ)) (is_own : Bool)
+    → cond (cond is_own (leaves_out mark.kind || was_out) was_out) None (cond is_own (kept_next mark.kind before) before)
+    ≡ cond is_own (live_next mark.kind was_out (cond was_out None before)) (cond was_out None before)
+live-split mark was_out before true = live-next mark.kind was_out before
+live-split mark was_out before false = refl
+
+-- a mark of another place changes nothing, one of its own what it says
+pub live_text_mark : (mark : Mark) (marks : List Mark) (place : Place) → LivesNext mark marks place
 unfolding live_text
-live_text_mark mark marks place = own-split mark marks place (place_eq place mark.path)
+live_text_mark mark marks place =
+    rw (is_out_mark, kept_text_mark)
+    (live-split mark (is_out marks place) (kept_text marks place) (place_eq place mark.path))
 
 -- nothing lives where nothing was said
 pub live_text_none : (place : Place) → live_text [] place ≡ None
-unfolding live_text kept
+unfolding live_text kept_text kept
 live_text_none place = refl
-
--- the same of marks that are known by their first and the rest
-pub live_text_split : (marks : List Mark) (place : Place) (mark : Mark)
-    → 1 ≤ length marks → mark ≡ get_or marks 0 mark
-    → live_text marks place
-    ≡ cond (place_eq place mark.path)
-    (kept_next mark.kind (live_text (take (length marks - 1) (drop 1 marks)) place))
-    (live_text (take (length marks - 1) (drop 1 marks)) place)
-live_text_split [] place mark some first = absurd (omega arith)
-live_text_split (m ∷ ms) place mark some first =
-    let rest : take (length (m ∷ ms) - 1) ms ≡ ms = grind (arith, common_steps) in
-    rw (first, rest) (live_text_mark m ms place)
-
--- no marks
-pub live_text_empty : (marks : List Mark) (place : Place) → length marks < 1 → live_text marks place ≡ None
-live_text_empty [] place few = live_text_none place
-live_text_empty (m ∷ ms) place few = absurd (omega arith)
 
 -- the places of the live files: the same by whether one has a text
 live_files-split : (place : Place) (text : Option (List ℕ)) (files : List (Place × List ℕ)) (places : List Place)

@@ -21,7 +21,7 @@ first-split place first rest (suc number) false e more at within =
     more number (omega arith) (omega arith)
 
 -- the first equal path is the path
-first-is : (place : Place) (places : List Place) (number : ℕ)
+pub first-is : (place : Place) (places : List Place) (number : ℕ)
     → position_or_len (place_eq place) places ≡ number → number < length places
     → slice_get places number ≡ Some place
 first-is place [] number at within = absurd (omega arith)

@@ -14,9 +14,9 @@ use Rattle.vfs_core.specs.Batch.{changed, with_call, with_noted, IsBatch}
 use Rattle.vfs_core.specs.declared.file_state.FileExcluded.{FileExcluded}
 use Rattle.vfs_core.specs.declared.marks.Mark.{Mark}
 use Rattle.vfs_core.specs.declared.marks.MarkKind.{MarkKind}
-use Rattle.vfs_core.specs.declared.marks.MarkKind.TheVariants.{Text, Gone}
+use Rattle.vfs_core.specs.declared.marks.MarkKind.TheVariants.{Text, Gone, Out}
 use Rattle.vfs_core.specs.FileState.{change_made, is_change, is_existing, shown, state_after, state_of}
-use Rattle.vfs_core.specs.Marks.{live_places, live_text, mentioned, with_place}
+use Rattle.vfs_core.specs.Marks.{is_out, kept_text, live_places, mentioned, with_place}
 use Rattle.vfs_core.specs.VfsPath.{Place, place_eq}
 
 -- the greatest number of paths, each path with its state, and the changes since they were last taken
@@ -138,15 +138,24 @@ abbrev pub kind_of : Option (List ℕ) → MarkKind
 kind_of None = Gone
 kind_of (Some text) = Text text
 
--- the files are what marks make of them: numbers in order of first mention, states by the texts that count
+-- the state that marks tell of a place: left out for good, or by the text that counts
+abbrev pub state_told : List Mark → Place → FileState
+state_told marks place = if is_out marks place then Excluded else state_of (kept_text marks place)
+
+-- the files are what marks make of them: numbers in order of first mention, states as the marks tell
 pub record Follows (files : Files) (marks : List Mark) : Type 0 where
   pub numbers : places files ≡ mentioned marks
-  pub states : (place : Place) → state_at files place ≡ state_of (live_text marks place)
+  pub states : (place : Place) → state_at files place ≡ state_told marks place
 
 -- whatever marks the files followed, they follow these and one more
 abbrev pub TakesMark : Files → Files → Place → Option (List ℕ) → Type 0
 TakesMark old new path contents = (marks : List Mark)
     → Follows old marks → Follows new (record { path = path; kind = kind_of contents } ∷ marks)
+
+-- whatever marks the files followed, they follow these and one more by which the path is left out
+abbrev pub TakesOut : Files → Files → Place → Type 0
+TakesOut old new path = (marks : List Mark)
+    → Follows old marks → Follows new (record { path = path; kind = Out } ∷ marks)
 
 -- whatever marks the files followed, they follow them still
 abbrev pub KeepsMarks : Files → Files → Type 0

@@ -9,3 +9,4 @@ pub mod RelPath
 pub mod VfsError
 pub mod VfsPath
 pub mod VirtualPath
+pub mod Texts

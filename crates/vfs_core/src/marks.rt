@@ -2,7 +2,7 @@
 
 ghost use Rattle.std.specs.Prelude.{◌≡◌, [], List, None, map};
 ghost use Rattle.std.specs.Option.{option_copied};
-ghost use Rattle.vfs_core.specs.Marks.{kept_next, live_files, live_places, live_text, merged, same_hash, LivesNext};
+ghost use Rattle.vfs_core.specs.Marks.{is_out, kept_next, kept_text, leaves_out, live_files, live_places, live_text, merged, same_hash, LivesNext};
 ghost use Rattle.vfs_core.specs.VfsPath.{Place};
 ghost use Rattle.vfs_core.specs.declared.marks.Mark.{Mark};
 
@@ -17,6 +17,8 @@ pub enum MarkKind {
     Text(Text),
     /// The file is deleted.
     Gone,
+    /// The file is left out, for good.
+    Out,
 }
 
 /// One thing that was said of a file.
@@ -28,14 +30,41 @@ pub struct Mark {
 
 /// The text of a path after some marks, which stand newest first, or None where it is not live.
 /// It goes over all marks at each call: programs keep states instead, and tests compare.
-#[tactic(auto, using(crate::proofs::MarkLemmas::live_text_empty))]
+#[tactic(auto, unfolding(crate::specs::Marks::live_text))]
 pub fn live_text<'a>(marks: &'a [Mark], path: &VfsPath) -> Option<&'a Text>
     ensures { option_copied result ≡ live_text marks.now path.now }
+{
+    if is_out(marks, path) {
+        None
+    } else {
+        kept_text(marks, path)
+    }
+}
+
+// Whether a path was left out by some mark.
+fn is_out(marks: &[Mark], path: &VfsPath) -> bool
+    ensures { result ≡ is_out marks.now path.now }
+{
+    marks
+        .iter()
+        .any(|mark| *path == mark.path && leaves_out(&mark.kind))
+}
+
+fn leaves_out(kind: &MarkKind) -> bool
+    ensures { result ≡ leaves_out kind.now }
+{
+    matches!(kind, MarkKind::Out)
+}
+
+// The text that counts at a path, whether or not it was left out.
+#[tactic(auto, using(crate::proofs::MarkLemmas::kept_text_empty))]
+fn kept_text<'a>(marks: &'a [Mark], path: &VfsPath) -> Option<&'a Text>
+    ensures { option_copied result ≡ kept_text marks.now path.now }
 {
     match marks {
         [] => None,
         [mark, older @ ..] => {
-            let before = live_text(older, path);
+            let before = kept_text(older, path);
             if *path == mark.path {
                 kept_next(&mark.kind, before)
             } else {
@@ -50,6 +79,7 @@ fn kept_next<'a>(kind: &'a MarkKind, before: Option<&'a Text>) -> Option<&'a Tex
 {
     match kind {
         MarkKind::Gone => None,
+        MarkKind::Out => before,
         MarkKind::Text(text) => Some(merged(text, before)),
     }
 }

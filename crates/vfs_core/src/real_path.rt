@@ -109,7 +109,8 @@ impl RealPath {
 
     /// The order by components.
     pub(crate) fn cmp_to(&self, other: &RealPath) -> Ordering
-        ensures components { result ≡ slice_cmp (slice_cmp nat_cmp) (components self.now) (components other.now) }
+        ensures components { result
+            ≡ slice_cmp (slice_cmp nat_cmp) (components self.now) (components other.now) }
         ensures texts { ordering_then result (slice_cmp nat_cmp self.now other.now) ≡ result }
     {
         self.path.cmp(&other.path)

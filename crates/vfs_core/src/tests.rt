@@ -58,6 +58,26 @@ fn a_file_made_again_has_its_new_text(rt: HostRuntime) -> Result<(), Fail> {
 }
 
 #[test]
+fn a_path_that_is_left_out_lives_no_more(rt: HostRuntime) -> Result<(), Fail> {
+    let alloc = rt.alloc();
+    let path = real(&rt, alloc, "/a");
+    // newest first
+    let kinds = [
+        text(alloc, "new")?,
+        MarkKind::Gone,
+        MarkKind::Out,
+        text(alloc, "old")?,
+    ];
+    let mut marks = Vec::new(alloc);
+    for kind in kinds {
+        let path = real(&rt, alloc, "/a");
+        marks.push(Mark { path, kind })?;
+    }
+    assert_eq!(rt; live_text(marks.as_slice(), &path), None);
+    Ok(())
+}
+
+#[test]
 fn a_path_keeps_its_number_through_all_changes(rt: HostRuntime) -> Result<(), Fail> {
     let alloc = rt.alloc();
     let mut vfs = Vfs::new(alloc, 2);
@@ -151,6 +171,27 @@ fn a_change_holds_the_last_contents(rt: HostRuntime) -> Result<(), Fail> {
         held = true;
     }
     assert!(rt; held);
+    Ok(())
+}
+
+#[test]
+fn a_file_made_again_is_modified_to_its_last_contents(rt: HostRuntime) -> Result<(), Fail> {
+    let alloc = rt.alloc();
+    let mut vfs = Vfs::new(alloc, 10);
+    for contents in [Some(b"a"), None, Some(b"b")] {
+        let contents = match contents {
+            None => None,
+            Some(bytes) => Some(bytes.to_vec(alloc)?),
+        };
+        let changed = vfs.set_file_contents(real(&rt, alloc, "/n.rs"), contents);
+        assert_eq!(rt; changed, Ok(true));
+    }
+    let expected = Change::Modify(Items::new(b"b".to_vec(alloc)?), content_hash(b"b"));
+    let changes = vfs.take_changes();
+    assert_eq!(rt; changes.len(), 1);
+    for (_, changed) in changes.iter() {
+        assert!(rt; changed.change == expected);
+    }
     Ok(())
 }
 

@@ -1,6 +1,6 @@
 //! The file system: each path has a number for good, and a state. The limit bounds how many paths may come.
 
-ghost use Rattle.std.specs.Prelude.{◌≡◌, ◌≤◌, ◌<◌, ◌↔◌, [], IfErr, IfOk, IfSome, IsTrue, OnErr, OnOk, Some, length};
+ghost use Rattle.std.specs.Prelude.{◌≡◌, ◌≤◌, ◌<◌, ◌↔◌, ℕ, List, Option, [], IfErr, IfOk, IfSome, IsTrue, OnErr, OnOk, Some, length};
 ghost use Rattle.std.specs.Map.Iter.{ShowsInOrder};
 ghost use Rattle.std.specs.Result.{IsErrOf};
 ghost use Rattle.indexmap.specs.IndexMap.{spare};
@@ -8,7 +8,8 @@ ghost use Rattle.vfs_core.specs.Batch.{noted};
 ghost use Rattle.vfs_core.specs.Files.{bytes_of, changes, existing, existing_at, looked_up, no_files, number_for, number_of};
 ghost use Rattle.vfs_core.specs.Files.{numbered_path, place_at, places, set_contents, state_at, with_state};
 ghost use Rattle.vfs_core.specs.Files.{Excludes, Follows, Gathers, GivesBatch, HasRoomFor, IsFullFor, KeepsCalls, KeepsMarks};
-ghost use Rattle.vfs_core.specs.Files.{KeepsNumbers, ListsLive, SetsState, TakesCall, TakesMark};
+ghost use Rattle.vfs_core.specs.Files.{KeepsNumbers, ListsLive, SetsState, TakesCall, TakesMark, TakesOut};
+ghost use Rattle.vfs_core.specs.Texts.{BringsMark, BringsOut, BringsTaken, BringsTo, KeepsBringing, KeepsPassing};
 ghost use Rattle.vfs_core.specs.declared.file_state.FileState.TheVariants.{Excluded};
 ghost use Rattle.vfs_core.specs.Marks.{with_place};
 
@@ -89,13 +90,14 @@ impl Model for Vfs {
 }
 
 impl Vfs {
-    #[tactic(auto, using(crate::proofs::MarkLemmas::live_text_none, crate::proofs::BatchLemmas::batch_of_none))]
+    #[tactic(auto, using(crate::proofs::MarkLemmas::kept_text_none, crate::proofs::BatchLemmas::batch_of_none, crate::proofs::TextLemmas::BringsTo_none))]
     /// A file system that knows no path.
     pub fn new(alloc: Global, limit: u32) -> Self
         requires { limit ≤ 0x7fff_ffff }
         ensures empty { result ≡ no_files limit }
         ensures follows { Follows result [] }
         ensures gathers { Gathers result [] }
+        ensures brings { (known : ℕ → Option (List ℕ)) → BringsTo result known [] }
     {
         Vfs {
             alloc,
@@ -111,6 +113,7 @@ impl Vfs {
         ensures limit { self.new ≡ record self.old { limit = limit } }
         ensures follows { KeepsMarks self.old self.new }
         ensures gathers { KeepsCalls self.old self.new }
+        ensures brings { KeepsBringing self.old self.new }
     {
         self.limit = limit;
     }
@@ -133,6 +136,10 @@ impl Vfs {
         ensures follows { OnOk result (TakesMark self.old self.new path (bytes_of contents)) }
         ensures gathers { OnOk result (TakesCall self.old self.new path (bytes_of contents)) }
 
+        // The contents that the batch holds.
+        ensures brings { OnOk result (BringsMark self.old self.new path (bytes_of contents)) }
+        ensures passing { OnOk result (KeepsPassing self.old self.new (bytes_of contents)) }
+
         ensures too_many { IsErrOf result VfsError.TooMany ↔ IsFullFor self.old path }
         ensures err { OnErr result (self.new ≡ self.old) }
     {
@@ -151,7 +158,7 @@ impl Vfs {
         }
     }
 
-    #[tactic(auto, using(crate::proofs::FileLemmas::keys_insert_entry))]
+    #[tactic(auto, using(crate::proofs::FileLemmas::keys_insert_entry, crate::proofs::FileLemmas::Follows_out))]
     /// Leaves a file out for good. A change of it that was not taken yet stays.
     pub fn insert_excluded_file(&mut self, path: VfsPath) -> Result<(), VfsError>
         // What becomes of the files.
@@ -159,7 +166,11 @@ impl Vfs {
         ensures every_path { OnOk result (Excludes self.old self.new path) }
         ensures paths { OnOk result (places self.new ≡ with_place path (places self.old)) }
         ensures stable { KeepsNumbers self.old self.new }
+
+        // The marks and the calls that are followed.
+        ensures follows { OnOk result (TakesOut self.old self.new path) }
         ensures gathers { KeepsCalls self.old self.new }
+        ensures brings { OnOk result (BringsOut self.old self.new path) }
 
         ensures too_many { IsErrOf result VfsError.TooMany ↔ IsFullFor self.old path }
         ensures err { OnErr result (self.new ≡ self.old) }
@@ -171,7 +182,8 @@ impl Vfs {
 
     /// The number that a path has, or takes, and the state of its file.
     fn file_for(&self, path: &VfsPath) -> Result<(FileId, FileState), VfsError>
-        ensures file { IfOk result (λ file. file ≡ (number_for self.now path.now, state_at self.now path.now)) }
+        ensures file { IfOk result (λ file. file
+            ≡ (number_for self.now path.now, state_at self.now path.now)) }
         ensures room { OnOk result (¬ (IsFullFor self.now path.now)) }
         ensures fits { OnOk result (HasRoomFor self.now path.now) }
         ensures full { IfErr result (λ e. e ≡ VfsError.TooMany) }
@@ -193,6 +205,7 @@ impl Vfs {
         ensures emptied { self.new ≡ record self.old { batch = [] } }
         ensures batch { GivesBatch self.old result.entries }
         ensures gathers { Gathers self.new [] }
+        ensures brings { BringsTaken self.old self.new }
         ensures stable { KeepsNumbers self.old self.new }
         ensures follows { KeepsMarks self.old self.new }
     {

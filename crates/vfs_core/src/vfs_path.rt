@@ -150,7 +150,8 @@ impl VfsPath {
         ensures path { IsReal self.old → self.new ≡ real (path_text (parts_above self.old)) }
         ensures components { IsReal self.old → components self.new.text ≡ parts_above self.old }
         ensures at_root { IsReal self.old → IsFalse result ↔ (self.old.text ≡ codes "/") }
-        ensures virtual_path { IsVirtual self.old → self.new ≡ virtual (unwrap_or (popped self.old.text) self.old.text) }
+        ensures virtual_path { IsVirtual self.old
+            → self.new ≡ virtual (unwrap_or (popped self.old.text) self.old.text) }
         ensures cut { IsVirtual self.old → result ≡ is_some (popped self.old.text) }
     {
         match &mut self.repr {
@@ -199,7 +200,8 @@ impl VfsPath {
 
     /// What is left behind the components of `other`, where it is of one kind with the path, and they come first.
     pub fn strip_prefix(&self, other: &VfsPath) -> Option<RelPath<'_>>
-        ensures real { AreReal self.now other.now → option_map rest_text result ≡ rest_behind self.now other.now }
+        ensures real { AreReal self.now other.now
+            → option_map rest_text result ≡ rest_behind self.now other.now }
         ensures virtual_path { AreVirtual self.now other.now
             → option_map rest_text result ≡ virtual_rest other.now.text self.now.text }
         ensures of_two_kinds { AreOfTwoKinds self.now other.now → result ≡ None }
@@ -221,7 +223,8 @@ impl VfsPath {
     /// In a virtual path one slash at the end plays no part, and an empty name is none.
     pub fn name_and_extension(&self) -> Option<(&str, Option<&str>)>
         ensures real { IsReal self.now → option_map name_texts result ≡ named self.now.text }
-        ensures virtual_path { IsVirtual self.now → option_map name_texts result ≡ virtual_named self.now.text }
+        ensures virtual_path { IsVirtual self.now
+            → option_map name_texts result ≡ virtual_named self.now.text }
     {
         match &self.repr {
             VfsPathRepr::Real(path) => path.name_and_extension(),
