@@ -1,0 +1,5 @@
+pub mod Applied
+pub mod Change
+pub mod Database
+pub mod Files
+pub mod SourceRoot

@@ -1,0 +1,163 @@
+//! A change of a database: source roots that are given, and the new texts of files.
+
+ghost use Rattle.std.specs.Prelude.{◌≡◌, ◌<◌, ◌^◌, [], ◌∷◌, ◌++◌, IfOk, IfSome, None, OnErr, OnOk, Some};
+ghost use Rattle.std.specs.Prelude.{length, string_bytes, true};
+ghost use Rattle.std.specs.Option.{option_map};
+ghost use Rattle.input_db.specs.Applied.{applied};
+ghost use Rattle.input_db.specs.Change.{IsChanged, fits, fits_file, given_roots};
+
+use crate::applying::{fits_file, give_roots, set_texts};
+use crate::source_database::SourceDatabase;
+use crate::source_root::SourceRoot;
+use base_text::{FileId, Items, Text, TryClone};
+use std::alloc::{AllocError, Global};
+use std::mem;
+
+/// What changed: source roots, where they are given, and files with their new texts.
+#[derive(Drop)]
+pub struct FileChange {
+    alloc: Global,
+    /// All source roots there are now. Where none are given the roots stay.
+    pub roots: Option<Items<SourceRoot>>,
+    /// A file that was deleted has no text.
+    pub files_changed: Items<(FileId, Option<Text>)>,
+}
+
+impl FileChange {
+    /// Nothing changed.
+    pub fn new(alloc: Global) -> Self
+        ensures roots { result.roots ≡ None }
+        ensures files_changed { result.files_changed ≡ [] }
+    {
+        FileChange {
+            alloc,
+            roots: None,
+            files_changed: Items::empty(alloc),
+        }
+    }
+
+    /// All source roots there are now. The place of each is its number.
+    pub fn set_roots(&mut self, roots: Vec<SourceRoot>)
+        ensures { self.new ≡ record self.old { roots = Some roots.items } }
+    {
+        self.roots = Some(Items::new(roots));
+    }
+
+    /// A file has a new text, or was deleted where there is none.
+    pub fn change_file(
+        &mut self,
+        file_id: FileId,
+        new_text: Option<String>,
+    ) -> Result<(), AllocError>
+        ensures ok { OnOk result (self.new ≡ record self.old {
+          files_changed = self.old.files_changed ++ (file_id, option_map string_bytes new_text) ∷ [];
+        }) }
+        ensures err { OnErr result (self.new ≡ self.old) }
+    {
+        let mut changed = mem::replace(
+            &mut self.files_changed,
+            Items::empty(self.alloc),
+        ).into_inner();
+        let answer = push_change(&mut changed, file_id, new_text.map(Text::new));
+        self.files_changed = Items::new(changed);
+        answer
+    }
+}
+
+impl FileChange {
+    /// Whether each file that changed will have a source root that is there: it is in one of the given
+    /// roots, or has one already that is there or is given.
+    pub fn fits<D: SourceDatabase>(&self, db: &D) -> bool
+        ensures { result ≡ fits (D.seen db.now).files self.now }
+    {
+        let roots = match &self.roots {
+            Some(roots) => roots.as_slice(),
+            None => &[],
+        };
+        let files = db.files();
+        self.files_changed
+            .as_slice()
+            .iter()
+            .all(|changed| fits_file(files, roots, changed.0))
+    }
+
+    /// Whether a file will have a source root that is there, as `fits` asks of each file that changed.
+    pub fn fits_file<D: SourceDatabase>(&self, db: &D, file: FileId) -> bool
+        ensures { result ≡ fits_file (D.seen db.now).files (given_roots self.now) file }
+    {
+        match &self.roots {
+            Some(roots) => fits_file(db.files(), roots.as_slice(), file),
+            None => fits_file(db.files(), &[], file),
+        }
+    }
+
+    /// Makes the change: the given roots with the roots of their files, the lists of roots, and then
+    /// the texts.
+    pub fn apply<D: SourceDatabase>(self, alloc: Global, db: &mut D) -> Result<(), AllocError>
+        requires fits { fits (D.seen db.old).files self ≡ true }
+        requires few { IfSome self.roots (λ roots. length roots < 2 ^ 32) }
+        ensures ok { OnOk result (IsChanged self (D.seen db.old) (D.seen db.new)) }
+        ensures steps { OnOk result (D.seen db.new ≡ applied self (D.seen db.old)) }
+    {
+        self.make(alloc, db)?;
+        Ok(())
+    }
+
+    // Makes the change step by step.
+    fn make<D: SourceDatabase>(self, alloc: Global, db: &mut D) -> Result<(), AllocError>
+        requires { IfSome self.roots (λ roots. length roots < 2 ^ 32) }
+        ensures { OnOk result (D.seen db.new ≡ applied self (D.seen db.old)) }
+    {
+        let FileChange {
+            roots,
+            files_changed,
+            ..
+        } = self;
+        match roots {
+            Some(roots) => give_roots(alloc, db, roots)?,
+            None => {}
+        }
+        set_texts(db, files_changed)?;
+        Ok(())
+    }
+}
+
+impl TryClone for FileChange {
+    fn try_clone(&self, alloc: Global) -> Result<Self, AllocError> {
+        let roots = self.roots.try_clone(alloc)?;
+        let files_changed = copied_files(alloc, self.files_changed.as_slice())?;
+        Ok(FileChange {
+            alloc,
+            roots,
+            files_changed,
+        })
+    }
+}
+
+// The files that changed, each with its new text.
+fn copied_files(
+    alloc: Global,
+    files_changed: &[(FileId, Option<Text>)],
+) -> Result<Items<(FileId, Option<Text>)>, AllocError>
+    ensures { IfOk result (λ copies. copies ≡ files_changed.now) }
+{
+    let mut copies = Vec::new(alloc);
+    for (file_id, new_text) in files_changed {
+        let copy = new_text.try_clone(alloc)?;
+        copies.push((*file_id, copy))?;
+    }
+    Ok(Items::new(copies))
+}
+
+// Puts a file with its new text behind the others.
+fn push_change(
+    changed: &mut Vec<(FileId, Option<Text>)>,
+    file_id: FileId,
+    new_text: Option<Text>,
+) -> Result<(), AllocError>
+    ensures ok { OnOk result (changed.new.items ≡ changed.old.items ++ (file_id, new_text) ∷ []) }
+    ensures err { OnErr result (changed.new.items ≡ changed.old.items) }
+{
+    changed.push((file_id, new_text))?;
+    Ok(())
+}

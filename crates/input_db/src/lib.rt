@@ -1,0 +1,35 @@
+//! The inputs of a language server: the texts of files, the source roots that they are in, and what
+//! changes them.
+#![tactic(auto)]
+
+mod applying;
+mod by_number;
+pub mod change;
+pub mod durability;
+pub mod files;
+pub mod input_db;
+pub mod inputs;
+pub mod nonce;
+pub mod roots;
+pub mod source_database;
+pub mod source_root;
+#[cfg(test)]
+mod tests;
+
+pub use change::FileChange;
+pub use durability::Durability;
+pub use files::Files;
+pub use indexmap::{IndexMap as FxIndexMap, IndexSet as FxIndexSet};
+pub use input_db::InputDb;
+pub use inputs::{FileSourceRootInput, FileText, SourceRootInput};
+pub use nonce::Nonce;
+pub use roots::{LibraryRoots, LocalRoots};
+pub use source_database::SourceDatabase;
+pub use source_root::{SourceRoot, SourceRootId};
+
+/// How many texts of files a language server keeps at hand. Nothing here is dropped by it.
+pub const DEFAULT_FILE_TEXT_LRU_CAP: u16 = 16;
+/// How many parsed files a language server keeps at hand. Nothing here is dropped by it.
+pub const DEFAULT_PARSE_LRU_CAP: u16 = 128;
+/// How many checked bodies a language server keeps at hand. Nothing here is dropped by it.
+pub const DEFAULT_BORROWCK_LRU_CAP: u16 = 2024;

@@ -1,0 +1,109 @@
+//! A database of files, as its users see it.
+
+ghost use Rattle.std.specs.Prelude.{◌≡◌, IfOk, IsSome, OnErr, OnOk, Some};
+ghost use Rattle.input_db.specs.Database.{Database, with_files, with_lists};
+ghost use Rattle.input_db.specs.Files.{SetsFileRoot, SetsRoot, SetsText, kept_durability, stored_place};
+ghost use Rattle.input_db.specs.Files.{stored_root, stored_text};
+ghost use Rattle.input_db.specs.Files.{file_root_of, resolved_from, root_of, root_of_file, text_of};
+ghost use Rattle.input_db.specs.Files.{with_file_root, with_root, with_same_durability, with_text};
+
+use crate::durability::Durability;
+use crate::files::Files;
+use crate::inputs::{FileSourceRootInput, FileText, SourceRootInput};
+use crate::nonce::Nonce;
+use crate::roots::{LibraryRoots, LocalRoots};
+use crate::source_root::{SourceRoot, SourceRootId};
+use base_text::FileId;
+use std::alloc::{AllocError, Global};
+use vfs_core::AnchoredPath;
+
+/// The inputs of a language server: texts, and the source roots that files are in.
+pub trait SourceDatabase {
+    // What the database holds.
+    ghost seen: { Self → Database };
+
+    fn files(&self) -> &Files
+        ensures { result.now ≡ (seen self.now).files };
+
+    /// The text of a file that has one: `has_text` of `files` tells.
+    fn file_text(&self, id: FileId) -> &FileText
+        requires { IsSome (text_of (seen self.now).files id) }
+        ensures { text_of (seen self.now).files id ≡ Some result.now };
+
+    /// A source root that is there: `has_root` of `files` tells.
+    fn source_root(&self, id: SourceRootId) -> &SourceRootInput
+        requires { IsSome (root_of (seen self.now).files id) }
+        ensures { root_of (seen self.now).files id ≡ Some result.now };
+
+    /// The source root of a file that has one: `has_file_root` of `files` tells.
+    fn file_source_root(&self, id: FileId) -> &FileSourceRootInput
+        requires { IsSome (file_root_of (seen self.now).files id) }
+        ensures { file_root_of (seen self.now).files id ≡ Some result.now };
+
+    /// The file at a path that is relative to one that has a source root. It is looked for in that root.
+    fn resolve_path(
+        &self,
+        alloc: Global,
+        path: AnchoredPath<'_>,
+    ) -> Result<Option<FileId>, AllocError>
+        requires { IsSome (root_of_file (seen self.now).files path.anchor) }
+        ensures { IfOk result (λ file. file
+            ≡ resolved_from (seen self.now).files path.entry.anchor path.entry.path.now) };
+
+    fn local_roots(&self) -> &LocalRoots
+        ensures { result.now ≡ (seen self.now).local };
+
+    fn library_roots(&self) -> &LibraryRoots
+        ensures { result.now ≡ (seen self.now).library };
+
+    fn nonce(&self) -> Nonce
+        ensures { result ≡ (seen self.now).nonce };
+
+    /// Sets a text. It is as durable as the one that was there, and `Low` where none was.
+    fn set_file_text(&mut self, id: FileId, text: &str) -> Result<(), AllocError>
+        ensures ok { OnOk result (seen self.new
+            ≡ with_files (seen self.old) (with_same_durability (seen self.old).files id text.now)) }
+        ensures alone { OnOk result (SetsText (seen self.old).files (seen self.new).files id
+            (stored_text id text.now (kept_durability (text_of (seen self.old).files id)))) }
+        ensures err { OnErr result (seen self.new ≡ seen self.old) };
+
+    fn set_file_text_with_durability(
+        &mut self,
+        id: FileId,
+        text: &str,
+        durability: Durability,
+    ) -> Result<(), AllocError>
+        ensures ok { OnOk result (seen self.new
+            ≡ with_files (seen self.old) (with_text (seen self.old).files id text.now durability)) }
+        ensures alone { OnOk result (SetsText (seen self.old).files (seen self.new).files id
+            (stored_text id text.now durability)) }
+        ensures err { OnErr result (seen self.new ≡ seen self.old) };
+
+    fn set_source_root_with_durability(
+        &mut self,
+        id: SourceRootId,
+        root: SourceRoot,
+        durability: Durability,
+    ) -> Result<(), AllocError>
+        ensures ok { OnOk result (seen self.new
+            ≡ with_files (seen self.old) (with_root (seen self.old).files id root durability)) }
+        ensures alone { OnOk result (SetsRoot (seen self.old).files (seen self.new).files id
+            (stored_root root durability)) }
+        ensures err { OnErr result (seen self.new ≡ seen self.old) };
+
+    fn set_file_source_root_with_durability(
+        &mut self,
+        id: FileId,
+        root: SourceRootId,
+        durability: Durability,
+    ) -> Result<(), AllocError>
+        ensures ok { OnOk result (seen self.new
+            ≡ with_files (seen self.old) (with_file_root (seen self.old).files id root durability)) }
+        ensures alone { OnOk result (SetsFileRoot (seen self.old).files (seen self.new).files id
+            (stored_place root durability)) }
+        ensures err { OnErr result (seen self.new ≡ seen self.old) };
+
+    /// Says which roots are local, and which are libraries.
+    fn set_root_lists(&mut self, local: LocalRoots, library: LibraryRoots)
+        ensures { seen self.new ≡ with_lists (seen self.old) local library };
+}
