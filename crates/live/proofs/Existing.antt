@@ -1,5 +1,5 @@
 -- The files that exist, of a file system that follows marks, are the live files of the marks, in one order.
-use Rattle.std.proofs.Common.{◌≡◌, ℕ, ◌+◌, Bool, true, false, List, [], ◌∷◌, ◌++◌, Option, Some, None, get_or, map, refl, sym, ◌∙◌, ap, arith, if◌then◌else◌}
+use Rattle.std.proofs.Common.{◌≡◌, ℕ, suc, ◌+◌, slice_get, subst, Bool, true, false, cond, List, [], ◌∷◌, ◌++◌, Option, Some, None, get_or, map, refl, sym, ◌∙◌, ap, arith, is_some, if◌then◌else◌}
 use Rattle.std.specs.List.{All, IsDistinct, filter_map, list_any}
 use Rattle.std.specs.Map.{keys_of, lookup}
 use Rattle.std.specs.Option.{option_map, unwrap_or}
@@ -7,22 +7,35 @@ use Rattle.std.specs.Cmp.{IsEquivalence, bool_eq_equiv}
 use Rattle.std.proofs.lemmas.Cmp.{and_equiv, nat_list_eq_equiv, on_equiv}
 use Rattle.std.proofs.lemmas.List.Elements.{All-contains_itself, All-tail}
 use Rattle.std.proofs.lemmas.Map.Keys.{IsDistinct-push}
+use Rattle.std.proofs.lemmas.Option.{get_or_from_slice_get, slice_get_within}
 use Rattle.std.proofs.lemmas.Map.Views.{lookup-from_Contains}
 use Rattle.vfs_core.specs.declared.file_state.FileState.{FileState}
-use Rattle.vfs_core.specs.declared.file_state.FileState.TheVariants.{Deleted}
+use Rattle.vfs_core.specs.declared.file_state.FileState.TheVariants.{Deleted, Excluded}
 use Rattle.vfs_core.specs.declared.marks.Mark.{Mark}
-use Rattle.vfs_core.specs.FileState.{state_of}
-use Rattle.vfs_core.specs.Files.{Files, Follows, existing, existing_from}
-use Rattle.vfs_core.specs.Marks.{live_files, live_text, mentioned}
+use Rattle.vfs_core.specs.FileState.{is_existing, state_of}
+use Rattle.vfs_core.specs.Files.{Files, Follows, existing, existing_from, state_told}
+use Rattle.vfs_core.specs.Marks.{is_out, kept_text, live_files, live_text, mentioned}
 use Rattle.vfs_core.specs.VfsPath.{Place, place_eq}
 
 -- the live files among some places, by the text that counts for each
 abbrev live_of : (Place → Option (List ℕ)) → List Place → List (Place × List ℕ)
 live_of text_of places = filter_map (λ place. option_map (λ text. (place, text)) (text_of place)) places
 
--- an entry has the state that the text that counts for it gives
+-- an entry exists where a text counts for it
 abbrev IsTold : (Place → Option (List ℕ)) → Place × FileState → Type 0
-IsTold text_of entry = entry.1 ≡ state_of (text_of entry.0)
+IsTold text_of entry = is_existing entry.1 ≡ is_some (text_of entry.0)
+
+-- a file exists where it has a text that counts and is not left out
+told-split : (is_left_out : Bool) (text : Option (List ℕ))
+    → is_existing (cond is_left_out Excluded (state_of text)) ≡ is_some (cond is_left_out None text)
+told-split true text = refl
+told-split false None = refl
+told-split false (Some text) = refl
+
+existing-told : (marks : List Mark) (place : Place)
+    → is_existing (state_told marks place) ≡ is_some (live_text marks place)
+unfolding live_text
+existing-told marks place = told-split (is_out marks place) (kept_text marks place)
 
 -- equality of places is an equivalence
 place_equiv : IsEquivalence place_eq
@@ -52,12 +65,13 @@ entries_told files marks follows = λ k d within.
     let at : lookup (place_eq entry.0) files.entries ≡ Some entry.1 =
     lookup-from_Contains place_equiv entry.0 entry.1 files.entries apart
     (All-contains_itself files.entries k d within) in
-    sym (ap (λ (s : Option FileState). unwrap_or s Deleted) at) ∙ follows.states entry.0
+    ap is_existing (sym (ap (λ (s : Option FileState). unwrap_or s Deleted) at) ∙ follows.states entry.0)
+    ∙ existing-told marks entry.0
 
 -- one more entry: the same by the text that counts for it
 existing-split : (text_of : Place → Option (List ℕ)) (number : ℕ) (place : Place) (state : FileState)
     (entries : List (Place × FileState)) (text : Option (List ℕ))
-    → state ≡ state_of text → text_of place ≡ text
+    → is_existing state ≡ is_some text → text_of place ≡ text
     → map (λ f. f.1) (existing_from (number + 1) entries) ≡ map (λ f. f.0) (live_of text_of (keys_of entries))
     → map (λ f. f.1) (existing_from number ((place, state) ∷ entries))
     ≡ map (λ f. f.0) (live_of text_of (place ∷ keys_of entries))
@@ -80,3 +94,45 @@ pub existing-Follows : (files : Files) (marks : List Mark) → Follows files mar
 existing-Follows files marks follows =
     existing-live (live_text marks) 0 files.entries (entries_told files marks follows)
     ∙ ap (λ places. map (λ f. f.0) (live_of (live_text marks) places)) follows.numbers
+
+-- a live file among entries that are numbered from here on: the same by whether the first lives
+files-split : {B : Type 0} (made : ℕ × Place → B) (of : Place × List ℕ → B) (text_of : Place → Option (List ℕ)) (number : ℕ) (place : Place)
+    (state : FileState) (entries : List (Place × FileState)) (text : Option (List ℕ))
+    → is_existing state ≡ is_some text → text_of place ≡ text
+    → ((t : List ℕ) → text_of place ≡ Some t → made (number, place) ≡ of (place, t))
+    → map made (existing_from (number + 1) entries) ≡ map of (live_of text_of (keys_of entries))
+    → map made (existing_from number ((place, state) ∷ entries)) ≡ map of (live_of text_of (place ∷ keys_of entries))
+files-split made of text_of number place state entries None told is agree more = rw (told, is) more
+files-split made of text_of number place state entries (Some text) told is agree more =
+    rw (told, is) (ap (λ b. b ∷ map made (existing_from (number + 1) entries)) (agree text is) ∙ ap (λ l. of (place, text) ∷ l) more)
+
+files-live : {B : Type 0} (made : ℕ × Place → B) (of : Place × List ℕ → B) (text_of : Place → Option (List ℕ)) (number : ℕ)
+    (entries : List (Place × FileState)) → All (IsTold text_of) entries
+    → ((k : ℕ) (entry : Place × FileState) (t : List ℕ) → slice_get entries k ≡ Some entry → text_of entry.0 ≡ Some t
+    → made (number + k, entry.0) ≡ of (entry.0, t))
+    → map made (existing_from number entries) ≡ map of (live_of text_of (keys_of entries))
+files-live made of text_of number [] told agree = refl
+files-live made of text_of number (entry ∷ entries) told agree =
+    files-split made of text_of number entry.0 entry.1 entries (text_of entry.0) (told 0 entry (omega arith)) refl
+    (λ t is. subst (λ n. made (n, entry.0) ≡ of (entry.0, t)) (omega arith) (agree 0 entry t refl is))
+    (files-live made of text_of (number + 1) entries (All-tail (IsTold text_of) entry entries told)
+    (λ k e t at is. subst (λ n. made (n, e.0) ≡ of (e.0, t)) (omega arith) (agree (suc k) e t at is)))
+
+-- what is made of the files that exist is what is made of those that live, where it agrees on each
+pub files_live : {B : Type 0} (made : ℕ × Place → B) (of : Place × List ℕ → B) (files : Files) (marks : List Mark) → Follows files marks
+    → ((k : ℕ) (entry : Place × FileState) (t : List ℕ) → slice_get files.entries k ≡ Some entry → live_text marks entry.0 ≡ Some t
+    → made (k, entry.0) ≡ of (entry.0, t))
+    → map made (existing files) ≡ map of (live_files marks)
+files_live made of files marks follows agree =
+    files-live made of (live_text marks) 0 files.entries (entries_told files marks follows)
+    (λ k entry t at is. subst (λ n. made (n, entry.0) ≡ of (entry.0, t)) (omega arith) (agree k entry t at is))
+    ∙ ap (λ places. map of (live_of (live_text marks) places)) follows.numbers
+
+-- a file that lives exists
+pub file_told : (files : Files) (marks : List Mark) → Follows files marks → (k : ℕ) (entry : Place × FileState) (t : List ℕ)
+    → slice_get files.entries k ≡ Some entry → live_text marks entry.0 ≡ Some t → is_existing entry.1 ≡ true
+file_told files marks follows k entry t at is =
+    let within = slice_get_within files.entries k entry at in
+    let same : get_or files.entries k entry ≡ entry = get_or_from_slice_get files.entries k entry entry at in
+    let told = entries_told files marks follows k entry within in
+    subst (λ (e : Place × FileState). is_existing e.1 ≡ is_some (live_text marks e.0)) same told ∙ ap is_some is

@@ -10,5 +10,12 @@ pub mod Outcomes
 pub mod Pages
 pub mod Room
 pub mod Running
-pub mod Turns
+pub mod Slots
+pub mod Flushed
 pub mod Words
+pub mod Refreshed
+pub mod Shown
+pub mod Sets
+pub mod TextsGiven
+pub mod Imaged
+pub mod Refusing

@@ -1,18 +1,14 @@
--- The page as JSON data, its line, and that it is the page of the live files.
-use Rattle.std.proofs.Common.{◌≡◌, ℕ, Bool, true, false, List, [], ◌∷◌, ◌++◌, map, refl, sym, ◌∙◌, ap}
-use Rattle.std.proofs.lemmas.Simd.{map-map}
+-- The page that a database shows as JSON data, and its line.
+use Rattle.std.proofs.Common.{◌≡◌, ℕ, true, false, List, [], ◌∷◌, ◌++◌, map, refl, ◌∙◌, ap}
 use Rattle.std.specs.Prelude.{IfOk, Result, Ok, Err, String, string_bytes}
 use Rattle.std.specs.declared.alloc.Global.{Global}
 use Rattle.serde_json.specs.Data.{Data, item, no_items, string}
 use Rattle.serde_json.specs.View.{items_of, items_view, view}
 use Rattle.serde_json.specs.Written.{compact_text, has_float, items_have_float}
 use Rattle.serde_json.specs.declared.value.Value.{Value}
-use Rattle.vfs_core.specs.declared.marks.Mark.{Mark}
-use Rattle.vfs_core.specs.Files.{Files, Follows, existing}
-use Rattle.vfs_core.specs.Marks.{live_files}
-use Rattle.vfs_core.specs.VfsPath.{Place}
-use Rattle.live.specs.Page.{live_paths, page, page_data, page_of, set_data, sorted_texts, texts_data}
-use Rattle.live.proofs.Existing.{existing-Follows}
+use Rattle.input_db.specs.Database.{Database}
+use Rattle.input_db.specs.declared.source_root.SourceRoot.{SourceRoot}
+use Rattle.live.specs.Page.{page, page_data, page_of, paths_shown, roots_listed, set_data, set_shown, sorted_texts, texts_data}
 
 -- strings are the data of their texts
 strings-data : (texts : List (List ℕ)) → items_of (map string texts) ≡ texts_data texts
@@ -29,26 +25,37 @@ texts-no_float : (texts : List (List ℕ)) → items_have_float (texts_data text
 texts-no_float [] = refl
 texts-no_float (text ∷ texts) = texts-no_float texts
 
--- a page has no float
-page_no_float : (files : List (List ℕ)) (is_local : Bool)
-    → has_float (page_data no_items (item (set_data files is_local) no_items)) ≡ false
-page_no_float files is_local = rw (texts-no_float files) refl
+-- so sets have none
+sets-no_float : (roots : List SourceRoot) → items_have_float (items_of (map set_shown roots)) ≡ false
+sets-no_float [] = refl
+sets-no_float (root ∷ roots) = rw (texts-no_float (sorted_texts (paths_shown root)), sets-no_float roots) refl
 
--- the line of a page's value is the page
+-- nor has the page that a database shows
+page_no_float : (roots : List SourceRoot) → has_float (page_data no_items (items_of (map set_shown roots))) ≡ false
+page_no_float roots = rw (sets-no_float roots) refl
+
+-- the line of its value is the page
+pub shown_line : {E : Type 0} (db : Database) (sets : List Value) (value : Data) (line : Result (String Global) E)
+    → value ≡ page_data no_items (items_view sets)
+    → map view sets ≡ map set_shown (roots_listed db)
+    → IfOk line (λ text. has_float value ≡ false → string_bytes text ≡ compact_text value ++ 10 ∷ [])
+    → IfOk line (λ text. string_bytes text ≡ page_of db)
+unfolding page_of
+shown_line db sets value (Ok text) is shown written =
+    let all : value ≡ page_data no_items (items_of (map set_shown (roots_listed db))) = is ∙ ap (λ ds. page_data no_items (items_of ds)) shown in
+    written (ap has_float all ∙ page_no_float (roots_listed db)) ∙ ap (λ d. compact_text d ++ 10 ∷ []) all
+shown_line db sets value (Err e) is shown written = tt
+
+-- the page of these files has no float
+files_no_float : (files : List (List ℕ)) → has_float (page_data no_items (item (set_data files true) no_items)) ≡ false
+files_no_float files = rw (texts-no_float files) refl
+
+-- the line of its value is the page
 pub page_line : {E : Type 0} (files : List (List ℕ)) (value : Data) (line : Result (String Global) E)
     → value ≡ page_data no_items (item (set_data files true) no_items)
     → IfOk line (λ text. has_float value ≡ false → string_bytes text ≡ compact_text value ++ 10 ∷ [])
     → IfOk line (λ text. string_bytes text ≡ page files)
 unfolding page
 page_line files value (Ok text) is written =
-    written (ap has_float is ∙ page_no_float files true) ∙ ap (λ d. compact_text d ++ 10 ∷ []) is
+    written (ap has_float is ∙ files_no_float files) ∙ ap (λ d. compact_text d ++ 10 ∷ []) is
 page_line files value (Err e) is written = tt
-
--- where the files follow the marks, their pages are one
-pub page_of-Follows : (files : Files) (marks : List Mark) → Follows files marks
-    → page_of files ≡ page (live_paths marks)
-page_of-Follows files marks follows =
-    ap (λ texts. page (sorted_texts texts))
-    (sym (map-map (λ (p : Place). p.text) (λ f. f.1) (existing files))
-    ∙ ap (λ places. map (λ (p : Place). p.text) places) (existing-Follows files marks follows)
-    ∙ map-map (λ (p : Place). p.text) (λ f. f.0) (live_files marks))

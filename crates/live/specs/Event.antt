@@ -9,7 +9,7 @@ use Rattle.serde_json.specs.Written.{has_float}
 use Rattle.base_text.specs.Paths.{normal, path_text}
 use Rattle.vfs_core.specs.VfsPath.{Place}
 use Rattle.live.specs.declared.event.Event.{Event}
-use Rattle.live.specs.declared.event.Event.TheVariants.{File, Flush}
+use Rattle.live.specs.declared.event.Event.TheVariants.{Exclude, File, Flush}
 use Rattle.live.specs.declared.event.EventError.{EventError}
 use Rattle.live.specs.declared.event.EventError.TheVariants.{Refused, OutOfMemory}
 
@@ -39,9 +39,17 @@ content_of (Some (object ms)) = None
 abbrev pub file_of : Data → Option Event
 file_of d = option_and_then (λ path. option_map (λ text. File path text) (content_of (get (codes "text") d))) (place_at d)
 
+-- a file is left out, for good
+abbrev pub exclude_of : Data → Option Event
+exclude_of d = option_map Exclude (place_at d)
+
 -- the shapes of the events by name
 abbrev pub shape_of : Data → List ℕ → Option Event
-shape_of d name = if bytes_eq name (codes "file") then file_of d else if bytes_eq name (codes "flush") then Some Flush else None
+shape_of d name =
+    if bytes_eq name (codes "file") then file_of d
+    else if bytes_eq name (codes "exclude") then exclude_of d
+    else if bytes_eq name (codes "flush") then Some Flush
+    else None
 
 -- the event that a document is
 unfoldable pub event_of : Data → Option Event

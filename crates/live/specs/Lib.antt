@@ -8,3 +8,5 @@ pub mod Run
 pub mod Session
 pub mod Turn
 pub mod Written
+pub mod Refresh
+pub mod Image

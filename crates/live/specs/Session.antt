@@ -4,11 +4,13 @@ use Rattle.std.specs.List.{fold, list_any}
 use Rattle.base_text.specs.declared.limits.Limit.TheVariants.{Bytes, Paths}
 use Rattle.vfs_core.specs.VfsPath.{Place, place_eq}
 use Rattle.vfs_core.specs.declared.marks.Mark.{Mark}
+use Rattle.vfs_core.specs.declared.marks.MarkKind.{MarkKind}
+use Rattle.vfs_core.specs.declared.marks.MarkKind.TheVariants.{Out}
 use Rattle.vfs_core.specs.Marks.{mentioned}
 use Rattle.vfs_core.specs.Files.{kind_of}
 use Rattle.live.specs.declared.config.LiveConfig.{LiveConfig}
 use Rattle.live.specs.declared.event.Event.{Event}
-use Rattle.live.specs.declared.event.Event.TheVariants.{File, Flush}
+use Rattle.live.specs.declared.event.Event.TheVariants.{Exclude, File, Flush}
 use Rattle.live.specs.declared.fault.LiveError.{LiveError}
 use Rattle.live.specs.declared.fault.LiveError.TheVariants.{Script, TooMany}
 use Rattle.live.specs.Event.{event}
@@ -39,9 +41,16 @@ refuses s error = record { state = s; pages = []; refusal = Some error }
 abbrev pub has_room : State → Place → Bool
 has_room s path = list_any (place_eq path) (mentioned s.marks) || nat_lt (length (mentioned s.marks)) s.config.limits.paths
 
+-- what is said of a path that has room
+abbrev pub marked : State → Place → MarkKind → Turn
+marked s path kind =
+    if has_room s path then takes (record s { marks = record { path = path; kind = kind } ∷ s.marks }) []
+    else refuses s (TooMany Paths)
+
 -- one event
 unfoldable pub turn : State → Event → Turn
-turn s (File path text) = if has_room s path then takes (record s { marks = record { path = path; kind = kind_of text } ∷ s.marks }) [] else refuses s (TooMany Paths)
+turn s (File path text) = marked s path (kind_of text)
+turn s (Exclude path) = marked s path Out
 turn s Flush = takes s (page (live_paths s.marks) ∷ [])
 
 -- the line of this number: its event's turn, and a line that is no event is refused

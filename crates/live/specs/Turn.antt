@@ -1,6 +1,11 @@
 -- When a `Live` holds a state, and what one step does to both: the state's parts, one clause each.
 use Rattle.std.specs.Prelude.{◌≡◌, ℕ, true, false, List, [], Option, Some, None}
+use Rattle.std.specs.Str.{is_utf8}
+use Rattle.std.specs.Option.{option_map}
 use Rattle.vfs_core.specs.Files.{Follows}
+use Rattle.vfs_core.specs.Texts.{BringsTo, all_pass}
+use Rattle.input_db.specs.Database.{Database}
+use Rattle.input_db.specs.Files.{text_of}
 use Rattle.live.specs.declared.session.Live.{Live}
 use Rattle.live.specs.declared.fault.LiveError.{LiveError}
 use Rattle.live.specs.Written.{AppendsPages}
@@ -10,11 +15,18 @@ use Rattle.live.specs.Config.{greatest}
 use Rattle.live.specs.Fault.{IsTurnError}
 use Rattle.live.specs.Session.{State, Turn}
 
--- a session holds a state
+-- the texts that a database knows
+abbrev pub texts_known : Database → ℕ → Option (List ℕ)
+texts_known db file = option_map (λ text. text.text) (text_of db.files file)
+
+-- a session holds a state: its files follow the marks, and what has changed of them since the last flush brings the texts of
+-- the database to those that live
 pub record Holds (live : Live) (s : State) : Type 0 where
   pub config : live.config ≡ s.config
   pub limit : live.files.limit ≡ s.config.limits.paths
   pub files : Follows live.files s.marks
+  pub brings : BringsTo live.files (texts_known live.db) s.marks
+  pub texts : all_pass is_utf8 live.files.batch ≡ true
   pub ended : live.ended ≡ s.ended
 
 -- an earlier flush was refused

@@ -60,7 +60,8 @@ pub(crate) struct Given {
 fn read_options(alloc: Global, words: &[String]) -> Result<Given, WordsError>
     ensures fits { IfOk result FitsGiven }
     ensures ok { IfOk result (λ given. with_options nothing_given (map string_bytes words.now) ≡ Some given) }
-    ensures usage { IsErrOf result WordsError.Usage → with_options nothing_given (map string_bytes words.now) ≡ None }
+    ensures usage { IsErrOf result WordsError.Usage
+        → with_options nothing_given (map string_bytes words.now) ≡ None }
 {
     let mut given = Given {
         bytes: None,

@@ -1,10 +1,11 @@
 //! Events: what a script line says.
 
-ghost use Rattle.std.specs.Prelude.{◌≡◌, IfOk, codes, option_map};
+ghost use Rattle.std.specs.Prelude.{◌≡◌, IfOk, IfSome, codes, option_map};
+ghost use Rattle.std.specs.Str.{IsUtf8};
 ghost use Rattle.vfs_core.specs.Files.{bytes_of};
 ghost use Rattle.serde_json.specs.Find.{get};
 ghost use Rattle.serde_json.specs.View.{view};
-ghost use Rattle.live.specs.Event.{Tells, content_of, event, event_of, file_of, place_at, text_at};
+ghost use Rattle.live.specs.Event.{Tells, content_of, event, event_of, exclude_of, file_of, place_at, text_at};
 
 use crate::floats::has_float;
 use base_text::{PathError, Text, TryClone};
@@ -38,6 +39,8 @@ impl From<AllocError> for EventError {
 pub enum Event {
     /// A file gets a text, or is deleted.
     File { path: VfsPath, text: Option<Text> },
+    /// A file is left out, for good.
+    Exclude { path: VfsPath },
     /// A page is to be written.
     Flush,
 }
@@ -49,6 +52,10 @@ impl TryClone for Event {
                 let path = path.try_clone(alloc)?;
                 let text = text.try_clone(alloc)?;
                 Ok(Event::File { path, text })
+            }
+            Event::Exclude { path } => {
+                let path = path.try_clone(alloc)?;
+                Ok(Event::Exclude { path })
             }
             Event::Flush => Ok(Event::Flush),
         }
@@ -84,6 +91,7 @@ fn of_value(alloc: Global, value: &Value) -> Result<Event, EventError>
     }
     match text_of(value, "event") {
         Some("file") => file_of(alloc, value),
+        Some("exclude") => exclude_of(alloc, value),
         Some("flush") => Ok(Event::Flush),
         Some(_) => Err(EventError::Refused),
         None => Err(EventError::Refused),
@@ -97,6 +105,14 @@ fn file_of(alloc: Global, value: &Value) -> Result<Event, EventError>
     let path = path_of(alloc, value)?;
     let text = content_of(alloc, value)?;
     Ok(Event::File { path, text })
+}
+
+// The event of a document that is named `exclude`.
+fn exclude_of(alloc: Global, value: &Value) -> Result<Event, EventError>
+    ensures { Tells result (exclude_of (view value.now)) }
+{
+    let path = path_of(alloc, value)?;
+    Ok(Event::Exclude { path })
 }
 
 // The text under a key.
@@ -134,7 +150,8 @@ fn content_of(alloc: Global, value: &Value) -> Result<Option<Text>, EventError>
 
 /// The bytes of a text, where there is one.
 pub(crate) fn bytes_of(alloc: Global, text: &Option<Text>) -> Result<Option<Vec<u8>>, AllocError>
-    ensures { IfOk result (λ contents. bytes_of contents ≡ text.now) }
+    ensures same { IfOk result (λ contents. bytes_of contents ≡ text.now) }
+    ensures valid { IfOk result (λ contents. IfSome (bytes_of contents) IsUtf8) }
 {
     match text {
         None => Ok(None),

@@ -9,6 +9,7 @@ mod floats;
 mod lines;
 mod page;
 pub mod plain;
+mod refresh;
 pub mod run;
 pub mod session;
 #[cfg(test)]

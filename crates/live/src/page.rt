@@ -7,36 +7,69 @@ ghost use Rattle.serde_json.specs.Written.{compact_text, has_float};
 ghost use Rattle.serde_json.specs.Data.{item, no_items};
 ghost use Rattle.serde_json.specs.View.{items_view, view};
 ghost use Rattle.base_text.specs.Causes.{Rose};
-ghost use Rattle.vfs_core.specs.Files.{existing};
 ghost use Rattle.live.specs.Fault.{IsFlushError};
-ghost use Rattle.live.specs.Page.{page_data, page_of, set_data, texts_data};
+ghost use Rattle.live.specs.Page.{numbers_listed, page_data, page_of, paths_shown, roots_listed, set_data, set_shown, texts_data};
 ghost use Rattle.live.specs.Written.{AppendsFront};
 ghost use Rattle.live.specs.declared.fault.LiveError.TheVariants.{WriteFault};
 
 use crate::fault::LiveError;
 use base_text::{ByteSink, SinkError, Text, sort_all, write_all};
+use input_db::{InputDb, SourceDatabase, SourceRoot, SourceRootId};
 use serde_json::{Value, json};
 use std::alloc::{AllocError, Global};
-use vfs_core::Vfs;
+use std::collections::BTreeSet;
 
-/// The page of the files that exist.
-pub(crate) fn page(alloc: Global, files: &Vfs) -> Result<String, AllocError>
-    ensures { IfOk result (λ text. string_bytes text ≡ page_of files.now) }
+/// The page that a database shows where no project was loaded.
+#[tactic(auto, unfolding(crate::specs::Page::page_of))]
+pub(crate) fn page(alloc: Global, db: &InputDb) -> Result<String, AllocError>
+    ensures { IfOk result (λ text. string_bytes text ≡ page_of db.now) }
 {
-    let mut paths = texts_of(alloc, files)?;
-    sort_all(&mut paths)?;
-    let value = unloaded(alloc, paths)?;
+    let sets = sets_of(alloc, db)?;
+    let value = page_value(alloc, Vec::new(alloc), sets)?;
     line_of(alloc, &value)
 }
 
-// The page where no project was loaded: no entry, and the last set, which is local.
-fn unloaded(alloc: Global, files: Vec<Text>) -> Result<Value, AllocError>
-    ensures { IfOk result (λ value. view value
-        ≡ page_data no_items (item (set_data files.items true) no_items)) }
+// The sets of the source roots that the lists name, in order.
+fn sets_of(alloc: Global, db: &InputDb) -> Result<Vec<Value>, AllocError>
+    ensures { IfOk result (λ sets. map view sets.items ≡ map set_shown (roots_listed db.now)) }
 {
     let mut sets = Vec::new(alloc);
-    sets.push(set_value(alloc, files, true)?)?;
-    page_value(alloc, Vec::new(alloc), sets)
+    for id in listed(alloc, db)? {
+        if db.files().has_root(id) {
+            sets.push(set_of(alloc, &db.source_root(id).source_root)?)?;
+        }
+    }
+    Ok(sets)
+}
+
+// The numbers of the source roots that the lists name, in order.
+fn listed(alloc: Global, db: &InputDb) -> Result<Vec<SourceRootId>, AllocError>
+    ensures { IfOk result (λ ids. ids.items ≡ numbers_listed db.now) }
+{
+    let mut ids = Vec::new(alloc);
+    append(&mut ids, &db.local_roots().roots)?;
+    append(&mut ids, &db.library_roots().roots)?;
+    sort_all(&mut ids)?;
+    Ok(ids)
+}
+
+// Puts the numbers of a list behind others.
+fn append(ids: &mut Vec<SourceRootId>, roots: &BTreeSet<SourceRootId>) -> Result<(), AllocError>
+    ensures { OnOk result (ids.new.items ≡ ids.old.items ++ roots.now.keys) }
+{
+    for id in roots {
+        ids.push(*id)?;
+    }
+    Ok(())
+}
+
+// A source root as the page shows it.
+fn set_of(alloc: Global, root: &SourceRoot) -> Result<Value, AllocError>
+    ensures { IfOk result (λ value. view value ≡ set_shown root.now) }
+{
+    let mut paths = texts_of(alloc, root)?;
+    sort_all(&mut paths)?;
+    set_value(alloc, paths, !root.is_library)
 }
 
 // A value's compact text, and a newline.
@@ -49,13 +82,15 @@ fn line_of(alloc: Global, value: &Value) -> Result<String, AllocError>
     Ok(line)
 }
 
-// The paths of the files that exist, by number.
-fn texts_of(alloc: Global, files: &Vfs) -> Result<Vec<Text>, AllocError>
-    ensures { IfOk result (λ texts. texts.items ≡ map (λ f. f.1.text) (existing files.now)) }
+// The paths of the files of a source root.
+fn texts_of(alloc: Global, root: &SourceRoot) -> Result<Vec<Text>, AllocError>
+    ensures { IfOk result (λ texts. texts.items ≡ paths_shown root.now) }
 {
     let mut texts = Vec::new(alloc);
-    for (_, path) in files.iter() {
-        texts.push(Text::of_str(alloc, path.as_str())?)?;
+    for file in root.iter() {
+        if let Some(path) = root.path_for_file(&file) {
+            texts.push(Text::of_str(alloc, path.as_str())?)?;
+        }
     }
     Ok(texts)
 }
@@ -88,20 +123,20 @@ fn page_value(alloc: Global, crates: Vec<Value>, sets: Vec<Value>) -> Result<Val
     json!(in alloc; {"crates": crates, "sets": sets})
 }
 
-/// Writes the page of the files that exist.
+/// Writes the page that a database shows.
 pub(crate) fn write_page<K: ByteSink>(
     alloc: Global,
-    files: &Vfs,
+    db: &InputDb,
     out: &mut K,
 ) -> Result<(), LiveError>
-    ensures ok { OnOk result (Appends (K.held out.old) (K.held out.new) (page_of files.now)) }
+    ensures ok { OnOk result (Appends (K.held out.old) (K.held out.new) (page_of db.now)) }
     ensures err { OnErr result
-        (AppendsFront (K.held out.old) (K.held out.new) (page_of files.now ∷ [])) }
+        (AppendsFront (K.held out.old) (K.held out.new) (page_of db.now ∷ [])) }
     ensures write { IsErrOf result WriteFault → Rose (K.faults out.old) (K.faults out.new) }
     ensures only { IfErr result IsFlushError }
     ensures faults { K.faults out.old ≤ K.faults out.new }
 {
-    let text = page(alloc, files)?;
+    let text = page(alloc, db)?;
     match write_all(out, text.as_str().as_bytes()) {
         Ok(()) => Ok(()),
         Err(SinkError::Failed) => Err(LiveError::WriteFault),

@@ -1,6 +1,8 @@
 //! The plain account of a session: a slow program that computes what the definitions say, as they say
 //! it. It keeps every mark and every line. `live_run` reads a stream in place of it, and tests compare.
 
+#[cfg(test)]
+mod generated;
 mod lines;
 mod page;
 #[cfg(test)]

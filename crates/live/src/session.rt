@@ -6,15 +6,19 @@ use crate::config::LiveConfig;
 use crate::event::{Event, bytes_of};
 use crate::fault::{LiveError, StepError};
 use crate::page::write_page;
-use base_text::{ByteSink, Limit, Limits, Text, TryClone};
+use crate::refresh::{change_of, source_roots};
+use base_text::{ByteSink, Limit, Limits, Numbers, Text, TryClone};
+use input_db::{InputDb, Nonce};
 use std::alloc::{AllocError, Global};
 use vfs_core::{Vfs, VfsError, VfsPath};
+use vfs_sets::FileSetConfig;
 
 /// A session: what a script said so far.
 #[derive(Drop)]
 pub struct Live {
     config: LiveConfig,
     files: Vfs,
+    db: InputDb,
     ended: bool,
     ghost fits: { FitsLimits config.limits },
 }
@@ -27,11 +31,12 @@ impl Live {
     ghost use Rattle.vfs_core.specs.Files.{Follows};
     ghost use Rattle.live.specs.Config.{FitsLimits};
     ghost use Rattle.live.specs.Fault.{IsFlushError, IsRefusal, IsTurnError};
-    ghost use Rattle.live.specs.Page.{page_of};
+    ghost use Rattle.live.specs.Image.{ShowsShape};
+    ghost use Rattle.live.specs.Refresh.{Refreshes};
     ghost use Rattle.live.specs.Written.{AppendsFront};
     ghost use Rattle.live.specs.Session.{State, turn};
     ghost use Rattle.live.specs.Turn.{HasEnded, Holds, IsStepError, PutsFile, RefusesFile, RefusesTurn, TakesTurn, first_state};
-    ghost use Rattle.live.specs.declared.event.Event.TheVariants.{File, Flush};
+    ghost use Rattle.live.specs.declared.event.Event.TheVariants.{Exclude, File, Flush};
     ghost use Rattle.live.specs.declared.fault.LiveError.{LiveError};
     ghost use Rattle.live.specs.declared.fault.LiveError.TheVariants.{WriteFault};
     ghost use Rattle.live.specs.declared.fault.StepError.TheVariants.{Refused, Ended};
@@ -44,9 +49,11 @@ impl Live {
         let config = LiveConfig {
             limits: Limits::greatest(),
         };
+        let nonce = Nonce::new(&mut Numbers::new()).unwrap_or(Nonce::invalid());
         Ok(Live {
             config,
             files: Vfs::new(alloc, config.limits.paths),
+            db: InputDb::new(alloc, nonce),
             ended: false,
         })
     }
@@ -73,6 +80,13 @@ impl Live {
         ensures { (s : State) → Holds self.now s → Follows result.now s.marks }
     {
         &self.files
+    }
+
+    /// The database that the last flush made.
+    pub fn db(&self) -> &InputDb
+        ensures { result.now ≡ self.now.db }
+    {
+        &self.db
     }
 
     // How many bytes one run takes.
@@ -105,7 +119,12 @@ impl Live {
             → Rose (K.faults out.old) (K.faults out.new) }
         ensures only { IfErr result IsStepError }
 
+        // The database after a flush.
+        ensures image { OnOk result (event.now ≡ Flush
+            → (s : State) → Holds self.old s → ShowsShape self.new s.marks) }
+
         // What stands after an error.
+        ensures kept { OnErr result ((event.now ≡ Flush → ⊥) → self.new ≡ self.old) }
         ensures written { OnErr result ((s : State) → Holds self.old s
             → AppendsFront (K.held out.old) (K.held out.new) (turn s event.now).pages) }
         ensures ends { OnErr result (event.now ≡ Flush → HasEnded self.new) }
@@ -134,6 +153,9 @@ impl Live {
             → RefusesTurn (turn s event.now) r self.new (K.held out.old) (K.held out.new)) }
         ensures write { IsErrOf result WriteFault → Rose (K.faults out.old) (K.faults out.new) }
         ensures only { IfErr result IsTurnError }
+        ensures image { OnOk result (event.now ≡ Flush
+            → (s : State) → Holds self.old s → ShowsShape self.new s.marks) }
+        ensures kept { OnErr result ((event.now ≡ Flush → ⊥) → self.new ≡ self.old) }
         ensures written { OnErr result ((s : State) → Holds self.old s
             → AppendsFront (K.held out.old) (K.held out.new) (turn s event.now).pages) }
         ensures ends { OnErr result (event.now ≡ Flush → HasEnded self.new) }
@@ -141,6 +163,7 @@ impl Live {
     {
         match event {
             Event::File { path, text } => self.put_file(alloc, path, text),
+            Event::Exclude { path } => self.exclude(alloc, path),
             Event::Flush => self.flush(alloc, out),
         }
     }
@@ -159,6 +182,7 @@ impl Live {
             → RefusesFile (turn s (File path.now text.now)) r self.new) }
         ensures only { IfErr result IsTurnError }
         ensures no_write { IsErrOf result WriteFault → ⊥ }
+        ensures unchanged { OnErr result (self.new ≡ self.old) }
     {
         let path = path.try_clone(alloc)?;
         let contents = bytes_of(alloc, text)?;
@@ -169,10 +193,31 @@ impl Live {
         }
     }
 
-    // Writes a page. A page that does not reach the sink whole ends the session.
+    // Says of a file that it is left out.
+    #[tactic(auto, unfolding(crate::specs::Session::turn))]
+    fn exclude(&mut self, alloc: Global, path: &VfsPath) -> Result<(), LiveError>
+        ensures ok { OnOk result ((s : State) → Holds self.old s
+            → PutsFile (turn s (Exclude path.now)) self.new) }
+        ensures refused { IfErr result (λ r. IsRefusal r → (s : State) → Holds self.old s
+            → RefusesFile (turn s (Exclude path.now)) r self.new) }
+        ensures only { IfErr result IsTurnError }
+        ensures no_write { IsErrOf result WriteFault → ⊥ }
+        ensures unchanged { OnErr result (self.new ≡ self.old) }
+    {
+        let path = path.try_clone(alloc)?;
+        match self.files.insert_excluded_file(path) {
+            Ok(()) => Ok(()),
+            Err(VfsError::TooMany) => Err(LiveError::TooMany(Limit::Paths)),
+            Err(VfsError::OutOfMemory) => Err(LiveError::OutOfMemory),
+        }
+    }
+
+    // Brings the files into the database and writes a page. A flush that is refused, or whose page
+    // does not reach the sink whole, ends the session.
     fn flush<K: ByteSink>(&mut self, alloc: Global, out: &mut K) -> Result<(), LiveError>
         ensures ok { OnOk result ((s : State) → Holds self.old s
             → TakesTurn (turn s Flush) self.new (K.held out.old) (K.held out.new)) }
+        ensures image { OnOk result ((s : State) → Holds self.old s → ShowsShape self.new s.marks) }
         ensures written { OnErr result ((s : State) → Holds self.old s
             → AppendsFront (K.held out.old) (K.held out.new) (turn s Flush).pages) }
         ensures write { IsErrOf result WriteFault → Rose (K.faults out.old) (K.faults out.new) }
@@ -180,12 +225,30 @@ impl Live {
         ensures ends { OnErr result (HasEnded self.new) }
         ensures faults { K.faults out.old ≤ K.faults out.new }
     {
-        match write_page(alloc, &self.files, out) {
+        match self.refresh(alloc) {
+            Ok(()) => {}
+            Err(error) => {
+                self.ended = true;
+                return Err(LiveError::from(error));
+            }
+        }
+        match write_page(alloc, &self.db, out) {
             Ok(()) => Ok(()),
             Err(error) => {
                 self.ended = true;
                 Err(error)
             }
         }
+    }
+
+    // Brings the files that exist, and what has changed of them, into the database.
+    fn refresh(&mut self, alloc: Global) -> Result<(), AllocError>
+        ensures { OnOk result (Refreshes self.old self.new) }
+    {
+        let sets = FileSetConfig::new(alloc)?.partition(alloc, &self.files)?;
+        let roots = source_roots(alloc, sets)?;
+        let changes = self.files.take_changes();
+        let change = change_of(alloc, &self.db, roots, changes)?;
+        change.apply(alloc, &mut self.db)
     }
 }

@@ -6,7 +6,10 @@ use crate::event::Event;
 use crate::fault::{LiveError, StepError, fault_text};
 use crate::run::live_run;
 use crate::session::Live;
-use base_text::{FaultSink, FaultSource, Limit, Limits, MemorySink, MemorySource, TryClone};
+use base_text::{
+    FaultSink, FaultSource, FileId, Limit, Limits, MemorySink, MemorySource, Text, TryClone,
+};
+use input_db::{SourceDatabase, SourceRootId};
 use std::alloc::Global;
 use std::process::Abort;
 use std::test::Fail;
@@ -47,6 +50,16 @@ fn scripts_give_their_pages(rt: HostRuntime) -> Result<(), Fail> {
             "{\"event\":\"file\",\"path\":\"/n.rs\",\"text\":\"a\"}\n{\"event\":\"file\",\"path\":\"/n.rs\",\"text\":null}\n{\"event\":\"flush\"}\n",
             0,
             EMPTY,
+        ),
+        (
+            "{\"event\":\"file\",\"path\":\"/n.rs\",\"text\":\"a\"}\n{\"event\":\"exclude\",\"path\":\"/n.rs\"}\n{\"event\":\"file\",\"path\":\"/n.rs\",\"text\":\"b\"}\n{\"event\":\"flush\"}\n",
+            0,
+            EMPTY,
+        ),
+        (
+            "{\"event\":\"exclude\",\"path\":\"/x\"}\n{\"event\":\"file\",\"path\":\"/n.rs\",\"text\":\"a\"}\n{\"event\":\"flush\"}\n",
+            0,
+            "{\"crates\":[],\"sets\":[{\"files\":[\"/n.rs\"],\"local\":true}]}\n",
         ),
     ];
     for (script, status, pages) in rows {
@@ -289,5 +302,40 @@ fn a_session_is_stepped_event_by_event(rt: HostRuntime) -> Result<(), Fail> {
         Ok(path) => assert!(rt; live.files().file_id(&path).is_some()),
         Err(_) => return Err("no path")?,
     }
+    Ok(())
+}
+
+#[test]
+fn a_flush_brings_its_files_into_the_database(rt: HostRuntime) -> Result<(), Fail> {
+    let alloc = rt.alloc();
+    let mut live = Live::new(alloc)?;
+    let mut out = MemorySink::new(alloc);
+    for text in ["x", "y"] {
+        let path = VfsPath::new_real_path(alloc, "/a").expect(&rt, "an absolute path");
+        let text = Some(Text::of_str(alloc, text)?);
+        let told = live.step(alloc, &Event::File { path, text }, &mut out);
+        assert_eq!(rt; told, Ok(()));
+        assert_eq!(rt; live.step(alloc, &Event::Flush, &mut out), Ok(()));
+    }
+    let id = FileId::from_raw(0);
+    let db = live.db();
+    assert!(rt; db.files().has_text(id) && db.files().has_file_root(id));
+    assert_eq!(rt; db.file_text(id).text.as_str(), "y");
+    assert_eq!(rt; db.file_source_root(id).source_root_id, SourceRootId(0));
+    assert_eq!(rt; db.local_roots().roots.len(), 1);
+    assert_eq!(rt; db.library_roots().roots.len(), 0);
+    Ok(())
+}
+
+#[test]
+fn an_exclusion_passes_the_limit_of_paths_too(rt: HostRuntime) -> Result<(), Fail> {
+    let alloc = rt.alloc();
+    let script =
+        "{\"event\":\"file\",\"path\":\"/a\",\"text\":\"\"}\n{\"event\":\"exclude\",\"path\":\"/b\"}\n";
+    let words = words_of(alloc, "--limit-paths 1")?;
+    let (status, pages, told) = run_words(alloc, script, words.as_slice())?;
+    assert_eq!(rt; status, 17);
+    assert_eq!(rt; pages.as_str(), "");
+    assert_eq!(rt; told.as_str(), "too many paths\n");
     Ok(())
 }

@@ -3,8 +3,7 @@
 ghost use Rattle.std.specs.Prelude.{◌≡◌, ◌^◌, ◌+◌, ◌-◌, ◌<◌, ◌≤◌, [], ◌∷◌, ◌++◌, IfOk, map};
 ghost use Rattle.vfs_core.specs.Files.{kind_of};
 ghost use Rattle.live.specs.Event.{event};
-ghost use Rattle.live.specs.Session.{has_room, refuses, take_line, takes, turn, turn_of, turns};
-ghost use Rattle.live.specs.declared.event.Event.TheVariants.{File};
+ghost use Rattle.live.specs.Session.{has_room, marked, refuses, take_line, takes, turn, turn_of, turns};
 
 use crate::event::{Event, EventError};
 use crate::fault::LiveError;
@@ -94,21 +93,17 @@ fn with_mark(mut state: PlainState, mark: Mark) -> Result<PlainState, AllocError
     Ok(state)
 }
 
-// The event that says of a file that it has a text, or is deleted.
-#[tactic(auto, unfolding(crate::specs::Session::turn))]
-fn file_turn(
+// What is said of a path that has room.
+fn marked(
     alloc: Global,
     state: PlainState,
     path: VfsPath,
-    text: Option<Text>,
+    kind: MarkKind,
 ) -> Result<PlainTurn, AllocError>
-    ensures { IfOk result (λ made. made ≡ turn state (File path text)) }
+    ensures { IfOk result (λ made. made ≡ marked state path kind) }
 {
     if has_room(alloc, &state, &path)? {
-        let mark = Mark {
-            path,
-            kind: kind_of(text),
-        };
+        let mark = Mark { path, kind };
         let state = with_mark(state, mark)?;
         Ok(takes(alloc, state))
     } else {
@@ -122,7 +117,8 @@ fn turn(alloc: Global, state: PlainState, event: Event) -> Result<PlainTurn, All
     ensures { IfOk result (λ made. made ≡ turn state event) }
 {
     match event {
-        Event::File { path, text } => file_turn(alloc, state, path, text),
+        Event::File { path, text } => marked(alloc, state, path, kind_of(text)),
+        Event::Exclude { path } => marked(alloc, state, path, MarkKind::Out),
         Event::Flush => {
             let text = page(alloc, state.marks.as_slice())?;
             takes_page(alloc, state, text)

@@ -1,17 +1,11 @@
--- The iterator yields the files that exist, each with its path.
-use Rattle.std.proofs.Common.{◌≡◌, ◌∙◌, ap, map, sym}
-use Rattle.std.proofs.lemmas.Map.Iter.{iter_end}
-use Rattle.std.proofs.lemmas.Simd.{map-map}
-use Rattle.vfs_core.specs.Files.{existing, numbered_path}
+use Rattle.std.proofs.Common.{◌∙◌}
+use Rattle.live.proofs.Shown.{path_more, path_none}
 use Rattle.live.proofs.page.texts_of.Goals as goal
 
-pub returns : goal.returns
-returns c =
-    let start : c.into_iter-path-iterator.result ≡ existing c.args.files.now =
-    c.into_iter-path-iterator.ensures.into_iter_gives ∙ c.iter-path-items.ensures.rest in
-    let all : map numbered_path c.loop-path.yielded ≡ existing c.args.files.now =
-    (iter_end numbered_path (existing c.args.files.now) c.loop-path.yielded _ _ _ _ start
-    c.loop-path.yielded_by c.in-None.is c.next.ensures.steps).0 in
-    c.loop-path.invariant
-    ∙ sym (map-map (λ f. f.1.text) numbered_path c.loop-path.yielded)
-    ∙ ap (map (λ f. f.1.text)) all
+pub loop-file-preserved-in_ok-push : goal.loop-file-preserved-in_ok-push
+loop-file-preserved-in_ok-push c =
+    path_more c.args.root.now c.loop-file.yielded c.in-Some.file c.in-Some-path_for_file.path.now c.loop-file.texts.items _ _
+    c.in-Some-path_for_file.ensures (c.in_ok-of_str.ensures ∙ c.as_str.ensures.text) c.loop-file.invariant c.in_ok-push.ensures.items
+
+pub loop-file-preserved : goal.loop-file-preserved
+loop-file-preserved c = path_none c.args.root.now c.loop-file.yielded c.in-Some.file c.loop-file.texts.items c.in_default.ensures c.loop-file.invariant

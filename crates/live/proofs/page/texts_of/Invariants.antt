@@ -1,6 +1,8 @@
--- The texts so far are those of the paths so far.
-use Rattle.std.proofs.Common.{◌≡◌, map}
+-- The texts so far are those of the files so far.
+use Rattle.std.proofs.Common.{◌≡◌}
+use Rattle.std.specs.List.{filter_map}
+use Rattle.live.specs.Page.{path_shown}
 use Rattle.live.proofs.page.texts_of.Given as goal
 
-abbrev pub invariant-loop-path : goal.invariant-loop-path
-invariant-loop-path l = l.texts.items ≡ map (λ f. f.1.now.text) l.yielded
+abbrev pub invariant-loop-file : goal.invariant-loop-file
+invariant-loop-file l = l.texts.items ≡ filter_map (path_shown l.root) l.yielded

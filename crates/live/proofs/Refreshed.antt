@@ -1,0 +1,93 @@
+-- What a flush brings into the database, step by step.
+use Rattle.std.proofs.Common.{◌≡◌, ℕ, ◌<◌, ◌^◌, arith, length, Bool, true, false, List, [], ◌∷◌, ◌++◌, Option, Some, None, refl, sym, ◌∙◌, ap, subst, append_assoc, if◌then◌else◌}
+use Rattle.std.specs.List.{list_all}
+use Rattle.std.specs.Option.{unwrap_or}
+use Rattle.std.specs.Prelude.{IfSome}
+use Rattle.std.specs.Str.{IsUtf8, is_utf8}
+use Rattle.std.proofs.lemmas.Str.{IsUtf8-from_is_utf8, is_utf8-from_IsUtf8}
+use Rattle.vfs_core.specs.declared.changed_file.ChangedFile.{ChangedFile}
+use Rattle.vfs_core.specs.Files.{Files, existing}
+use Rattle.vfs_sets.specs.FileSet as sets
+use Rattle.vfs_sets.specs.Partition.{IsPartition}
+use Rattle.input_db.specs.Change.{fits, fits_file}
+use Rattle.input_db.specs.declared.change.FileChange.{FileChange}
+use Rattle.input_db.specs.Files.{Held}
+use Rattle.input_db.specs.declared.source_root.SourceRoot.{SourceRoot}
+use Rattle.live.specs.Refresh.{changes_taken, local_roots, text_if, text_left}
+use Rattle.live.proofs.Sets.{one_set}
+
+-- a text of these bytes
+pub text_if-valid : (bytes text : List ℕ) → text ≡ bytes → IsUtf8 text → Some text ≡ text_if bytes
+text_if-valid bytes text same valid = rw (sym same, is_utf8-from_IsUtf8 text valid) refl
+
+-- bytes that are none: the same by whether they are
+invalid-split : (bytes : List ℕ) (is : Bool) → is_utf8 bytes ≡ is → (IsUtf8 bytes → ⊥)
+    → None ≡ (if is then Some bytes else None)
+invalid-split bytes true e h = absurd (h (IsUtf8-from_is_utf8 bytes e))
+invalid-split bytes false e h = refl
+
+pub text_if-invalid : (bytes bytes' : List ℕ) → bytes' ≡ bytes → (IsUtf8 bytes' → ⊥) → None ≡ text_if bytes
+text_if-invalid bytes bytes' same h = invalid-split bytes (is_utf8 bytes) refl (λ u. h (subst IsUtf8 (sym same) u))
+
+-- one more change: the same by whether its file has a root
+pub taken-split : (files : Held) (roots : List SourceRoot) (entry : ℕ × ChangedFile) (rest : List (ℕ × ChangedFile)) (fits : Bool)
+    → fits_file files roots entry.0 ≡ fits
+    → changes_taken files roots (entry ∷ rest)
+    ≡ (if fits then (entry.0, text_left entry.1.change) ∷ changes_taken files roots rest else changes_taken files roots rest)
+taken-split files roots entry rest true e = rw e refl
+taken-split files roots entry rest false e = rw e refl
+
+-- a change that is taken stands behind those before it
+pub takes_change : (files : Held) (roots : List SourceRoot) (all batch rest : List (ℕ × ChangedFile)) (entry : ℕ × ChangedFile)
+    (before after : List (ℕ × Option (List ℕ))) (text : Option (List ℕ))
+    → before ++ changes_taken files roots batch ≡ changes_taken files roots all → batch ≡ entry ∷ rest
+    → fits_file files roots entry.0 ≡ true → text ≡ text_left entry.1.change → after ≡ before ++ (entry.0, text) ∷ []
+    → after ++ changes_taken files roots rest ≡ changes_taken files roots all
+takes_change files roots all batch rest entry before after text so_far is fits left pushed =
+    ap (λ l. l ++ changes_taken files roots rest) (pushed ∙ ap (λ t. before ++ (entry.0, t) ∷ []) left)
+    ∙ append_assoc before ((entry.0, text_left entry.1.change) ∷ []) (changes_taken files roots rest)
+    ∙ ap (λ l. before ++ l) (sym (taken-split files roots entry rest true fits))
+    ∙ ap (λ b. before ++ changes_taken files roots b) (sym is)
+    ∙ so_far
+
+-- and one that is dropped does not
+pub drops_change : (files : Held) (roots : List SourceRoot) (all batch rest : List (ℕ × ChangedFile)) (entry : ℕ × ChangedFile)
+    (before : List (ℕ × Option (List ℕ)))
+    → before ++ changes_taken files roots batch ≡ changes_taken files roots all → batch ≡ entry ∷ rest
+    → fits_file files roots entry.0 ≡ false
+    → before ++ changes_taken files roots rest ≡ changes_taken files roots all
+drops_change files roots all batch rest entry before so_far is fits =
+    ap (λ l. before ++ l) (sym (taken-split files roots entry rest false fits))
+    ∙ ap (λ b. before ++ changes_taken files roots b) (sym is)
+    ∙ so_far
+
+-- each change that is taken has a root: the same by whether the first has
+fit-split : (files : Held) (roots : List SourceRoot) (entry : ℕ × ChangedFile) (rest : List (ℕ × ChangedFile)) (fits : Bool)
+    → fits_file files roots entry.0 ≡ fits
+    → list_all (λ changed. fits_file files roots changed.0) (changes_taken files roots rest) ≡ true
+    → list_all (λ changed. fits_file files roots changed.0) (changes_taken files roots (entry ∷ rest)) ≡ true
+fit-split files roots entry rest true e more =
+    ap (list_all (λ (changed : ℕ × Option (List ℕ)). fits_file files roots changed.0)) (taken-split files roots entry rest true e)
+    ∙ rw (e, more) refl
+fit-split files roots entry rest false e more =
+    ap (list_all (λ (changed : ℕ × Option (List ℕ)). fits_file files roots changed.0)) (taken-split files roots entry rest false e)
+    ∙ more
+
+taken-fit : (files : Held) (roots : List SourceRoot) (batch : List (ℕ × ChangedFile))
+    → list_all (λ changed. fits_file files roots changed.0) (changes_taken files roots batch) ≡ true
+taken-fit files roots [] = refl
+taken-fit files roots (entry ∷ rest) = fit-split files roots entry rest (fits_file files roots entry.0) refl (taken-fit files roots rest)
+
+-- so the whole change fits
+pub taken_fits : (files : Held) (change : FileChange) (roots : List SourceRoot) (batch : List (ℕ × ChangedFile))
+    → change.roots ≡ Some roots → change.files_changed ≡ changes_taken files roots batch → fits files change ≡ true
+taken_fits files change roots batch given taken =
+    ap (λ r. list_all (λ changed. fits_file files (unwrap_or r []) changed.0) change.files_changed) given
+    ∙ ap (list_all (λ (changed : ℕ × Option (List ℕ)). fits_file files roots changed.0)) taken
+    ∙ taken-fit files roots batch
+
+-- and its roots are few
+pub few_roots : (files : Files) (parts : List sets.Files) (roots : Option (List SourceRoot)) → IsPartition [] (existing files) parts
+    → roots ≡ Some (local_roots parts) → IfSome roots (λ r. length r < 2 ^ 32)
+few_roots files parts roots is given =
+    subst (λ r. IfSome r (λ l. length l < 2 ^ 32)) (sym (given ∙ ap (λ p. Some (local_roots p)) (one_set files parts is))) (omega arith)

@@ -1,0 +1,49 @@
+-- What a flush brings into the database: the sets of files as source roots, and those changes whose file has a root.
+use Rattle.std.specs.Prelude.{◌≡◌, ℕ, List, [], Option, Some, None, map, nat_eq, if◌then◌else◌}
+use Rattle.std.specs.List.{IsDistinct, filter}
+use Rattle.std.specs.Map.{keys_of}
+use Rattle.std.specs.Option.{option_and_then}
+use Rattle.std.specs.Str.{is_utf8}
+use Rattle.vfs_core.specs.declared.changed_file.Change.{Change}
+use Rattle.vfs_core.specs.declared.changed_file.ChangedFile.{ChangedFile}
+use Rattle.vfs_core.specs.Files.{existing}
+use Rattle.vfs_core.specs.Texts.{contents_left}
+use Rattle.vfs_sets.specs.FileSet.{Files}
+use Rattle.vfs_sets.specs.Partition.{IsPartition}
+use Rattle.input_db.specs.Change.{IsChanged, fits_file}
+use Rattle.input_db.specs.Files.{Held}
+use Rattle.input_db.specs.SourceRoot.{local_root}
+use Rattle.input_db.specs.declared.change.FileChange.{FileChange}
+use Rattle.input_db.specs.declared.source_root.SourceRoot.{SourceRoot}
+use Rattle.live.specs.declared.session.Live.{Live}
+
+-- the text of bytes, where they are one
+abbrev pub text_if : List ℕ → Option (List ℕ)
+text_if bytes = if is_utf8 bytes then Some bytes else None
+
+-- the text that a change leaves
+abbrev pub text_left : Change → Option (List ℕ)
+text_left change = option_and_then text_if (contents_left change)
+
+-- those changes whose file has a root, each with the text that it leaves
+abbrev pub changes_taken : Held → List SourceRoot → List (ℕ × ChangedFile) → List (ℕ × Option (List ℕ))
+changes_taken files roots batch =
+    map (λ entry. (entry.0, text_left entry.1.change)) (filter (λ entry. fits_file files roots entry.0) batch)
+
+-- the source roots where no project was loaded: each set is a local one
+abbrev pub local_roots : List Files → List SourceRoot
+local_roots sets = map local_root sets
+
+-- the sets of the files that exist, and those changes whose file is in one or has a root already, are in the database, and the
+-- changes are taken. All else is as it was
+pub record Refreshes (old new : Live) : Type 0 where
+  pub sets : List Files
+  pub partition : IsPartition [] (existing old.files) sets
+  pub change : FileChange
+  pub roots : change.roots ≡ Some (local_roots sets)
+  pub taken : change.files_changed ≡ changes_taken old.db.files (local_roots sets) old.files.batch
+  pub distinct : IsDistinct nat_eq (keys_of old.files.batch)
+  pub changed : IsChanged change old.db new.db
+  pub config : new.config ≡ old.config
+  pub ended : new.ended ≡ old.ended
+  pub files : new.files ≡ record old.files { batch = [] }
