@@ -72,5 +72,6 @@ mutual
       λ i. member (text_code.inj k l (ap (λ g. first (rest (first g))) p) i) (stored_inj d e (ap (λ g. rest (rest (first g))) p) i) (members_inj ms ns (ap rest p) i)
   members_inj _ _ p = absurd (omega (arith, ap (λ g. num (first (first g))) p))
 
+-- no two JSON values are stored alike
 abbrev pub data_code : Coded Data
 data_code = record { code = stored; inj = stored_inj }

@@ -22,6 +22,7 @@ float_part (float x) = x
 abbrev pub num_eq : Num → Num → Bool
 num_eq = eq_of_both (on as_integer (option_eq int_eq)) (on float_part (eq_by_cmp nan_last_cmp))
 
+-- equality of numbers is an equivalence
 pub num_eq-equiv : IsEquivalence num_eq
 num_eq-equiv = and_equiv (on_equiv as_integer (options_equiv int_eq_equiv)) (on_equiv float_part (eq_by_cmp_equiv nan_last))
 
@@ -119,5 +120,6 @@ mutual
       (λ g. both_congr (data_eq c d) (data_eq c e) (data_eq d e) (members_eq ls ms) (members_eq ls ns) (members_eq ms ns) g (data_eq-congr c d e) (members_eq-congr ls ms ns))
   members_eq-congr _ _ _ h = absurd (false≢true h)
 
+-- equality of JSON values is an equivalence
 pub data_eq-equiv : IsEquivalence data_eq
 data_eq-equiv = record { refl = data_eq-refl; symm = data_eq-symm; congr = data_eq-congr }
