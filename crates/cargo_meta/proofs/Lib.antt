@@ -1,0 +1,4 @@
+pub mod Folders
+pub mod MetadataRows
+pub mod PackageRows
+pub mod RootManifest
