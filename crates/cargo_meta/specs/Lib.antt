@@ -10,3 +10,5 @@ pub mod Resolve
 pub mod Metadata
 pub mod Errors
 pub mod Select
+pub mod Command
+pub mod Answer

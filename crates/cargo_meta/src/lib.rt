@@ -2,9 +2,11 @@
 #![tactic(auto)]
 
 mod beside;
+pub mod command;
 pub mod dependency;
 pub mod documents;
 pub mod errors;
+pub mod exec;
 pub mod kinds;
 pub mod metadata;
 pub mod names;
@@ -14,7 +16,9 @@ mod printed;
 pub mod resolve;
 pub mod select;
 pub mod target;
+mod words;
 
+pub use command::{CargoOpt, MetadataCommand};
 pub use dependency::Dependency;
 pub use errors::Error;
 pub use json_fields::{AnyValue, BareError, Requirement, Version, bare_version};

@@ -1,0 +1,79 @@
+//! What the answer to a metadata command holds.
+
+ghost use Rattle.std.specs.Prelude.{◌≡◌, IfOk, option_copied};
+ghost use Rattle.base_text.specs.Runner.{answer_of};
+ghost use Rattle.json_fields.specs.Document as documents;
+ghost use Rattle.json_fields.specs.Document.{IsWholeAgain};
+ghost use Rattle.cargo_meta.specs.Answer as spec;
+ghost use Rattle.cargo_meta.specs.Answer.{Answers, of_answer, of_output};
+ghost use Rattle.cargo_meta.specs.Command.{command_of};
+ghost use Rattle.cargo_meta.specs.Errors.{GivesDocument};
+ghost use Rattle.cargo_meta.specs.Metadata.{metadata_at, metadata_data};
+
+use crate::command::MetadataCommand;
+use crate::errors::{Error, document};
+use crate::metadata::Metadata;
+use crate::words::joined;
+use base_text::{CommandLine, Output, Runner, Text};
+use json_fields::of_text;
+use std::alloc::{AllocError, Global};
+
+impl MetadataCommand {
+    /// Reads a document's text: `syntax` where it is no JSON or too deep, else as `Metadata::of_value`.
+    pub fn parse(alloc: Global, text: &str) -> Result<Metadata, Error>
+        ensures exact { GivesDocument result (documents.document metadata_at text.now) }
+        ensures again { IfOk result (IsWholeAgain metadata_at metadata_data) }
+    {
+        document(of_text(alloc, text))
+    }
+
+    /// Asks the runner, and reads the first line of its answer that begins with `{`.
+    pub fn exec<R: Runner>(&self, alloc: Global, runner: &R) -> Result<Metadata, Error>
+        ensures exact { Answers result (of_answer (command_of self.now)
+            (answer_of (R.answers runner.now) (command_of self.now))) }
+        ensures again { IfOk result (IsWholeAgain metadata_at metadata_data) }
+    {
+        let line = self.cargo_command(alloc)?;
+        match runner.ask(alloc, &line)? {
+            Some(output) => read_output(alloc, output),
+            None => Err(Error::Io {
+                line: line_text(alloc, &line)?,
+            }),
+        }
+    }
+}
+
+/// The program and its words, with a space between each two.
+fn line_text(alloc: Global, line: &CommandLine) -> Result<Text, AllocError>
+    ensures { IfOk result (λ text. text ≡ spec.line_text line.now) }
+{
+    let program = line.program.as_str();
+    let words = line.words.as_slice();
+    if words.is_empty() {
+        return Text::of_str(alloc, program);
+    }
+    let words = joined(alloc, words, " ")?;
+    let text = format!(in alloc; "{program} {words}")?;
+    Ok(Text::new(text))
+}
+
+/// The document of what a command wrote, where it succeeded.
+fn read_output(alloc: Global, output: Output) -> Result<Metadata, Error>
+    ensures exact { Answers result (of_output output) }
+    ensures again { IfOk result (IsWholeAgain metadata_at metadata_data) }
+{
+    if !output.ok {
+        return Err(Error::CargoMetadata { stderr: output.err });
+    }
+    match json_line(output.out.as_str()) {
+        Some(line) => MetadataCommand::parse(alloc, line),
+        None => Err(Error::NoJson),
+    }
+}
+
+/// The first line that begins with `{`.
+fn json_line(out: &str) -> Option<&str>
+    ensures { option_copied result ≡ spec.json_line out.now }
+{
+    out.lines().find(|line| line.starts_with('{'))
+}
