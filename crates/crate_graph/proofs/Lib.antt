@@ -1,3 +1,9 @@
 pub mod NameLemmas
 pub mod EnvLemmas
 pub mod LawLemmas
+pub mod GraphLemmas
+pub mod ExtendLemmas
+pub mod TakenLemmas
+pub mod MovedLemmas
+pub mod JoinedLemmas
+pub mod PruneLemmas

@@ -1,6 +1,6 @@
 //! What tells a crate apart from others, over any type of number by which it names them.
 
-ghost use Rattle.std.specs.Prelude.{◌≡◌, ◌↔◌, true, false, map};
+ghost use Rattle.std.specs.Prelude.{◌≡◌, ◌↔◌, true, false, map, IfOk};
 ghost use Rattle.crate_graph.specs.CrateData.{prelude_of, sysroot_of};
 
 use crate::names::CrateName;
@@ -72,6 +72,21 @@ impl<Id> Dependency<Id> {
         ensures { result ≡ sysroot_of self.now }
     {
         self.sysroot
+    }
+}
+
+impl<Id: Copy> Dependency<Id> {
+    /// A copy that names a crate by another number.
+    pub(crate) fn with_id(&self, alloc: Global, crate_id: Id) -> Result<Self, AllocError>
+        ensures { IfOk result (λ copy. copy ≡ record self.now { crate_id = crate_id }) }
+    {
+        let name = self.name.try_clone(alloc)?;
+        Ok(Dependency {
+            crate_id,
+            name,
+            prelude: self.prelude,
+            sysroot: self.sysroot,
+        })
     }
 }
 

@@ -3,7 +3,9 @@
 
 pub mod builder;
 pub mod crate_data;
+pub mod cyclic;
 pub mod env;
+pub mod graph;
 pub mod laws;
 pub mod names;
 pub mod origin;
@@ -20,7 +22,9 @@ pub use builder::{CrateBuilder, ExtraCrateData, ProcMacroPaths};
 pub use crate_data::{
     CrateBuilderId, CrateData, CrateDataBuilder, CrateTag, Dependency, DependencyBuilder,
 };
+pub use cyclic::{AddDepError, CyclicDependenciesError};
 pub use env::Env;
+pub use graph::{CrateGraphBuilder, CrateIds, GraphError};
 pub use names::{CrateDisplayName, CrateName};
 pub use origin::{CrateOrigin, LangCrateOrigin};
 pub use proc_macro::ProcMacroLoadingError;

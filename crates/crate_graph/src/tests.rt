@@ -42,13 +42,40 @@ fn a_name_under_which_code_knows_a_crate_holds_no_dash(rt: HostRuntime) -> Resul
 
 #[test]
 fn a_crate_is_shown_as_it_calls_itself(rt: HostRuntime) -> Result<(), Fail> {
-    let alloc = rt.alloc();
-    let shown = CrateDisplayName::from_canonical_name(alloc, "a-b")?;
+    let shown = CrateDisplayName::from_canonical_name(rt.alloc(), "a-b")?;
     assert_eq!(rt; shown.canonical_name().as_str(), "a-b");
     assert_eq!(rt; shown.crate_name().symbol().as_str(), "a_b");
-    assert_eq!(rt; format!(in alloc; "{shown}")?.as_str(), "a_b");
-    let plain = CrateDisplayName::from_name(alloc, name(alloc, "a_b")?)?;
-    assert!(rt; plain.try_clone(alloc)? != shown);
+    Ok(())
+}
+
+#[test]
+fn a_shown_name_is_written_as_code_has_it(rt: HostRuntime) -> Result<(), Fail> {
+    let shown = CrateDisplayName::from_canonical_name(rt.alloc(), "a-b")?;
+    let text = format!(in rt.alloc(); "{shown}")?;
+    assert_eq!(rt; text.as_str(), "a_b");
+    Ok(())
+}
+
+#[test]
+fn a_name_of_code_is_shown_as_it_is(rt: HostRuntime) -> Result<(), Fail> {
+    let plain = CrateDisplayName::from_name(rt.alloc(), name(rt.alloc(), "a_b")?)?;
+    assert_eq!(rt; plain.canonical_name().as_str(), "a_b");
+    Ok(())
+}
+
+#[test]
+fn a_copy_of_a_shown_name_is_the_same(rt: HostRuntime) -> Result<(), Fail> {
+    let shown = CrateDisplayName::from_canonical_name(rt.alloc(), "a-b")?;
+    let copy = shown.try_clone(rt.alloc())?;
+    assert!(rt; copy == shown);
+    Ok(())
+}
+
+#[test]
+fn a_name_that_is_spelled_otherwise_is_another(rt: HostRuntime) -> Result<(), Fail> {
+    let shown = CrateDisplayName::from_canonical_name(rt.alloc(), "a-b")?;
+    let plain = CrateDisplayName::from_canonical_name(rt.alloc(), "a_b")?;
+    assert!(rt; plain != shown);
     Ok(())
 }
 

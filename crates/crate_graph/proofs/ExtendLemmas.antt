@@ -1,0 +1,95 @@
+-- Crates taken in, one after another.
+use Rattle.std.proofs.Common.{◌≡◌, ℕ, zero, suc, ◌+◌, ◌<◌, ◌≤◌, inl, inr, Bool, List, [], ◌∷◌, map, take, drop, length, get_or, fold, position, Option, Some, None, refl, sym, ap, ◌∙◌, subst, arith, length-set}
+use Rattle.std.specs.Prelude.{slice_get, unwrap_or}
+use Rattle.std.specs.List.{All, Contains}
+use Rattle.std.specs.Option.{option_map}
+use Rattle.std.proofs.lemmas.Bool.{cases_lt}
+use Rattle.std.proofs.lemmas.List.{get_or_past, length-map, length-replicate, length_push, take-append-drop}
+use Rattle.std.proofs.lemmas.List.Elements.{Contains-get_or}
+use Rattle.std.proofs.lemmas.List.Sums.{fold-append, fold_more}
+use Rattle.graph_base.specs.Edges.{HasEdge, IsInRange}
+use Rattle.crate_graph.specs.declared.builder.CrateBuilder.{CrateBuilder}
+use Rattle.crate_graph.specs.declared.crate_data.Dependency.{Dependency}
+use Rattle.crate_graph.specs.Extend.{Id, Joined, before_others, in_order, renamed, renumbered, take_in, taking, with_crate}
+use Rattle.crate_graph.specs.Graph.{edges, row_of, target_of}
+use Rattle.crate_graph.proofs.GraphLemmas.{length-edges, row-at, slice_get_some}
+
+none_in : {X : Type 0} (x : X) → Contains [] x → ⊥
+none_in x c = omega (arith, c.1)
+
+-- ---- crates and edges
+
+-- the crate from which an edge leads
+pub edge_crate : (crates : List CrateBuilder) (k b : ℕ) → HasEdge (edges crates) k b → (krate : CrateBuilder) × (slice_get crates k ≡ Some krate) × Contains (row_of krate) b
+edge_crate crates k b e = elim (cases_lt k (length crates)) [
+  | inl within ↦
+      let at = slice_get_some crates k within in
+      (at.0, at.1, subst (λ r. Contains r b) (row-at crates k at.0 at.1) e)
+  | inr past ↦ absurd (none_in b (subst (λ r. Contains r b) (get_or_past (edges crates) k [] (omega (arith, length-edges crates))) e))
+]
+
+pub crate_edge : (crates : List CrateBuilder) (k b : ℕ) (krate : CrateBuilder) → slice_get crates k ≡ Some krate → Contains (row_of krate) b → HasEdge (edges crates) k b
+crate_edge crates k b krate is c = subst (λ r. Contains r b) (sym (row-at crates k krate is)) c
+
+-- the targets of a crate's dependencies are numbers of the graph
+pub targets_within : (crates : List CrateBuilder) (k : ℕ) (krate : CrateBuilder) (n : ℕ) → IsInRange (edges crates) → n ≡ length crates → slice_get crates k ≡ Some krate → All (λ dep. target_of dep < n) krate.basic.dependencies
+targets_within crates k krate n in_range long is = λ i d within.
+    let row : List ℕ = row_of krate in
+    let inside : i < length (map target_of krate.basic.dependencies) = omega (arith, length-map krate.basic.dependencies target_of) in
+    let target : get_or (map target_of krate.basic.dependencies) i 0 ≡ target_of (get_or krate.basic.dependencies i d) = get_or-map-at krate.basic.dependencies i d 0 within in
+    let edge = crate_edge crates k (get_or (row_of krate) i 0) krate is (Contains-get_or (row_of krate) i 0 inside) in
+    omega (arith, in_range k (get_or (row_of krate) i 0) edge, length-edges crates)
+  where
+    get_or-map-at : (deps : List (Dependency Id)) (i : ℕ) (d : Dependency Id) (z : ℕ) → i < length deps → get_or (map target_of deps) i z ≡ target_of (get_or deps i d)
+    get_or-map-at [] i d z within = absurd (omega arith)
+    get_or-map-at (x ∷ xs) zero d z within = refl
+    get_or-map-at (x ∷ xs) (suc i) d z within = get_or-map-at xs i d z (omega arith)
+
+-- one crate is taken in
+pub take_in-at : (eq : CrateBuilder → CrateBuilder → Bool) (olds : ℕ) (others : List CrateBuilder) (j : Joined) (n : ℕ) (krate : CrateBuilder) → slice_get others n ≡ Some krate
+    → take_in eq olds others j n ≡ taking eq olds j n (renamed (renumbered j.news) krate)
+unfolding take_in
+take_in-at eq olds others j n krate is = ap (λ o. unwrap_or (option_map (λ k. taking eq olds j n (renamed (renumbered j.news) k)) o) j) is
+
+-- ---- how the crates and numbers grow
+
+with_crate-longer : (j : Joined) (n : ℕ) (krate : CrateBuilder) (o : Option ℕ) → length j.crates ≤ length (with_crate j n krate o).crates
+with_crate-longer j n krate (Some place) = omega arith
+with_crate-longer j n krate None = omega (arith, length_push j.crates krate)
+
+with_crate-news : (j : Joined) (n : ℕ) (krate : CrateBuilder) (o : Option ℕ) → length (with_crate j n krate o).news ≡ length j.news
+with_crate-news j n krate (Some place) = length-set j.news n place
+with_crate-news j n krate None = length-set j.news n (length j.crates)
+
+module _ (eq : CrateBuilder → CrateBuilder → Bool) (olds : ℕ) (others : List CrateBuilder) where
+  pub take_in-longer : (j : Joined) (n : ℕ) → length j.crates ≤ length (take_in eq olds others j n).crates
+  unfolding take_in
+  take_in-longer j n = elim (slice_get others n) as (λ o. length j.crates ≤ length (unwrap_or (option_map (λ k. taking eq olds j n (renamed (renumbered j.news) k)) o) j).crates) [
+    | Some krate ↦ with_crate-longer j n (renamed (renumbered j.news) krate) (position (λ old. eq old (renamed (renumbered j.news) krate)) (take olds j.crates))
+    | None ↦ omega arith
+  ]
+
+  pub take_in-news : (j : Joined) (n : ℕ) → length (take_in eq olds others j n).news ≡ length j.news
+  unfolding take_in
+  take_in-news j n = elim (slice_get others n) as (λ o. length (unwrap_or (option_map (λ k. taking eq olds j n (renamed (renumbered j.news) k)) o) j).news ≡ length j.news) [
+    | Some krate ↦ with_crate-news j n (renamed (renumbered j.news) krate) (position (λ old. eq old (renamed (renumbered j.news) krate)) (take olds j.crates))
+    | None ↦ refl
+  ]
+
+  fold-longer : (j : Joined) (ns : List ℕ) → length j.crates ≤ length (fold (take_in eq olds others) j ns).crates
+  fold-longer j [] = omega arith
+  fold-longer j (n ∷ ns) = omega (arith, take_in-longer j n, fold-longer (take_in eq olds others j n) ns)
+
+  -- what passes the limit on the way passes it at the end
+  pub passes_later : (j : Joined) (ns : List ℕ) (i limit : ℕ) → i < length ns → limit < length (take_in eq olds others (fold (take_in eq olds others) j (take i ns)) (get_or ns i 0)).crates → limit < length (fold (take_in eq olds others) j ns).crates
+  passes_later j ns i limit within past =
+      let f = take_in eq olds others in
+      let split : fold f j ns ≡ fold f (f (fold f j (take i ns)) (get_or ns i 0)) (drop (i + 1) ns) =
+      ap (fold f j) (sym (take-append-drop (i + 1) ns)) ∙ fold-append f j (take (i + 1) ns) (drop (i + 1) ns) ∙ ap (λ start. fold f start (drop (i + 1) ns)) (fold_more f j ns i 0 within) in
+      subst (λ z. limit < length z.crates) (sym split) (omega (arith, past, fold-longer (f (fold f j (take i ns)) (get_or ns i 0)) (drop (i + 1) ns)))
+
+pub before_others-long : (olds others : List CrateBuilder) → length (before_others olds others).crates ≡ length olds
+before_others-long olds others = length-map olds in_order
+
+pub before_others-news : (olds others : List CrateBuilder) → length (before_others olds others).news ≡ length others
+before_others-news olds others = length-replicate (length others) 0

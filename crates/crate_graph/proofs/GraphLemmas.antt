@@ -1,0 +1,74 @@
+-- How the edges of a graph follow its crates.
+use Rattle.std.proofs.Common.{◌≡◌, ℕ, zero, suc, ◌^◌, ◌<◌, List, [], ◌∷◌, ◌++◌, map, length, set, Some, refl, sym, ap, ◌∙◌, subst, arith, length-set}
+use Rattle.std.specs.Prelude.{slice_get}
+use Rattle.std.proofs.lemmas.List.{length_push, length-map, map-append, map-set}
+use Rattle.base_text.specs.declared.arena.Idx.{Idx}
+use Rattle.graph_base.specs.Edges.{HasEdge, IsInRange, row, with_edge, with_node}
+use Rattle.graph_base.specs.Reach.{IsAcyclic}
+use Rattle.crate_graph.specs.declared.builder.CrateBuilder.{CrateBuilder}
+use Rattle.crate_graph.specs.declared.crate_data.CrateTag.{CrateTag}
+use Rattle.crate_graph.specs.declared.crate_data.Dependency.{Dependency}
+use Rattle.crate_graph.specs.Graph.{HasDependency, IsWellMade, edges, row_of, target_of, with_dependency}
+
+pub length-edges : (crates : List CrateBuilder) → length (edges crates) ≡ length crates
+length-edges crates = length-map crates row_of
+
+-- there is a value at each place within a list
+pub slice_get_some : {X : Type 0} (xs : List X) (i : ℕ) → i < length xs → (x : X) × (slice_get xs i ≡ Some x)
+slice_get_some [] i within = absurd (omega arith)
+slice_get_some (x ∷ xs) zero within = (x, refl)
+slice_get_some (x ∷ xs) (suc i) within = slice_get_some xs i (omega arith)
+
+-- the row of a crate
+pub row-at : (crates : List CrateBuilder) (i : ℕ) (krate : CrateBuilder) → slice_get crates i ≡ Some krate → row (edges crates) i ≡ row_of krate
+row-at [] i krate is = cc
+row-at (x ∷ xs) zero krate is = let same : x ≡ krate = cc in ap row_of same
+row-at (x ∷ xs) (suc i) krate is = row-at xs i krate is
+
+module _ (old new : List CrateBuilder) (from : ℕ) (dep : Dependency (Idx CrateTag)) (within : from < length old) (has : HasDependency old new from dep) where
+  pub edges-with_dependency : edges new ≡ with_edge (edges old) from (target_of dep)
+  edges-with_dependency =
+      let at = slice_get_some old from within in
+      let changed = has at.0 at.1 in
+      ap edges changed ∙ map-set row_of old from (with_dependency at.0 dep)
+      ∙ ap (set (edges old) from) (map-append target_of at.0.basic.dependencies (dep ∷ []) ∙ ap (λ r. r ++ target_of dep ∷ []) (sym (row-at old from at.0 at.1)))
+
+  pub length-with_dependency : length new ≡ length old
+  length-with_dependency =
+      let at = slice_get_some old from within in
+      ap length (has at.0 at.1) ∙ length-set old from (with_dependency at.0 dep)
+
+  pub well_made-with_dependency : (limit : ℕ) → IsWellMade old limit → IsInRange (with_edge (edges old) from (target_of dep)) → IsAcyclic (with_edge (edges old) from (target_of dep)) → IsWellMade new limit
+  well_made-with_dependency limit made in_range acyclic = record {
+    fits = made.fits;
+    within = omega (arith, made.within, length-with_dependency);
+    in_range = subst IsInRange (sym edges-with_dependency) in_range;
+    acyclic = subst IsAcyclic (sym edges-with_dependency) acyclic;
+  }
+
+-- a crate that depends on nothing
+pub edges-with_crate : (old : List CrateBuilder) (krate : CrateBuilder) → krate.basic.dependencies ≡ [] → edges (old ++ krate ∷ []) ≡ with_node (edges old)
+edges-with_crate old krate none = map-append row_of old (krate ∷ []) ∙ ap (λ r. edges old ++ map target_of r ∷ []) none
+
+pub well_made-with_crate : (old new : List CrateBuilder) (krate : CrateBuilder) (limit : ℕ) → new ≡ old ++ krate ∷ [] → krate.basic.dependencies ≡ [] → length old < limit → IsWellMade old limit
+    → IsInRange (with_node (edges old)) → IsAcyclic (with_node (edges old)) → IsWellMade new limit
+well_made-with_crate old new krate limit is none room made in_range acyclic =
+    let same : edges new ≡ with_node (edges old) = ap edges is ∙ edges-with_crate old krate none in
+    record {
+      fits = made.fits;
+      within = omega (arith, ap length is, length_push old krate);
+      in_range = subst IsInRange (sym same) in_range;
+      acyclic = subst IsAcyclic (sym same) acyclic;
+    }
+
+no_edge : (a b : ℕ) → HasEdge (edges []) a b → ⊥
+no_edge a b e = omega (arith, e.1)
+
+-- the graph with no crates
+pub well_made-none : (limit : ℕ) → limit < 2 ^ 32 → IsWellMade [] limit
+well_made-none limit fits = record {
+  fits = fits;
+  within = omega arith;
+  in_range = λ a b e. absurd (no_edge a b e);
+  acyclic = λ a b e r. no_edge a b e;
+}

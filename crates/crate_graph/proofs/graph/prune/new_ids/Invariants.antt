@@ -1,0 +1,13 @@
+use Rattle.std.proofs.Common.{◌≡◌, map}
+use Rattle.std.specs.List.{range_with_len}
+use Rattle.std.specs.Option.{option_map}
+use Rattle.base_text.specs.Arena.{number_of}
+use Rattle.graph_base.specs.Kept.{kept_below}
+use Rattle.crate_graph.specs.Prune.{new_number}
+use Rattle.crate_graph.proofs.graph.prune.new_ids.Given as goal
+
+abbrev pub invariant-loop-mark : goal.invariant-loop-mark
+invariant-loop-mark l = record {
+  told : map (option_map number_of) l.ids.items ≡ map (new_number (map number_of l.to_keep)) (range_with_len 0 l.mark-index);
+  next : l.next ≡ kept_below (map number_of l.to_keep) l.mark-index;
+}

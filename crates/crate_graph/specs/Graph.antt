@@ -1,0 +1,50 @@
+-- The crates of a graph, the edges between them, and what every graph keeps.
+use Rattle.std.specs.Prelude.{◌≡◌, ℕ, ◌<◌, ◌≤◌, ◌^◌, List, ◌++◌, ◌∷◌, [], map, length, codes, Some, slice_get, slice_set}
+use Rattle.base_text.specs.Arena.{number_of}
+use Rattle.base_text.specs.declared.arena.Idx.{Idx}
+use Rattle.graph_base.specs.Edges.{IsInRange}
+use Rattle.graph_base.specs.Reach.{IsAcyclic}
+use Rattle.crate_graph.specs.declared.builder.CrateBuilder.{CrateBuilder}
+use Rattle.crate_graph.specs.declared.crate_data.Dependency.{Dependency}
+use Rattle.crate_graph.specs.declared.crate_data.CrateTag.{CrateTag}
+
+-- the number of the crate that a dependency names
+abbrev pub target_of : Dependency (Idx CrateTag) → ℕ
+target_of dep = number_of dep.crate_id
+
+-- the crates that a crate depends on, in the order of its list
+abbrev pub row_of : CrateBuilder → List ℕ
+row_of krate = map target_of krate.basic.dependencies
+
+-- the edges of the graph: from each crate to those that it depends on
+abbrev pub edges : List CrateBuilder → List (List ℕ)
+edges crates = map row_of crates
+
+-- what every graph keeps: no more crates than the limit, no dependency that leads out of it, and no cycle
+pub record IsWellMade (crates : List CrateBuilder) (limit : ℕ) : Type 0 where
+  pub fits : limit < 2 ^ 32
+  pub within : length crates ≤ limit
+  pub in_range : IsInRange (edges crates)
+  pub acyclic : IsAcyclic (edges crates)
+
+-- a graph: the limit of its crates, and the crates, each under its number
+pub record Graph : Type 0 where
+  pub limit : ℕ
+  pub crates : List CrateBuilder
+
+-- an attribute as code has it
+abbrev pub attribute : List ℕ → List ℕ
+attribute text = codes "#![" ++ text ++ codes "]"
+
+-- the crate with one more dependency, behind those that it had
+abbrev pub with_dependency : CrateBuilder → Dependency (Idx CrateTag) → CrateBuilder
+with_dependency krate dep = record krate { basic = record krate.basic { dependencies = krate.basic.dependencies ++ dep ∷ [] } }
+
+-- the crate of a number has one more dependency, and all other crates are as they were
+abbrev pub HasDependency : List CrateBuilder → List CrateBuilder → ℕ → Dependency (Idx CrateTag) → Type 0
+HasDependency old new from dep = (krate : CrateBuilder) → slice_get old from ≡ Some krate → new ≡ slice_set old from (with_dependency krate dep)
+
+-- the new graph has the dependency and is otherwise the old one
+pub record AddsDependency (old new : Graph) (from : ℕ) (dep : Dependency (Idx CrateTag)) : Type 0 where
+  pub limit : new.limit ≡ old.limit
+  pub crates : HasDependency old.crates new.crates from dep

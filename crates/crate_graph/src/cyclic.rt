@@ -1,0 +1,138 @@
+//! Why a dependency is refused: a path of the graph that it would close to a cycle.
+
+ghost use Rattle.std.specs.Prelude.{◌≡◌, map, IfOk};
+ghost use Rattle.crate_graph.specs.Cyclic.{names, numbers, shown_of};
+
+use crate::builder::CrateBuilder;
+use crate::crate_data::CrateBuilderId;
+use crate::names::CrateDisplayName;
+use base_text::{Items, TryClone};
+use std::alloc::{AllocError, Global};
+use std::error::Error;
+use std::fmt;
+use std::marker::Model;
+
+/// A path from the crate that was to get a dependency back to the crate that it was to depend on:
+/// each crate of the path depends on the one before it.
+#[derive(Debug, PartialEq, Eq, Drop)]
+pub struct CyclicDependenciesError {
+    path: Items<(CrateBuilderId, Option<CrateDisplayName>)>,
+}
+
+impl Model for CyclicDependenciesError {
+    ghost use Rattle.std.specs.Prelude.{List};
+    ghost use Rattle.crate_graph.specs.Cyclic.{Step};
+
+    ghost Value = { List Step };
+
+    ghost view = { λ a. a.path };
+
+    ghost inverse = { λ path. record { path = path } };
+}
+
+impl CyclicDependenciesError {
+    /// The path along numbers of crates.
+    pub(crate) fn along(
+        alloc: Global,
+        crates: &[CrateBuilder],
+        path: &[u32],
+    ) -> Result<Self, AllocError>
+        ensures numbers { IfOk result (λ error. numbers error ≡ path.now) }
+        ensures names { IfOk result (λ error. names error ≡ map (shown_of crates.now) path.now) }
+    {
+        let mut steps = Vec::new(alloc);
+        for id in path {
+            let name = shown(alloc, crates, *id)?;
+            steps.push((CrateBuilderId::from_raw(*id), name))?;
+        }
+        Ok(CyclicDependenciesError {
+            path: Items::new(steps),
+        })
+    }
+
+    /// The crates of the path and the names that they are shown under.
+    pub fn path(&self) -> &[(CrateBuilderId, Option<CrateDisplayName>)]
+        ensures { result.now ≡ self.now }
+    {
+        self.path.as_slice()
+    }
+}
+
+// The names that the crate of a number is shown under.
+fn shown(
+    alloc: Global,
+    crates: &[CrateBuilder],
+    id: u32,
+) -> Result<Option<CrateDisplayName>, AllocError>
+    ensures { IfOk result (λ name. name ≡ shown_of crates.now id) }
+{
+    match crates.get(id as usize) {
+        Some(krate) => krate.extra.display_name.try_clone(alloc),
+        None => Ok(None),
+    }
+}
+
+// A crate of a path: its name and its number, or the number alone.
+fn write_step<W: fmt::Write>(
+    f: &mut fmt::Formatter<W>,
+    step: &(CrateBuilderId, Option<CrateDisplayName>),
+) -> fmt::Result {
+    let id = step.0.into_raw();
+    match &step.1 {
+        Some(name) => write!(f, "{name}({id})"),
+        None => write!(f, "{id}"),
+    }
+}
+
+impl fmt::Display for CyclicDependenciesError {
+    fn fmt<W: fmt::Write>(&self, f: &mut fmt::Formatter<W>) -> fmt::Result {
+        let path = self.path.as_slice();
+        f.write_str("cyclic deps: ")?;
+        if let Some(first) = path.first() {
+            write_step(f, first)?;
+        }
+        f.write_str(" -> ")?;
+        if let Some(last) = path.last() {
+            write_step(f, last)?;
+        }
+        f.write_str(", alternative path: ")?;
+        for (place, step) in path.iter().rev().enumerate() {
+            if place > 0 {
+                f.write_str(" -> ")?;
+            }
+            write_step(f, step)?;
+        }
+        Ok(())
+    }
+}
+
+impl Error for CyclicDependenciesError {}
+
+/// Why a dependency was not added.
+#[derive(Debug, PartialEq, Eq, Drop)]
+pub enum AddDepError {
+    /// The crate to depend on depends on this one already, over whatever others.
+    Cyclic(CyclicDependenciesError),
+    OutOfMemory,
+}
+
+impl fmt::Display for AddDepError {
+    fn fmt<W: fmt::Write>(&self, f: &mut fmt::Formatter<W>) -> fmt::Result {
+        match self {
+            AddDepError::Cyclic(_) => f.write_str("Cyclic"),
+            AddDepError::OutOfMemory => f.write_str("OutOfMemory"),
+        }
+    }
+}
+
+impl Error for AddDepError {}
+
+impl From<AllocError> for AddDepError {
+    ghost use Rattle.crate_graph.specs.declared.cyclic.AddDepError.TheVariants.{OutOfMemory};
+
+    ghost from_gives = { λ _ e. e ≡ OutOfMemory };
+
+    fn from(_error: AllocError) -> Self {
+        AddDepError::OutOfMemory
+    }
+}

@@ -1,0 +1,284 @@
+//! A graph of crates that is being built. No crate depends on itself, over whatever others.
+
+ghost use Rattle.std.specs.Prelude.{◌≡◌, ◌↔◌, ◌<◌, ◌≤◌, [], ◌∷◌, ◌++◌, Some, length, map, string_bytes};
+ghost use Rattle.std.specs.Prelude.{IfOk, IsErrOf, OnErr, OnOk, IsTrue, slice_get};
+ghost use Rattle.std.specs.Iterator.{YieldsFirstBy, item_count};
+ghost use Rattle.std.specs.List.{range_with_len};
+ghost use Rattle.std.specs.Option.{option_map};
+ghost use Rattle.base_text.specs.Arena.{number_of};
+ghost use Rattle.graph_base.specs.Reach.{IsAcyclic};
+ghost use Rattle.crate_graph.specs.Builder.{crate_of};
+ghost use Rattle.crate_graph.specs.Graph.{IsWellMade, attribute, edges};
+
+mod add_dep;
+mod extend;
+mod prune;
+mod reach;
+#[cfg(test)]
+mod tests;
+
+use crate::builder::{CrateBuilder, ExtraCrateData};
+use crate::crate_data::{CrateBuilderId, CrateData};
+use crate::env::Env;
+use crate::names::CrateDisplayName;
+use crate::origin::CrateOrigin;
+use crate::shared::Shared;
+use crate::target_kind::TargetKind;
+use crate::workspace_data::CrateWorkspaceData;
+use base_text::{AbsPathBuf, CfgOptions, Edition, FileId, Items, Text};
+use graph_base::Graph;
+use std::alloc::{AllocError, Global};
+use std::error::Error;
+use std::fmt;
+use std::marker::Model;
+use std::ops::Index;
+use std::rc::Rc;
+
+/// Why a graph takes no more crates.
+#[derive(Clone, Copy, Debug, PartialEq, Eq)]
+pub enum GraphError {
+    /// The graph has as many crates as its limit.
+    TooMany,
+    OutOfMemory,
+}
+
+impl fmt::Display for GraphError {
+    fn fmt<W: fmt::Write>(&self, f: &mut fmt::Formatter<W>) -> fmt::Result {
+        match self {
+            GraphError::TooMany => f.write_str("TooMany"),
+            GraphError::OutOfMemory => f.write_str("OutOfMemory"),
+        }
+    }
+}
+
+impl Error for GraphError {}
+
+impl From<AllocError> for GraphError {
+    ghost use Rattle.crate_graph.specs.declared.graph.GraphError.TheVariants.{OutOfMemory};
+
+    ghost from_gives = { λ _ e. e ≡ OutOfMemory };
+
+    fn from(_error: AllocError) -> Self {
+        GraphError::OutOfMemory
+    }
+}
+
+/// The crates of a project, each under its number, and what each depends on.
+#[derive(Drop)]
+pub struct CrateGraphBuilder {
+    crates: Vec<CrateBuilder>,
+    limit: u32,
+}
+
+impl Model for CrateGraphBuilder {
+    ghost use Rattle.crate_graph.specs.Graph as seen;
+
+    ghost Value = { seen.Graph };
+
+    ghost view = { λ a. record { limit = a.limit; crates = a.crates.items } };
+
+    ghost invariant = { λ a. seen.IsWellMade a.crates.items a.limit };
+}
+
+impl CrateGraphBuilder {
+    /// A graph with no crates, which takes as many as the limit.
+    pub fn new(alloc: Global, limit: u32) -> Self
+        ensures { result ≡ record { limit = limit; crates = [] } }
+    {
+        CrateGraphBuilder {
+            crates: Vec::new(alloc),
+            limit,
+        }
+    }
+
+    /// How many crates there are. Every graph is acyclic and within its limit.
+    pub fn len(&self) -> usize
+        ensures length { result ≡ length self.now.crates }
+        ensures well_made { IsWellMade self.now.crates self.now.limit }
+    {
+        self.crates.len()
+    }
+
+    /// Whether the graph has a crate of a number.
+    pub fn contains(&self, id: CrateBuilderId) -> bool
+        ensures { IsTrue result ↔ (number_of id < length self.now.crates) }
+    {
+        (id.into_raw() as usize) < self.crates.len()
+    }
+
+    /// The numbers of the crates, in order.
+    pub fn iter(&self) -> CrateIds
+        ensures { result ≡ range_with_len 0 (length self.now.crates) }
+    {
+        CrateIds {
+            next: 0,
+            end: self.crates.len() as u32,
+        }
+    }
+
+    /// Gives back the memory that is not needed. Nothing else changes.
+    pub fn shrink_to_fit(&mut self)
+        ensures { self.new ≡ self.old }
+    {
+        self.crates.shrink_to_fit();
+    }
+
+    /// Puts a crate in that depends on nothing yet, under the next number. Each attribute is
+    /// given without its `#![]`.
+    pub fn add_crate_root(
+        &mut self,
+        root_file_id: FileId,
+        edition: Edition,
+        display_name: Option<CrateDisplayName>,
+        version: Option<String>,
+        cfg_options: CfgOptions,
+        potential_cfg_options: Option<CfgOptions>,
+        env: Env,
+        origin: CrateOrigin,
+        crate_attrs: Vec<String>,
+        target_kind: TargetKind,
+        proc_macro_cwd: AbsPathBuf,
+        ws_data: Rc<CrateWorkspaceData>,
+    ) -> Result<CrateBuilderId, GraphError>
+        ensures next { IfOk result (λ id. number_of id ≡ length self.old.crates) }
+        ensures added { OnOk result (self.new ≡ record {
+          limit = self.old.limit;
+          crates = self.old.crates ++ crate_of (record {
+            root_file_id = root_file_id;
+            edition = edition;
+            dependencies = [];
+            origin = origin;
+            crate_attrs = map (λ text. attribute (string_bytes text)) crate_attrs.items;
+            target_kind = target_kind;
+            proc_macro_cwd = proc_macro_cwd;
+          }) (record {
+            version = option_map string_bytes version;
+            display_name = display_name;
+            potential_cfg_options = potential_cfg_options;
+          }) cfg_options env ws_data.value ∷ [];
+        }) }
+        ensures unchanged { OnErr result (self.new ≡ self.old) }
+        ensures too_many { IsErrOf result GraphError.TooMany
+            ↔ (length self.old.crates ≡ self.old.limit) }
+    {
+        if self.crates.len() >= self.limit as usize {
+            return Err(GraphError::TooMany);
+        }
+        let alloc = *self.crates.allocator();
+        let crate_attrs = attributes(alloc, crate_attrs)?;
+        let basic = CrateData {
+            root_file_id,
+            edition,
+            dependencies: Items::empty(alloc),
+            origin,
+            crate_attrs,
+            target_kind,
+            proc_macro_cwd,
+        };
+        let extra = ExtraCrateData {
+            version: version.map(Text::new),
+            display_name,
+            potential_cfg_options,
+        };
+        let ws_data = Shared::new(ws_data);
+        let krate = CrateBuilder::new(basic, extra, cfg_options, env, ws_data);
+        let id = CrateBuilderId::from_raw(self.crates.len() as u32);
+        graph_base::laws::with_one_more_node();
+        put(&mut self.crates, krate)?;
+        Ok(id)
+    }
+}
+
+// Puts a crate behind the others.
+fn put(crates: &mut Vec<CrateBuilder>, krate: CrateBuilder) -> Result<(), AllocError>
+    ensures ok { OnOk result (crates.new.items ≡ crates.old.items ++ krate ∷ []) }
+    ensures err { OnErr result (crates.new.items ≡ crates.old.items) }
+{
+    crates.push(krate)?;
+    Ok(())
+}
+
+// Each attribute in its `#![]`.
+fn attributes(alloc: Global, texts: Vec<String>) -> Result<Items<Text>, AllocError>
+    ensures { IfOk result (λ made. made ≡ map (λ text. attribute (string_bytes text)) texts.items) }
+{
+    let mut made = Vec::new(alloc);
+    for text in texts {
+        made.push(attribute_of(alloc, text.as_str())?)?;
+    }
+    Ok(Items::new(made))
+}
+
+fn attribute_of(alloc: Global, text: &str) -> Result<Text, AllocError>
+    ensures { IfOk result (λ made. made ≡ attribute text.now) }
+{
+    let mut made = String::from_str(alloc, "#![")?;
+    made.push_str(text)?;
+    made.push_str("]")?;
+    Ok(Text::new(made))
+}
+
+impl Index<CrateBuilderId> for CrateGraphBuilder {
+    type Output = CrateBuilder;
+
+    ghost can_index = { λ graph id. number_of id < length graph.crates };
+
+    ghost index_gives = { λ graph id krate. slice_get graph.crates (number_of id) ≡ Some krate };
+
+    fn index(&self, id: CrateBuilderId) -> &CrateBuilder {
+        &self.crates[id.into_raw() as usize]
+    }
+}
+
+// A search goes over crates by their raw numbers.
+impl Graph for CrateGraphBuilder {
+    ghost rows = { λ graph. edges graph.crates };
+
+    fn count(&self) -> u32 {
+        self.crates.len() as u32
+    }
+
+    fn degree(&self, node: u32) -> usize {
+        self.crates[node as usize].basic.dependencies.len()
+    }
+
+    fn target(&self, node: u32, place: usize) -> u32 {
+        let krate = &self.crates[node as usize];
+        krate.basic.dependencies.as_slice()[place]
+            .crate_id
+            .into_raw()
+    }
+}
+
+/// The numbers of a graph's crates that are left, in order.
+#[derive(Drop)]
+pub struct CrateIds {
+    next: u32,
+    end: u32,
+}
+
+impl Model for CrateIds {
+    ghost use Rattle.std.specs.Prelude.{ℕ, List, ◌-◌};
+    ghost use Rattle.std.specs.List.{range_with_len};
+
+    ghost Value = { List ℕ };
+
+    ghost view = { λ it. range_with_len it.next (it.end - it.next) };
+}
+
+impl Iterator for CrateIds {
+    type Item = CrateBuilderId;
+
+    ghost next_gives = { YieldsFirstBy number_of (λ left. left) };
+
+    ghost remaining = { item_count (λ left. left) };
+
+    fn next(&mut self) -> Option<CrateBuilderId> {
+        if self.next >= self.end {
+            return None;
+        }
+        let id = CrateBuilderId::from_raw(self.next);
+        self.next += 1;
+        Some(id)
+    }
+}

@@ -1,0 +1,93 @@
+//! A dependency is added where it closes no cycle: a search from the crate to depend on tells.
+
+ghost use Rattle.std.specs.Prelude.{◌≡◌, ◌<◌, [], ◌∷◌, ◌++◌, length, map, IfErr, IfOk, OnErr, OnOk};
+ghost use Rattle.base_text.specs.Arena.{number_of};
+ghost use Rattle.graph_base.specs.Reach.{IsPathBack, Reaches};
+ghost use Rattle.crate_graph.specs.Cyclic.{names, numbers, shown_of};
+ghost use Rattle.crate_graph.specs.Refused.{IfCyclic};
+ghost use Rattle.crate_graph.specs.Graph.{AddsDependency, HasDependency, edges, target_of};
+
+use crate::builder::CrateBuilder;
+use crate::crate_data::{CrateBuilderId, DependencyBuilder};
+use crate::cyclic::{AddDepError, CyclicDependenciesError};
+use crate::graph::CrateGraphBuilder;
+use base_text::Items;
+use std::alloc::{AllocError, Global};
+use std::mem;
+
+impl CrateGraphBuilder {
+    /// Lets a crate depend on another, unless that depends on it already.
+    pub fn add_dep(
+        &mut self,
+        from: CrateBuilderId,
+        dep: DependencyBuilder,
+    ) -> Result<(), AddDepError>
+        requires from { number_of from < length self.old.crates }
+        requires to { target_of dep < length self.old.crates }
+        ensures added { OnOk result (AddsDependency self.old self.new (number_of from) dep) }
+        ensures apart { OnOk result
+            (Reaches (edges self.old.crates) (target_of dep) (number_of from) → ⊥) }
+        ensures unchanged { OnErr result (self.new ≡ self.old) }
+        ensures cyclic { IfErr result (λ e. IfCyclic e
+            (λ _. Reaches (edges self.old.crates) (target_of dep) (number_of from))) }
+        ensures path { IfErr result (λ e. IfCyclic e (λ path.
+            IsPathBack (edges self.old.crates) (numbers path) (number_of from) (target_of dep))) }
+        ensures names { IfErr result (λ e. IfCyclic e
+            (λ path. names path ≡ map (shown_of self.old.crates) (numbers path))) }
+    {
+        let alloc = *self.crates.allocator();
+        let found = graph_base::path_back(alloc, self, from.into_raw(), dep.crate_id.into_raw())?;
+        match found {
+            Some(path) => Err(self.cyclic(alloc, &path)),
+            None => {
+                graph_base::laws::with_one_more_edge();
+                append(alloc, &mut self.crates, from, dep)?;
+                Ok(())
+            }
+        }
+    }
+
+    // The refusal that a path tells.
+    fn cyclic(&self, alloc: Global, path: &[u32]) -> AddDepError
+        ensures numbers { IfCyclic result (λ error. numbers error ≡ path.now) }
+        ensures names { IfCyclic result
+            (λ error. names error ≡ map (shown_of self.now.crates) path.now) }
+    {
+        match CyclicDependenciesError::along(alloc, self.crates.as_slice(), path) {
+            Ok(error) => AddDepError::Cyclic(error),
+            Err(error) => AddDepError::from(error),
+        }
+    }
+}
+
+// Puts a dependency behind those of a crate.
+fn append(
+    alloc: Global,
+    crates: &mut Vec<CrateBuilder>,
+    from: CrateBuilderId,
+    dep: DependencyBuilder,
+) -> Result<(), AllocError>
+    requires { number_of from < length crates.old.items }
+    ensures ok { OnOk result
+        (HasDependency crates.old.items crates.new.items (number_of from) dep) }
+    ensures err { OnErr result (crates.new.items ≡ crates.old.items) }
+{
+    let krate = &mut crates[from.into_raw() as usize];
+    append_to(alloc, &mut krate.basic.dependencies, dep)
+}
+
+// Puts a dependency behind others.
+fn append_to(
+    alloc: Global,
+    list: &mut Items<DependencyBuilder>,
+    dep: DependencyBuilder,
+) -> Result<(), AllocError>
+    ensures ok { OnOk result (list.new ≡ list.old ++ dep ∷ []) }
+    ensures err { OnErr result (list.new ≡ list.old) }
+{
+    let mut items = mem::replace(list, Items::empty(alloc)).into_inner();
+    let pushed = items.push(dep);
+    *list = Items::new(items);
+    pushed?;
+    Ok(())
+}

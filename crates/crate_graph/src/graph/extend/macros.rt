@@ -1,0 +1,55 @@
+//! Where the libraries of procedural macros go when their crates get new numbers.
+
+ghost use Rattle.std.specs.Prelude.{◌≡◌, ◌<◌, length, IfOk};
+ghost use Rattle.std.specs.BTreeMap as tree;
+ghost use Rattle.std.specs.List.{All};
+ghost use Rattle.base_text.specs.Arena.{number_of};
+ghost use Rattle.crate_graph.specs.Extend.{Id, moved, renumbered};
+
+use crate::builder::ProcMacroPaths;
+use crate::crate_data::{CrateBuilderId, CrateTag};
+use crate::graph::extend::renamed::new_number;
+use crate::proc_macro::ProcMacroLoadingError;
+use base_text::{AbsPathBuf, Text, TryClone};
+use std::alloc::{AllocError, Global};
+use std::collections::BTreeMap;
+
+// A copy of what is known of a crate's library.
+fn copy_of(
+    alloc: Global,
+    library: &Result<(Text, AbsPathBuf), ProcMacroLoadingError>,
+) -> Result<Result<(Text, AbsPathBuf), ProcMacroLoadingError>, AllocError>
+    ensures { IfOk result (λ copy. copy ≡ library.now) }
+{
+    match library {
+        Ok((name, path)) => {
+            let name = name.try_clone(alloc)?;
+            let path = path.try_clone(alloc)?;
+            Ok(Ok((name, path)))
+        }
+        Err(error) => {
+            let error = error.try_clone(alloc)?;
+            Ok(Err(error))
+        }
+    }
+}
+
+// The libraries under the new numbers of their crates: of two under one, that of the greater old one stays.
+pub(super) fn moved_macros(
+    alloc: Global,
+    news: &[u32],
+    macros: &ProcMacroPaths,
+) -> Result<ProcMacroPaths, AllocError>
+    requires { All (λ id. number_of id < length news.now) (tree.keys macros.now) }
+    ensures { IfOk result (λ new. (id : Id)
+        → tree.get ⟦<CrateBuilderId as Ord>⟧.cmp new id
+        ≡ moved (renumbered news.now) macros.now.entries id) }
+{
+    base_text::arena::numbers_compare_as_numbers::<CrateTag>();
+    let mut moved = BTreeMap::new(alloc);
+    for (id, library) in macros.iter() {
+        let library = copy_of(alloc, library)?;
+        drop(moved.insert(new_number(news, *id), library)?);
+    }
+    Ok(moved)
+}

@@ -1,0 +1,5 @@
+pub mod KeptLemmas
+pub mod ReachLemmas
+pub mod TrailLemmas
+pub mod FinishLemmas
+pub mod WalkLemmas

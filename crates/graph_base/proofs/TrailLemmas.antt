@@ -1,0 +1,403 @@
+-- What a search finds, one edge after another.
+use Rattle.std.proofs.Common.{◌≡◌, ℕ, zero, suc, ◌+◌, ◌-◌, ◌<◌, ◌≤◌, ◌⊎◌, inl, inr, List, [], ◌∷◌, ◌++◌, Bool, true, false, cond, length, get_or, set, take, refl, sym, ap, ◌∙◌, subst, arith, get_or-set_same, get_or-set_other, length-set, add-one}
+use Rattle.std.specs.Prelude.{replicate, ◌↔◌}
+use Rattle.std.specs.List.{Contains, count_by}
+use Rattle.std.proofs.lemmas.Bool.{cases_eq, cases_lt, false≢true}
+use Rattle.std.proofs.lemmas.List.{get_or_append_left, get_or_at, get_or_default, get_or_past, length_push, take_all, length-replicate, get_or-replicate}
+use Rattle.std.proofs.lemmas.List.Elements.{Contains-append_left, Contains-push}
+use Rattle.std.proofs.lemmas.List.Folds.{sum_by-replicate}
+use Rattle.std.proofs.lemmas.List.Sums.{sum_by-set, count_by-le-length, fold_more}
+use Rattle.graph_base.specs.Edges.{HasEdge, IsInRange, row}
+use Rattle.graph_base.specs.Reach.{Reaches, itself, IsPathBack}
+use Rattle.graph_base.specs.Trail.{Trail, IsTrail, IsFollowed, IsMarked, IsTraced, IsWhole, blank, noted, noted_all, with_found}
+use Rattle.graph_base.proofs.ReachLemmas.{reaches_edge, kept_along}
+
+-- a place in a list that was pushed to is an old one or the last
+pub pushed_cases : (xs : List ℕ) (y k : ℕ) → k < length (xs ++ y ∷ []) → ((k < length xs) × (get_or (xs ++ y ∷ []) k 0 ≡ get_or xs k 0)) ⊎ ((k ≡ length xs) × (get_or (xs ++ y ∷ []) k 0 ≡ y))
+pushed_cases xs y k within = elim (cases_lt k (length xs)) [
+  | inl old ↦ inl (old, get_or_append_left xs (y ∷ []) 0 k old)
+  | inr new ↦
+      let last : k ≡ length xs = omega (arith, length_push xs y) in
+      inr (last, get_or_at xs y [] 0 k (sym last))
+]
+
+pub pushed_old : (xs : List ℕ) (y k : ℕ) → k < length xs → get_or (xs ++ y ∷ []) k 0 ≡ get_or xs k 0
+pushed_old xs y k old = get_or_append_left xs (y ∷ []) 0 k old
+
+-- where a list has a number, whatever stands past its end
+pub at_place : (xs : List ℕ) (b : ℕ) (c : Contains xs b) → get_or xs c.0 0 ≡ b
+at_place xs b c = sym (get_or_default xs c.0 b 0 c.1) ∙ c.2
+
+-- a later trail: what was found stays where it was
+pub record Grew (t u : Trail) : Type 0 where
+  pub longer : length t.nodes ≤ length u.nodes
+  pub same : (k : ℕ) → k < length t.nodes → get_or u.nodes k 0 ≡ get_or t.nodes k 0
+  pub marks : (m : ℕ) → get_or t.marks m false ≡ true → get_or u.marks m false ≡ true
+
+pub grew_none : (t : Trail) → Grew t t
+grew_none t = record { longer = omega arith; same = λ k within. refl; marks = λ m is. is }
+
+pub grew_on : (t u v : Trail) → Grew t u → Grew u v → Grew t v
+grew_on t u v first then = record {
+  longer = omega (arith, first.longer, then.longer);
+  same = λ k within. then.same k (omega (arith, first.longer)) ∙ first.same k within;
+  marks = λ m is. then.marks m (first.marks m is);
+}
+
+pub mark_kept : (marks : List Bool) (b m : ℕ) → b < length marks → get_or marks m false ≡ true → get_or (set marks b true) m false ≡ true
+mark_kept marks b m within is = elim (cases_eq m b) [
+  | inl same ↦ subst (λ z. get_or (set marks b true) z false ≡ true) (sym same) (get_or-set_same marks b true false within)
+  | inr other ↦ get_or-set_other marks b m true false other ∙ is
+]
+
+pub mark_cases : (marks : List Bool) (b m : ℕ) → get_or (set marks b true) m false ≡ true → (m ≡ b) ⊎ (get_or marks m false ≡ true)
+mark_cases marks b m is = elim (cases_eq m b) [
+  | inl same ↦ inl same
+  | inr other ↦ inr (sym (get_or-set_other marks b m true false other) ∙ is)
+]
+
+pub counted_set : (marks : List Bool) (b : ℕ) → b < length marks → get_or marks b false ≡ false → count_by (λ m. m) (set marks b true) ≡ count_by (λ m. m) marks + 1
+counted_set marks b within is =
+    let sums = sum_by-set (λ m. cond m 1 0) marks b true false within in
+    let none : ◌≡◌ {A = ℕ} (cond (get_or marks b false) 1 0) 0 = ap (λ m. cond m 1 0) is in
+    omega (arith, sums, none)
+
+module _ (g : List (List ℕ)) (start place b : ℕ) (t : Trail) (old : IsTrail g start t) (there : place < length t.nodes) (edge : HasEdge g (get_or t.nodes place 0) b) (within : b < length g) where
+  fresh_grew : Grew t (with_found place t b)
+  fresh_grew =
+      let long : length t.marks ≡ length g = old.marks_long in
+      let fits : b < length t.marks = omega arith in
+      record {
+        longer = omega (arith, length_push t.nodes b);
+        same = λ k below. pushed_old t.nodes b k below;
+        marks = λ m is. mark_kept t.marks b m fits is;
+      }
+
+  fresh_reached : Reaches g start b
+  fresh_reached = reaches_edge g start (get_or t.nodes place 0) b (old.reached place there) edge
+
+  fresh_trail : get_or t.marks b false ≡ false → IsTrail g start (with_found place t b)
+  fresh_trail fresh =
+      let long : length t.marks ≡ length g = old.marks_long in
+      let fits : b < length t.marks = omega arith in
+      let links_same : length t.links ≡ length t.nodes = old.links_long in
+      let some : 0 < length t.nodes = old.some in
+      let nodes_long : length (t.nodes ++ b ∷ []) ≡ length t.nodes + 1 = length_push t.nodes b in
+      let links_long : length (t.links ++ place ∷ []) ≡ length t.links + 1 = length_push t.links place in
+      record {
+        marks_long = length-set t.marks b true ∙ long;
+        links_long = omega arith;
+        counted = counted_set t.marks b fits fresh ∙ ap (λ n. n + 1) old.counted ∙ sym nodes_long;
+        some = omega arith;
+        begins = pushed_old t.nodes b 0 some ∙ old.begins;
+        within = λ k below. elim (pushed_cases t.nodes b k below) [
+          | inl was ↦ subst (λ z. z < length g) (sym was.1) (old.within k was.0)
+          | inr now ↦ subst (λ z. z < length g) (sym now.1) within
+        ];
+        marked = λ k below. elim (pushed_cases t.nodes b k below) [
+          | inl was ↦ subst (λ z. get_or (set t.marks b true) z false ≡ true) (sym was.1) (mark_kept t.marks b (get_or t.nodes k 0) fits (old.marked k was.0))
+          | inr now ↦ subst (λ z. get_or (set t.marks b true) z false ≡ true) (sym now.1) (get_or-set_same t.marks b true false fits)
+        ];
+        placed = λ m is. elim (mark_cases t.marks b m is) [
+          | inl same ↦ subst (λ z. Contains (t.nodes ++ b ∷ []) z) (sym same) (Contains-push t.nodes b)
+          | inr was ↦ Contains-append_left t.nodes (b ∷ []) m (old.placed m was)
+        ];
+        reached = λ k below. elim (pushed_cases t.nodes b k below) [
+          | inl was ↦ subst (λ z. Reaches g start z) (sym was.1) (old.reached k was.0)
+          | inr now ↦ subst (λ z. Reaches g start z) (sym now.1) fresh_reached
+        ];
+        earlier = λ k positive below. elim (pushed_cases t.nodes b k below) [
+          | inl was ↦
+              let link = pushed_old t.links place k (omega (arith, was.0)) in
+              subst (λ z. z < k) (sym link) (old.earlier k positive was.0)
+          | inr now ↦
+              let link = get_or_at t.links place [] 0 k (omega (arith, now.0)) in
+              subst (λ z. z < k) (sym link) (omega (arith, now.0))
+        ];
+        linked = λ k positive below. elim (pushed_cases t.nodes b k below) [
+          | inl was ↦
+              let link = pushed_old t.links place k (omega (arith, was.0)) in
+              let before = old.earlier k positive was.0 in
+              let from = pushed_old t.nodes b (get_or t.links k 0) (omega (arith, before, was.0)) in
+              subst (λ z. HasEdge g (get_or (t.nodes ++ b ∷ []) z 0) (get_or (t.nodes ++ b ∷ []) k 0)) (sym link)
+              (subst (λ z. HasEdge g z (get_or (t.nodes ++ b ∷ []) k 0)) (sym from)
+              (subst (λ z. HasEdge g (get_or t.nodes (get_or t.links k 0) 0) z) (sym was.1) (old.linked k positive was.0)))
+          | inr now ↦
+              let link = get_or_at t.links place [] 0 k (omega (arith, now.0)) in
+              let from = pushed_old t.nodes b place there in
+              subst (λ z. HasEdge g (get_or (t.nodes ++ b ∷ []) z 0) (get_or (t.nodes ++ b ∷ []) k 0)) (sym link)
+              (subst (λ z. HasEdge g z (get_or (t.nodes ++ b ∷ []) k 0)) (sym from)
+              (subst (λ z. HasEdge g (get_or t.nodes place 0) z) (sym now.1) edge))
+        ];
+      }
+
+-- a trail after an edge
+pub record IsNoted (g : List (List ℕ)) (start b : ℕ) (t u : Trail) : Type 0 where
+  pub trail : IsTrail g start u
+  pub grew : Grew t u
+  pub has : get_or u.marks b false ≡ true
+
+pub noted_is : (g : List (List ℕ)) (start place b : ℕ) (t : Trail) → IsTrail g start t → place < length t.nodes → HasEdge g (get_or t.nodes place 0) b → b < length g → IsNoted g start b t (noted place t b)
+unfolding noted
+noted_is g start place b t old there edge within =
+    elim (get_or t.marks b false) as (λ m. get_or t.marks b false ≡ m → IsNoted g start b t (cond m t (with_found place t b))) [
+      | true ↦ λ is. record { trail = old; grew = grew_none t; has = is }
+      | false ↦ λ is. record {
+        trail = fresh_trail g start place b t old there edge within is;
+        grew = fresh_grew g start place b t old there edge within;
+        has = get_or-set_same t.marks b true false (subst (λ n. b < n) (sym old.marks_long) within);
+      }
+    ] refl
+
+-- a trail after some of the edges of the node at a place
+pub record IsNotedUpto (g : List (List ℕ)) (start place count : ℕ) (t u : Trail) : Type 0 where
+  pub trail : IsTrail g start u
+  pub grew : Grew t u
+  pub has : (k : ℕ) → k < count → get_or u.marks (get_or (row g (get_or t.nodes place 0)) k 0) false ≡ true
+
+pub noted_upto_none : (g : List (List ℕ)) (start place : ℕ) (t : Trail) → IsTrail g start t → IsNotedUpto g start place 0 t t
+noted_upto_none g start place t old = record { trail = old; grew = grew_none t; has = λ k below. absurd (omega arith) }
+
+pub noted_upto_more : (g : List (List ℕ)) (start place count b : ℕ) (t u : Trail) → IsInRange g → place < length t.nodes → count < length (row g (get_or t.nodes place 0)) → b ≡ get_or (row g (get_or t.nodes place 0)) count 0 → IsNotedUpto g start place count t u
+    → IsNotedUpto g start place (count + 1) t (noted place u b)
+noted_upto_more g start place count b t u in_range there within is upto =
+    let from = get_or t.nodes place 0 in
+    let grew = upto.grew in
+    let longer : length t.nodes ≤ length u.nodes = grew.longer in
+    let edge : HasEdge g from b = (count, within, get_or_default (row g from) count b 0 within ∙ sym is) in
+    let now : HasEdge g (get_or u.nodes place 0) b = subst (λ z. HasEdge g z b) (sym (grew.same place there)) edge in
+    let next = noted_is g start place b u upto.trail (omega arith) now (in_range from b edge) in
+    record {
+      trail = next.trail;
+      grew = grew_on t u (noted place u b) grew next.grew;
+      has = λ k below. elim (cases_eq k count) [
+        | inl same ↦ subst (λ z. get_or (noted place u b).marks z false ≡ true) (is ∙ ap (λ z. get_or (row g from) z 0) (sym same)) next.has
+        | inr other ↦ next.grew.marks (get_or (row g from) k 0) (upto.has k (omega arith))
+      ];
+    }
+
+-- the node at a place is followed once its edges are noted
+pub followed_more : (g : List (List ℕ)) (start place : ℕ) (t u : Trail) → place < length t.nodes → IsFollowed g t place → IsNotedUpto g start place (length (row g (get_or t.nodes place 0))) t u
+    → IsFollowed g u (place + 1)
+followed_more g start place t u there followed noted k b below edge =
+    let grew = noted.grew in
+    elim (cases_eq k place) [
+      | inl same ↦
+          let here : HasEdge g (get_or t.nodes place 0) b = subst (λ z. HasEdge g z b) (ap (λ z. get_or u.nodes z 0) same ∙ grew.same place there) edge in
+          subst (λ z. get_or u.marks z false ≡ true) (at_place (row g (get_or t.nodes place 0)) b here) (noted.has here.0 here.1)
+      | inr other ↦
+          let before : k < place = omega arith in
+          grew.marks b (followed k b before (subst (λ z. HasEdge g z b) (grew.same k (omega arith)) edge))
+    ]
+
+pub unmarked_all : (n m : ℕ) → get_or (replicate n false) m false ≡ false
+unmarked_all n m = elim (cases_lt m n) [
+  | inl below ↦ get_or-replicate n m false false below
+  | inr past ↦ get_or_past (replicate n false) m false (omega (arith, length-replicate n false))
+]
+
+only_place : (k : ℕ) → k < 1 → ◌≡◌ {A = ℕ} 0 k
+only_place k below = omega arith
+
+-- a search begins at its start
+pub begun : (g : List (List ℕ)) (start : ℕ) → start < length g → IsTrail g start (noted 0 (blank (length g)) start)
+unfolding noted
+begun g start within =
+    let none : List Bool = replicate (length g) false in
+    let long : length none ≡ length g = length-replicate (length g) false in
+    let unmarked : get_or none start false ≡ false = get_or-replicate (length g) start false false within in
+    let fits : start < length none = omega arith in
+    let zero_marks : count_by (λ m. m) none ≡ 0 = sum_by-replicate (λ m. cond m 1 0) (length g) false ∙ omega arith in
+    let one : IsTrail g start (with_found 0 (blank (length g)) start) = record {
+      marks_long = length-set none start true ∙ long;
+      links_long = refl;
+      counted = counted_set none start fits unmarked ∙ ap (λ n. n + 1) zero_marks;
+      some = omega arith;
+      begins = refl;
+      within = λ k below. subst (λ z. get_or (start ∷ []) z 0 < length g) (only_place k below) within;
+      marked = λ k below. subst (λ z. get_or (set none start true) (get_or (start ∷ []) z 0) false ≡ true) (only_place k below) (get_or-set_same none start true false fits);
+      placed = λ m is. elim (mark_cases none start m is) [
+        | inl same ↦ (0, omega arith, sym same)
+        | inr was ↦ absurd (false≢true (sym (unmarked_all (length g) m) ∙ was))
+      ];
+      reached = λ k below. subst (λ z. Reaches g start (get_or (start ∷ []) z 0)) (only_place k below) itself;
+      earlier = λ k positive below. absurd (omega arith);
+      linked = λ k positive below. absurd (omega arith);
+    } in
+    subst (λ m. IsTrail g start (cond m (blank (length g)) (with_found 0 (blank (length g)) start))) (sym unmarked) one
+
+-- a trail finds no more nodes than there are
+pub trail_fits : (g : List (List ℕ)) (start : ℕ) (t : Trail) → IsTrail g start t → length t.nodes ≤ length g
+trail_fits g start t is =
+    let most = count_by-le-length (λ m. m) t.marks in
+    let counted : count_by (λ m. m) t.marks ≡ length t.nodes = is.counted in
+    let long : length t.marks ≡ length g = is.marks_long in
+    omega arith
+
+module _ (g : List (List ℕ)) (start : ℕ) (t : Trail) (whole : IsWhole g start t) where
+  pub marks_reached : (b : ℕ) → get_or t.marks b false ≡ true → Reaches g start b
+  marks_reached b is =
+      let at = whole.trail.placed b is in
+      subst (λ z. Reaches g start z) (at_place t.nodes b at) (whole.trail.reached at.0 at.1)
+
+  pub reached_marks : (b : ℕ) → Reaches g start b → get_or t.marks b false ≡ true
+  reached_marks b r =
+      let keeps : (x y : ℕ) → get_or t.marks x false ≡ true → HasEdge g x y → get_or t.marks y false ≡ true =
+      λ x y is edge.
+      let at = whole.trail.placed x is in
+      whole.followed at.0 y at.1 (subst (λ z. HasEdge g z y) (sym (at_place t.nodes x at)) edge) in
+      let marked = whole.trail.marked 0 whole.trail.some in
+      kept_along (λ x. get_or t.marks x false ≡ true) keeps r (subst (λ z. get_or t.marks z false ≡ true) whole.trail.begins marked)
+
+  pub reached_placed : (b : ℕ) → Reaches g start b → Contains t.nodes b
+  reached_placed b r = whole.trail.placed b (reached_marks b r)
+
+-- a path of links begins with its place
+pub traced_begun : (t : Trail) (place : ℕ) → IsTraced t (get_or t.nodes place 0 ∷ []) place place
+traced_begun t place = record { some = omega arith; first = refl; last_is = refl; steps = λ k below. absurd (omega arith) }
+
+pub traced_more : (t : Trail) (path : List ℕ) (place at link node : ℕ) → 0 < at → at < length t.nodes → link ≡ get_or t.links at 0 → node ≡ get_or t.nodes link 0 → IsTraced t path place at → IsTraced t (path ++ node ∷ []) place link
+traced_more t path place at link node positive within link_is node_is traced =
+    let some : 0 < length path = traced.some in
+    let long : length (path ++ node ∷ []) ≡ length path + 1 = length_push path node in
+    let new : (k : ℕ) → length path ≡ k → get_or (path ++ node ∷ []) k 0 ≡ node = get_or_at path node [] 0 in
+    record {
+      some = omega arith;
+      first = pushed_old path node 0 some ∙ traced.first;
+      last_is = new (length (path ++ node ∷ []) - 1) (omega arith) ∙ node_is;
+      steps = λ k below. elim (cases_lt (k + 1) (length path)) [
+        | inl old ↦
+            let step = traced.steps k old in
+            (step.0, step.1, step.2, pushed_old path node k (omega arith) ∙ step.3, pushed_old path node (k + 1) old ∙ step.4)
+        | inr last ↦
+            let here : k ≡ length path - 1 = omega arith in
+            (at, positive, within, pushed_old path node k (omega arith) ∙ ap (λ z. get_or path z 0) here ∙ traced.last_is, new (k + 1) (omega arith) ∙ node_is ∙ ap (λ z. get_or t.nodes z 0) link_is)
+      ];
+    }
+
+pub traced_back : (g : List (List ℕ)) (start : ℕ) (t : Trail) (path : List ℕ) (place end : ℕ) → IsTrail g start t → end ≡ get_or t.nodes place 0 → IsTraced t path place 0 → IsPathBack g path end start
+traced_back g start t path place end trail is traced = record {
+  some = traced.some;
+  first = traced.first ∙ sym is;
+  last = traced.last_is ∙ trail.begins;
+  leads_back = λ k below.
+      let step = traced.steps k below in
+      subst (λ z. HasEdge g z (get_or path k 0)) (sym step.4) (subst (λ z. HasEdge g (get_or t.nodes (get_or t.links step.0 0) 0) z) (sym step.3) (trail.linked step.0 step.1 step.2));
+}
+
+pub marks_noted : (place b : ℕ) (t : Trail) → length (noted place t b).marks ≡ length t.marks
+unfolding noted
+marks_noted place b t =
+    elim (get_or t.marks b false) as (λ m. length (cond m t (with_found place t b)).marks ≡ length t.marks) [ true ↦ refl | false ↦ length-set t.marks b true ]
+
+-- one edge after another is noted
+pub noted_front : (g : List (List ℕ)) (start place count : ℕ) (t : Trail) → IsTrail g start t → IsInRange g → place < length t.nodes → count ≤ length (row g (get_or t.nodes place 0))
+    → IsNotedUpto g start place count t (noted_all place t (take count (row g (get_or t.nodes place 0))))
+noted_front g start place zero t old in_range there within = noted_upto_none g start place t old
+noted_front g start place (suc count) t old in_range there within =
+    let edges = row g (get_or t.nodes place 0) in
+    let before = noted_front g start place count t old in_range there (omega arith) in
+    let more = noted_upto_more g start place count (get_or edges count 0) t (noted_all place t (take count edges)) in_range there (omega arith) refl before in
+    subst (λ n. IsNotedUpto g start place n t (noted_all place t (take n edges))) (add-one count)
+    (subst (λ u. IsNotedUpto g start place (count + 1) t u) (sym (fold_more (noted place) t edges count 0 (omega arith))) more)
+
+pub noted_whole : (g : List (List ℕ)) (start place : ℕ) (t : Trail) → IsTrail g start t → IsInRange g → place < length t.nodes
+    → IsNotedUpto g start place (length (row g (get_or t.nodes place 0))) t (noted_all place t (row g (get_or t.nodes place 0)))
+noted_whole g start place t old in_range there =
+    let edges = row g (get_or t.nodes place 0) in
+    subst (λ front. IsNotedUpto g start place (length edges) t (noted_all place t front)) (take_all (length edges) edges (omega arith)) (noted_front g start place (length edges) t old in_range there (omega arith))
+
+-- the marked nodes, one more looked at
+pub marked_none : (marks : List Bool) → IsMarked marks 0 []
+marked_none marks = record {
+  ascending = λ i j before below. absurd (omega arith);
+  below = λ k within. absurd (omega arith);
+  marked = λ k within. absurd (omega arith);
+  all = λ m below is. absurd (omega arith);
+}
+
+pub marked_skip : (marks : List Bool) (count : ℕ) (nodes : List ℕ) → get_or marks count false ≡ false → IsMarked marks count nodes → IsMarked marks (count + 1) nodes
+marked_skip marks count nodes is old = record {
+  ascending = old.ascending;
+  below = λ k within. omega (arith, old.below k within);
+  marked = old.marked;
+  all = λ m below was. elim (cases_eq m count) [
+    | inl same ↦ absurd (false≢true (sym is ∙ subst (λ z. get_or marks z false ≡ true) same was))
+    | inr other ↦ old.all m (omega arith) was
+  ];
+}
+
+pub marked_more : (marks : List Bool) (count : ℕ) (nodes : List ℕ) → get_or marks count false ≡ true → IsMarked marks count nodes → IsMarked marks (count + 1) (nodes ++ count ∷ [])
+marked_more marks count nodes is old = record {
+  ascending = λ i j before below. elim (pushed_cases nodes count j below) [
+    | inl was ↦ subst (λ z. get_or (nodes ++ count ∷ []) i 0 < z) (sym was.1) (subst (λ z. z < get_or nodes j 0) (sym (pushed_old nodes count i (omega (arith, was.0)))) (old.ascending i j before was.0))
+    | inr now ↦
+        let early : i < length nodes = omega (arith, now.0) in
+        subst (λ z. get_or (nodes ++ count ∷ []) i 0 < z) (sym now.1) (subst (λ z. z < count) (sym (pushed_old nodes count i early)) (old.below i early))
+  ];
+  below = λ k within. elim (pushed_cases nodes count k within) [
+    | inl was ↦ omega (arith, was.1, old.below k was.0)
+    | inr now ↦ omega (arith, now.1)
+  ];
+  marked = λ k within. elim (pushed_cases nodes count k within) [
+    | inl was ↦ subst (λ z. get_or marks z false ≡ true) (sym was.1) (old.marked k was.0)
+    | inr now ↦ subst (λ z. get_or marks z false ≡ true) (sym now.1) is
+  ];
+  all = λ m below was. elim (cases_eq m count) [
+    | inl same ↦ subst (λ z. Contains (nodes ++ count ∷ []) z) (sym same) (Contains-push nodes count)
+    | inr other ↦ Contains-append_left nodes (count ∷ []) m (old.all m (omega arith) was)
+  ];
+}
+
+mark_within : (marks : List Bool) (b : ℕ) → get_or marks b false ≡ true → b < length marks
+mark_within marks b is = elim (cases_lt b (length marks)) [
+  | inl within ↦ within
+  | inr past ↦ absurd (false≢true (sym (get_or_past marks b false past) ∙ is))
+]
+
+-- the marked nodes of a search that is over are those that are reached
+pub marked_are_reached : (g : List (List ℕ)) (start : ℕ) (t : Trail) (nodes : List ℕ) → IsWhole g start t → IsMarked t.marks (length t.marks) nodes → (b : ℕ) → Contains nodes b ↔ Reaches g start b
+marked_are_reached g start t nodes whole is b = (
+  λ there. marks_reached g start t whole b (subst (λ z. get_or t.marks z false ≡ true) (at_place nodes b there) (is.marked there.0 there.1)),
+  λ r. let marked = reached_marks g start t whole b r in is.all b (mark_within t.marks b marked) marked,
+)
+
+-- a search that has followed the nodes of so many places
+pub record IsSearched (g : List (List ℕ)) (start place : ℕ) (t : Trail) : Type 0 where
+  pub trail : IsTrail g start t
+  pub followed : IsFollowed g t place
+  pub within : place ≤ length t.nodes
+
+pub searched_none : (g : List (List ℕ)) (start : ℕ) (t : Trail) → start < length g → t ≡ noted 0 (blank (length g)) start → IsSearched g start 0 t
+searched_none g start t within is = subst (IsSearched g start 0) (sym is) (record {
+  trail = begun g start within;
+  followed = λ k b below edge. absurd (omega arith);
+  within = omega arith;
+})
+
+pub searched_more : (g : List (List ℕ)) (start place : ℕ) (t u : Trail) → IsInRange g → place < length t.nodes → u ≡ noted_all place t (row g (get_or t.nodes place 0)) → IsSearched g start place t → IsSearched g start (place + 1) u
+searched_more g start place t u in_range there is old =
+    let upto = noted_whole g start place t old.trail in_range there in
+    subst (IsSearched g start (place + 1)) (sym is) (record {
+      trail = upto.trail;
+      followed = followed_more g start place t (noted_all place t (row g (get_or t.nodes place 0))) there old.followed upto;
+      within = omega (arith, upto.grew.longer);
+    })
+
+pub searched_all : (g : List (List ℕ)) (start place : ℕ) (t : Trail) → length t.nodes ≤ place → IsSearched g start place t → IsWhole g start t
+searched_all g start place t past old = record {
+  trail = old.trail;
+  followed = λ k b below edge. old.followed k b (omega arith) edge;
+}
+
+-- a search takes fewer steps than there are nodes
+pub searched_fits : (g : List (List ℕ)) (start place : ℕ) (t : Trail) → IsSearched g start place t → length t.nodes ≤ length g
+searched_fits g start place t old = trail_fits g start t old.trail
+
+pub edge_fits : (g : List (List ℕ)) (node edge target : ℕ) → IsInRange g → edge < length (row g node) → target ≡ get_or (row g node) edge 0 → target < length g
+edge_fits g node edge target in_range within is =
+    in_range node target (edge, within, get_or_default (row g node) edge target 0 within ∙ sym is)
+
+pub noted_next : (place edge target : ℕ) (t u : Trail) (edges : List ℕ) → edge < length edges → target ≡ get_or edges edge 0 → u ≡ noted_all place t (take edge edges) → noted place u target ≡ noted_all place t (take (edge + 1) edges)
+noted_next place edge target t u edges within is so_far =
+    ap (λ v. noted place v target) so_far ∙ ap (noted place (noted_all place t (take edge edges))) is ∙ sym (fold_more (noted place) t edges edge 0 within)
