@@ -105,12 +105,15 @@ edition_text edition._E2030 = codes "2030"
 abbrev pub target_kind_at : Data → Reading TargetKind
 target_kind_at d = under target_kind_of (text_at d)
 
+-- the kind of a target, written
 abbrev pub target_kind_data : TargetKind → Data
 target_kind_data kind = string (target_kind_text kind)
 
+-- the type of a crate, read
 abbrev pub crate_type_at : Data → Reading CrateType
 crate_type_at d = under crate_type_of (text_at d)
 
+-- the type of a crate, written
 abbrev pub crate_type_data : CrateType → Data
 crate_type_data kind = string (crate_type_text kind)
 
@@ -123,11 +126,14 @@ dependency_kind_at (string s) = Ok (dependency_kind_of s)
 dependency_kind_at (array ds) = Err []
 dependency_kind_at (object ms) = Err []
 
+-- the kind of a dependency, written
 abbrev pub dependency_kind_data : DependencyKind → Data
 dependency_kind_data kind = string (dependency_kind_text kind)
 
+-- an edition, read
 abbrev pub edition_at : Data → Reading Edition
 edition_at d = text_at d >>= edition_of
 
+-- an edition, written
 abbrev pub edition_data : Edition → Data
 edition_data e = string (edition_text e)

@@ -10,6 +10,7 @@ use Rattle.cargo_meta.specs.declared.names.Source.{Source}
 abbrev pub package_id_at : Data → Reading PackageId
 package_id_at d = under (λ text. record { repr = text }) (text_at d)
 
+-- an id, written
 abbrev pub package_id_data : PackageId → Data
 package_id_data id = string id.repr
 
@@ -17,6 +18,7 @@ package_id_data id = string id.repr
 abbrev pub source_at : Data → Reading Source
 source_at d = under (λ text. record { repr = text }) (text_at d)
 
+-- a source, written
 abbrev pub source_data : Source → Data
 source_data source = string source.repr
 

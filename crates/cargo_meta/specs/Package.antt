@@ -23,6 +23,7 @@ head_of p = record {
   license = p.license;
 }
 
+-- the second part of a package
 abbrev pub body_of : Package → PackageBody
 body_of p = record {
   license_file = p.license_file;
@@ -35,6 +36,7 @@ body_of p = record {
   repository = p.repository;
 }
 
+-- the third part of a package
 abbrev pub tail_of : Package → PackageTail
 tail_of p = record {
   homepage = p.homepage;

@@ -36,6 +36,7 @@ head_at ms = do
     license = license;
   })
 
+-- the first part of a package, put among members
 unfoldable pub head_set : PackageHead → Members → Members
 head_set p ms =
     set_member (codes "license") (option_data string p.license)
@@ -69,6 +70,7 @@ body_at ms = do
     repository = repository;
   })
 
+-- the second part of a package, put among members
 unfoldable pub body_set : PackageBody → Members → Members
 body_set p ms =
     set_member (codes "repository") (option_data string p.repository)

@@ -21,6 +21,7 @@ dep_kind_at d = do
   target ← optional (codes "target") text_at ms
   Ok (record { kind = kind; target = target })
 
+-- the kind of an edge, written
 unfoldable pub dep_kind_data : DepKindInfo → Data
 dep_kind_data k =
     object (set_member (codes "target") (option_data string k.target)
@@ -35,6 +36,7 @@ node_dep_at d = do
   dep_kinds ← defaulted (codes "dep_kinds") [] (list_at dep_kind_at) ms
   Ok (record { name = name; pkg = pkg; dep_kinds = dep_kinds })
 
+-- an edge of a node, written
 unfoldable pub node_dep_data : NodeDep → Data
 node_dep_data d =
     object (set_member (codes "dep_kinds") (list_data dep_kind_data d.dep_kinds)
@@ -51,6 +53,7 @@ node_at d = do
   features ← defaulted (codes "features") [] (list_at text_at) ms
   Ok (record { id = id; deps = deps; dependencies = dependencies; features = features })
 
+-- a node, written
 unfoldable pub node_data : Node → Data
 node_data n =
     object (set_member (codes "features") (list_data string n.features)
@@ -66,6 +69,7 @@ resolve_at d = do
   root ← optional (codes "root") package_id_at ms
   Ok (record { nodes = nodes; root = root })
 
+-- a graph of packages, written
 unfoldable pub resolve_data : Resolve → Data
 resolve_data r =
     object (set_member (codes "root") (option_data package_id_data r.root)

@@ -4,6 +4,7 @@ use Rattle.std.specs.List.{Contains, count_by}
 use Rattle.graph_base.specs.Edges.{HasEdge, IsAscending}
 use Rattle.graph_base.specs.Reach.{Reaches}
 
+-- what a search has found so far
 pub record Trail : Type 0 where
   -- of each node, whether it was found
   pub marks : List Bool

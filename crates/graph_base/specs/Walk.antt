@@ -5,6 +5,7 @@ use Rattle.graph_base.specs.Edges.{row}
 use Rattle.graph_base.specs.Finish.{Visits}
 use Rattle.graph_base.specs.declared.walk.Frame.{Frame}
 
+-- where a walk stands
 pub record Walk : Type 0 where
   -- of each node, whether the walk has come to it
   pub marks : List Bool

@@ -8,6 +8,7 @@ use Rattle.input_db.specs.contracts.roots.LocalRoots as locals
 use Rattle.input_db.specs.declared.roots.LocalRoots.{LocalRoots}
 use Rattle.input_db.specs.declared.roots.LibraryRoots.{LibraryRoots}
 
+-- what a database holds
 pub record Database : Type 0 where
   pub files : Held
   -- the roots that are worked on, by number
