@@ -74,6 +74,13 @@ impl CrateBuilder {
     {
         self.ws_data.get()
     }
+
+    /// The same, as its workspace shares it.
+    pub fn shared_ws_data(&self) -> &Shared<CrateWorkspaceData>
+        ensures { result.now ≡ workspace_of self.now }
+    {
+        &self.ws_data
+    }
 }
 
 impl TryClone for CrateBuilder {

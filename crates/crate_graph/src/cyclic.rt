@@ -108,6 +108,28 @@ impl fmt::Display for CyclicDependenciesError {
 
 impl Error for CyclicDependenciesError {}
 
+impl TryClone for CyclicDependenciesError {
+    fn try_clone(&self, alloc: Global) -> Result<Self, AllocError> {
+        let path = copied_path(alloc, self.path())?;
+        Ok(CyclicDependenciesError { path })
+    }
+}
+
+// A copy of a path.
+fn copied_path(
+    alloc: Global,
+    path: &[(CrateBuilderId, Option<CrateDisplayName>)],
+) -> Result<Items<(CrateBuilderId, Option<CrateDisplayName>)>, AllocError>
+    ensures { IfOk result (λ copy. copy ≡ path.now) }
+{
+    let mut copy = Vec::new(alloc);
+    for (id, name) in path {
+        let name = name.try_clone(alloc)?;
+        copy.push((*id, name))?;
+    }
+    Ok(Items::new(copy))
+}
+
 /// Why a dependency was not added.
 #[derive(Debug, PartialEq, Eq, Drop)]
 pub enum AddDepError {
@@ -126,6 +148,18 @@ impl fmt::Display for AddDepError {
 }
 
 impl Error for AddDepError {}
+
+impl TryClone for AddDepError {
+    fn try_clone(&self, alloc: Global) -> Result<Self, AllocError> {
+        match self {
+            AddDepError::Cyclic(error) => {
+                let error = error.try_clone(alloc)?;
+                Ok(AddDepError::Cyclic(error))
+            }
+            AddDepError::OutOfMemory => Ok(AddDepError::OutOfMemory),
+        }
+    }
+}
 
 impl From<AllocError> for AddDepError {
     ghost use Rattle.crate_graph.specs.declared.cyclic.AddDepError.TheVariants.{OutOfMemory};

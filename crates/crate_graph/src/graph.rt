@@ -11,6 +11,7 @@ ghost use Rattle.crate_graph.specs.Builder.{crate_of};
 ghost use Rattle.crate_graph.specs.Graph.{IsWellMade, attribute, edges};
 
 mod add_dep;
+mod copies;
 mod extend;
 mod prune;
 mod reach;

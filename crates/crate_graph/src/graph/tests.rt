@@ -7,7 +7,7 @@ use crate::{
     AddDepError, CrateBuilderId, CrateDisplayName, CrateGraphBuilder, CrateName, CrateOrigin,
     CrateWorkspaceData, Dependency, Env, GraphError, LangCrateOrigin, TargetKind,
 };
-use base_text::{AbsPathBuf, CfgOptions, Edition, FileId, Text};
+use base_text::{AbsPathBuf, CfgOptions, Edition, FileId, Text, TryClone};
 use std::alloc::Global;
 use std::rc::Rc;
 use std::test::Fail;
@@ -127,6 +127,29 @@ fn the_first_of_a_chain_reaches_all_of_it(rt: HostRuntime) -> Result<(), Fail> {
     let raw = reached(rt.alloc(), &graph, 0)?;
     assert!(rt; raw.as_slice() == [0, 1, 2].as_slice());
     Ok(())
+}
+
+#[test]
+fn a_graph_is_copied_with_its_crates(rt: HostRuntime) -> Result<(), Fail> {
+    let mut graph = graph_of(rt.alloc(), 2)?;
+    assert!(rt; depend(rt.alloc(), &mut graph, 0, 1)?.is_ok());
+    let copy = graph.try_clone(rt.alloc())?;
+    let raw = reached(rt.alloc(), &copy, 0)?;
+    assert!(rt; raw.as_slice() == [0, 1].as_slice());
+    Ok(())
+}
+
+#[test]
+fn a_refusal_is_copied_with_its_path(rt: HostRuntime) -> Result<(), Fail> {
+    let mut graph = graph_of(rt.alloc(), 1)?;
+    match depend(rt.alloc(), &mut graph, 0, 0)? {
+        Ok(()) => Err(Fail::from("it was not refused")),
+        Err(error) => {
+            let copy = error.try_clone(rt.alloc())?;
+            assert!(rt; copy == error);
+            Ok(())
+        }
+    }
 }
 
 #[test]
