@@ -1,5 +1,20 @@
-pub mod ChangedTexts
-pub mod Copies
-pub mod Entries
-pub mod GivenRoots
-pub mod Numbers
+mod Beside
+mod ChangedTexts
+mod Copies
+mod Edges
+mod Entries
+mod GivenRoots
+mod IdentityLaws
+mod InputLaws
+mod ItselfFirst
+mod KnownLemmas
+mod LoweringLemmas
+mod NewNumbers
+mod Numbers
+mod PlaceLemmas
+mod PutLemmas
+mod Run
+mod RunLemmas
+mod RunSteps
+mod TableCopies
+mod TableLemmas

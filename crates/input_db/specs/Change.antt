@@ -1,14 +1,19 @@
 -- What a change makes of a database, entry by entry: the roots that are given, the places of their files,
--- the lists of roots, and the texts of the files that changed.
+-- the lists of roots, the texts of the files that changed, and the crates of a graph that is given.
 -- From the database's documentation of file changes.
 use Rattle.std.specs.Prelude.{◌≡◌, ℕ, suc, ◌==◌, ◌||◌, Bool, true, false, List, [], ◌∷◌, Option, Some, None}
 use Rattle.std.specs.Prelude.{is_some, nat_lt, length, if◌then◌else◌}
+use Rattle.std.specs.BTreeMap as tree
 use Rattle.std.specs.Bool.{beq}
 use Rattle.std.specs.List.{list_all, list_any, slice_get}
 use Rattle.std.specs.Option.{option_map, option_or, unwrap_or}
+use Rattle.std.specs.declared.cmp.Ordering.{Ordering}
+use Rattle.crate_graph.specs.Graph.{Graph}
 use Rattle.input_db.specs.Database.{Database, library_numbers, local_numbers}
 use Rattle.input_db.specs.Files.{Held, durability_of_file, file_root_of, root_of, stored_place, stored_root}
 use Rattle.input_db.specs.Files.{stored_text, text_of}
+use Rattle.input_db.specs.Lowered.{Id}
+use Rattle.input_db.specs.Lowering.{IsSetInDb}
 use Rattle.input_db.specs.SourceRoot.{has_file, root_durability}
 use Rattle.input_db.specs.declared.change.FileChange.{FileChange}
 use Rattle.input_db.specs.declared.inputs.FileText.{FileText}
@@ -95,7 +100,7 @@ text_after changed old new file =
     (option_map (λ text. stored_text file text (durability_of_file new file)) (text_given changed file))
     (text_of old file)
 
--- what a change makes of a database
+-- what a change makes of a database beside its crates
 pub record IsChanged (change : FileChange) (old new : Database) : Type 0 where
   pub local : new.local ≡ local_after change.roots old.local
   pub library : new.library ≡ library_after change.roots old.library
@@ -103,3 +108,9 @@ pub record IsChanged (change : FileChange) (old new : Database) : Type 0 where
   pub roots : (number : ℕ) → root_of new.files number ≡ root_after (given_roots change) old.files number
   pub places : (file : ℕ) → file_root_of new.files file ≡ place_after (given_roots change) old.files file
   pub texts : (file : ℕ) → text_of new.files file ≡ text_after change.files_changed old.files new.files file
+
+-- the crates of a graph are set in a database, where one is given, and the answer gives their numbers there
+abbrev pub SetsCrates : (Id → Id → Ordering) → Option Graph → Database → Database → Option (tree.BTreeMap Id ℕ) → Type 0
+SetsCrates cmp None old new ids = (ids ≡ None) × (new ≡ old)
+SetsCrates cmp (Some graph) old new None = ⊥
+SetsCrates cmp (Some graph) old new (Some ids) = IsSetInDb cmp graph.crates old new ids

@@ -1,10 +1,19 @@
--- What contracts see of a database: its files, which of its roots are local and which are libraries, and
--- its nonce.
-use Rattle.std.specs.Prelude.{ℕ, List, [], refl}
-use Rattle.std.specs.Coded.{Coded, code_by, coded×, coded_ℕ}
+-- What contracts see of a database: its files, which of its roots are local and which are libraries, its
+-- nonce, and its crates.
+use Rattle.std.specs.Prelude.{ℕ, List, [], Option, Some, None, if◌then◌else◌, refl}
+use Rattle.std.specs.Coded.{Coded, code_by, coded×, coded_list, coded_ℕ}
+use Rattle.base_text.specs.Causes.{raised}
 use Rattle.input_db.specs.Files.{Held, held_code, no_files}
+use Rattle.input_db.specs.Identity.{Table, input_eq, input_under, with_entry}
+use Rattle.input_db.specs.contracts.crate_input.CrateInput as input
+use Rattle.input_db.specs.contracts.crate_input.UniqueCrateData as unique
+use Rattle.input_db.specs.contracts.durability.Durability as durability
 use Rattle.input_db.specs.contracts.roots.LibraryRoots as libraries
 use Rattle.input_db.specs.contracts.roots.LocalRoots as locals
+use Rattle.input_db.specs.declared.crate_input.CrateInput.{CrateInput}
+use Rattle.input_db.specs.declared.crate_input.UniqueCrateData.{UniqueCrateData}
+use Rattle.input_db.specs.declared.durability.Durability.{Durability}
+use Rattle.input_db.specs.declared.durability.Durability.TheVariants.{Low}
 use Rattle.input_db.specs.declared.roots.LocalRoots.{LocalRoots}
 use Rattle.input_db.specs.declared.roots.LibraryRoots.{LibraryRoots}
 
@@ -17,14 +26,38 @@ pub record Database : Type 0 where
   pub library : LibraryRoots
   -- what tells the database from others
   pub nonce : ℕ
+  -- all crates that were ever given, each at its number
+  pub crates : Table
+  -- the crates that there are now, by number
+  pub listed : List ℕ
+  -- how durable that list is
+  pub listed_durability : Durability
+  -- how often a crate was new or changed, or the list was stored, up to the greatest number of 64 bits
+  pub writes : ℕ
+
+-- the crates of a database are stored as their parts
+abbrev pub crates_code : Coded (Table × (List ℕ × (Durability × ℕ)))
+crates_code =
+    coded× (coded_list (coded× unique.the_row.coded input.the_row.coded))
+    (coded× (coded_list coded_ℕ) (coded× durability.the_row.coded coded_ℕ))
 
 -- a database is stored as its parts
 abbrev pub database_code : Coded Database
 database_code =
-    code_by (Held × (LocalRoots × (LibraryRoots × ℕ)))
-    (coded× held_code (coded× locals.the_row.coded (coded× libraries.the_row.coded coded_ℕ)))
-    (λ d. (d.files, (d.local, (d.library, d.nonce))))
-    (λ p. record { files = p.0; local = p.1.0; library = p.1.1.0; nonce = p.1.1.1 }) (λ _. refl)
+    code_by (Held × (LocalRoots × (LibraryRoots × (ℕ × (Table × (List ℕ × (Durability × ℕ)))))))
+    (coded× held_code
+    (coded× locals.the_row.coded (coded× libraries.the_row.coded (coded× coded_ℕ crates_code))))
+    (λ d. (d.files, (d.local, (d.library, (d.nonce, (d.crates, (d.listed, (d.listed_durability, d.writes))))))))
+    (λ p. record {
+      files = p.0;
+      local = p.1.0;
+      library = p.1.1.0;
+      nonce = p.1.1.1.0;
+      crates = p.1.1.1.1.0;
+      listed = p.1.1.1.1.1.0;
+      listed_durability = p.1.1.1.1.1.1.0;
+      writes = p.1.1.1.1.1.1.1;
+    }) (λ _. refl)
 
 -- a list of local roots, by their numbers
 abbrev pub local_numbers : List ℕ → LocalRoots
@@ -34,10 +67,18 @@ local_numbers numbers = record { roots = record { keys = numbers } }
 abbrev pub library_numbers : List ℕ → LibraryRoots
 library_numbers numbers = record { roots = record { keys = numbers } }
 
--- a database of no files
+-- a database of no files and no crates
 abbrev pub empty_database : ℕ → Database
-empty_database nonce =
-    record { files = no_files; local = local_numbers []; library = library_numbers []; nonce = nonce }
+empty_database nonce = record {
+  files = no_files;
+  local = local_numbers [];
+  library = library_numbers [];
+  nonce = nonce;
+  crates = [];
+  listed = [];
+  listed_durability = Low;
+  writes = 0;
+}
 
 -- the database with other files
 abbrev pub with_files : Database → Held → Database
@@ -46,3 +87,23 @@ with_files db files = record db { files = files }
 -- the database with other lists of roots
 abbrev pub with_lists : Database → LocalRoots → LibraryRoots → Database
 with_lists db local library = record db { local = local; library = library }
+
+-- how many writes there were when an identity's crate is given an input: one more where the crate is new, or had another
+abbrev pub writes_after : ℕ → Option CrateInput → CrateInput → ℕ
+writes_after writes None input = raised writes
+writes_after writes (Some old) input = if input_eq old input then writes else raised writes
+
+-- the database with an input for the crate of an identity
+abbrev pub with_crate : Database → UniqueCrateData → CrateInput → Database
+with_crate db unique input = record db {
+  crates = with_entry db.crates unique input;
+  writes = writes_after db.writes (input_under db.crates unique) input;
+}
+
+-- the database with another list of crates
+abbrev pub with_crate_list : Database → List ℕ → Durability → Database
+with_crate_list db crates durability = record db {
+  listed = crates;
+  listed_durability = durability;
+  writes = raised db.writes;
+}

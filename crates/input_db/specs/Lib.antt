@@ -1,5 +1,10 @@
 pub mod Applied
 pub mod Change
 pub mod Database
+pub mod EditionedFileId
 pub mod Files
+pub mod Identity
+pub mod Lowering
+pub mod Lowered
+pub mod Queries
 pub mod SourceRoot

@@ -1,19 +1,21 @@
-//! A change of a database: source roots that are given, and the new texts of files.
+//! A change of a database: source roots that are given, the new texts of files, and a graph of crates.
 
 ghost use Rattle.std.specs.Prelude.{◌≡◌, ◌<◌, ◌^◌, [], ◌∷◌, ◌++◌, IfOk, IfSome, None, OnErr, OnOk, Some};
 ghost use Rattle.std.specs.Prelude.{length, string_bytes, true};
 ghost use Rattle.std.specs.Option.{option_map};
 ghost use Rattle.input_db.specs.Applied.{applied};
-ghost use Rattle.input_db.specs.Change.{IsChanged, fits, fits_file, given_roots};
+ghost use Rattle.input_db.specs.Change.{IsChanged, SetsCrates, fits, fits_file, given_roots};
 
 use crate::applying::{fits_file, give_roots, set_texts};
+use crate::lowering::{CratesIdMap, set_in_db};
 use crate::source_database::SourceDatabase;
 use crate::source_root::SourceRoot;
 use base_text::{FileId, Items, Text, TryClone};
+use crate_graph::{CrateBuilderId, CrateGraphBuilder};
 use std::alloc::{AllocError, Global};
 use std::mem;
 
-/// What changed: source roots, where they are given, and files with their new texts.
+/// What changed: source roots, where they are given, files with their new texts, and the crates.
 #[derive(Drop)]
 pub struct FileChange {
     alloc: Global,
@@ -21,6 +23,8 @@ pub struct FileChange {
     pub roots: Option<Items<SourceRoot>>,
     /// A file that was deleted has no text.
     pub files_changed: Items<(FileId, Option<Text>)>,
+    /// All crates there are now. Where no graph is given the crates stay.
+    pub crate_graph: Option<CrateGraphBuilder>,
 }
 
 impl FileChange {
@@ -28,11 +32,13 @@ impl FileChange {
     pub fn new(alloc: Global) -> Self
         ensures roots { result.roots ≡ None }
         ensures files_changed { result.files_changed ≡ [] }
+        ensures crate_graph { result.crate_graph ≡ None }
     {
         FileChange {
             alloc,
             roots: None,
             files_changed: Items::empty(alloc),
+            crate_graph: None,
         }
     }
 
@@ -41,6 +47,13 @@ impl FileChange {
         ensures { self.new ≡ record self.old { roots = Some roots.items } }
     {
         self.roots = Some(Items::new(roots));
+    }
+
+    /// All crates there are now.
+    pub fn set_crate_graph(&mut self, graph: CrateGraphBuilder)
+        ensures { self.new ≡ record self.old { crate_graph = Some graph } }
+    {
+        self.crate_graph = Some(graph);
     }
 
     /// A file has a new text, or was deleted where there is none.
@@ -91,26 +104,39 @@ impl FileChange {
         }
     }
 
-    /// Makes the change: the given roots with the roots of their files, the lists of roots, and then
-    /// the texts.
-    pub fn apply<D: SourceDatabase>(self, alloc: Global, db: &mut D) -> Result<(), AllocError>
+    /// Makes the change: the given roots with the roots of their files, the lists of roots, then the
+    /// texts, and last the crates, where a graph is given. The answer is then the crate that each of
+    /// the graph's is.
+    pub fn apply<D: SourceDatabase>(
+        self,
+        alloc: Global,
+        db: &mut D,
+    ) -> Result<Option<CratesIdMap>, AllocError>
         requires fits { fits (D.seen db.old).files self ≡ true }
         requires few { IfSome self.roots (λ roots. length roots < 2 ^ 32) }
         ensures ok { OnOk result (IsChanged self (D.seen db.old) (D.seen db.new)) }
-        ensures steps { OnOk result (D.seen db.new ≡ applied self (D.seen db.old)) }
+        ensures steps { IfOk result (SetsCrates ⟦<CrateBuilderId as Ord>⟧.cmp self.crate_graph
+            (applied self (D.seen db.old)) (D.seen db.new)) }
     {
-        self.make(alloc, db)?;
-        Ok(())
+        let graph = self.make(alloc, db)?;
+        let ids = set_crates(alloc, graph, db)?;
+        Ok(ids)
     }
 
-    // Makes the change step by step.
-    fn make<D: SourceDatabase>(self, alloc: Global, db: &mut D) -> Result<(), AllocError>
+    // Makes the change but for the crates, the graph of which is given back.
+    fn make<D: SourceDatabase>(
+        self,
+        alloc: Global,
+        db: &mut D,
+    ) -> Result<Option<CrateGraphBuilder>, AllocError>
         requires { IfSome self.roots (λ roots. length roots < 2 ^ 32) }
-        ensures { OnOk result (D.seen db.new ≡ applied self (D.seen db.old)) }
+        ensures applied { OnOk result (D.seen db.new ≡ applied self (D.seen db.old)) }
+        ensures graph { IfOk result (λ graph. graph ≡ self.crate_graph) }
     {
         let FileChange {
             roots,
             files_changed,
+            crate_graph,
             ..
         } = self;
         match roots {
@@ -118,7 +144,25 @@ impl FileChange {
             None => {}
         }
         set_texts(db, files_changed)?;
-        Ok(())
+        Ok(crate_graph)
+    }
+}
+
+// Sets the crates of a graph, where one is given.
+fn set_crates<D: SourceDatabase>(
+    alloc: Global,
+    graph: Option<CrateGraphBuilder>,
+    db: &mut D,
+) -> Result<Option<CratesIdMap>, AllocError>
+    ensures { IfOk result (SetsCrates ⟦<CrateBuilderId as Ord>⟧.cmp graph (D.seen db.old)
+        (D.seen db.new)) }
+{
+    match graph {
+        None => Ok(None),
+        Some(graph) => {
+            let ids = set_in_db(alloc, graph, db)?;
+            Ok(Some(ids))
+        }
     }
 }
 
@@ -126,10 +170,12 @@ impl TryClone for FileChange {
     fn try_clone(&self, alloc: Global) -> Result<Self, AllocError> {
         let roots = self.roots.try_clone(alloc)?;
         let files_changed = copied_files(alloc, self.files_changed.as_slice())?;
+        let crate_graph = self.crate_graph.try_clone(alloc)?;
         Ok(FileChange {
             alloc,
             roots,
             files_changed,
+            crate_graph,
         })
     }
 }

@@ -1,12 +1,16 @@
-//! A database of files, as its users see it.
+//! A database of files and crates, as its users see it.
 
-ghost use Rattle.std.specs.Prelude.{◌≡◌, IfOk, IsSome, OnErr, OnOk, Some};
-ghost use Rattle.input_db.specs.Database.{Database, with_files, with_lists};
+ghost use Rattle.std.specs.Prelude.{◌≡◌, ◌↔◌, ◌<◌, IfOk, IsSome, IsTrue, OnErr, OnOk, Some, length};
+ghost use Rattle.std.specs.List.{All};
+ghost use Rattle.input_db.specs.Database.{Database, with_crate, with_crate_list, with_files, with_lists};
 ghost use Rattle.input_db.specs.Files.{SetsFileRoot, SetsRoot, SetsText, kept_durability, stored_place};
 ghost use Rattle.input_db.specs.Files.{stored_root, stored_text};
 ghost use Rattle.input_db.specs.Files.{file_root_of, resolved_from, root_of, root_of_file, text_of};
 ghost use Rattle.input_db.specs.Files.{with_file_root, with_root, with_same_durability, with_text};
+ghost use Rattle.input_db.specs.Identity.{PutsCrate, crate_for, input_in, named_in, names_of};
 
+use crate::crate_input::{Crate, CrateInput, UniqueCrateData};
+use crate::crates_map::CratesMap;
 use crate::durability::Durability;
 use crate::files::Files;
 use crate::inputs::{FileSourceRootInput, FileText, SourceRootInput};
@@ -17,7 +21,7 @@ use base_text::FileId;
 use std::alloc::{AllocError, Global};
 use vfs_core::AnchoredPath;
 
-/// The inputs of a language server: texts, and the source roots that files are in.
+/// The inputs of a language server: texts, the source roots that files are in, and crates.
 pub trait SourceDatabase {
     // What the database holds.
     ghost seen: { Self → Database };
@@ -106,4 +110,40 @@ pub trait SourceDatabase {
     /// Says which roots are local, and which are libraries.
     fn set_root_lists(&mut self, local: LocalRoots, library: LibraryRoots)
         ensures { seen self.new ≡ with_lists (seen self.old) local library };
+
+    /// All crates that the database was ever given, by their identities.
+    fn crates_map(&self) -> &CratesMap
+        ensures { result.now ≡ (seen self.now).crates };
+
+    /// Whether the database was ever given a crate.
+    fn has_crate(&self, krate: Crate) -> bool
+        ensures { IsTrue result ↔ (krate < length (seen self.now).crates) };
+
+    /// What is held of a crate that is there: `has_crate` tells.
+    fn crate_input(&self, krate: Crate) -> &CrateInput
+        requires { krate < length (seen self.now).crates }
+        ensures { input_in (seen self.now).crates krate ≡ Some result.now };
+
+    /// Gives the crate of an identity an input, in place of the one that it had. An identity that has no
+    /// crate is given one, greater than all before. Each crate that the identity or the input names is
+    /// there already: `has_crate` tells.
+    fn put_crate(&mut self, unique: UniqueCrateData, input: CrateInput) -> Result<Crate, AllocError>
+        requires identity { All (λ named. named < length (seen self.old).crates) (names_of unique) }
+        requires input { All (λ named. named < length (seen self.old).crates)
+            (named_in input.crate_data) }
+        ensures answer { IfOk result (λ krate. krate ≡ crate_for (seen self.old).crates unique) }
+        ensures ok { OnOk result (seen self.new ≡ with_crate (seen self.old) unique input) }
+        ensures alone { IfOk result (PutsCrate (seen self.old).crates (seen self.new).crates
+            unique input) }
+        ensures err { OnErr result (seen self.new ≡ seen self.old) };
+
+    /// The crates that there are now, each after those that it depends on.
+    fn all_crates_list(&self) -> &[Crate]
+        ensures list { result.now ≡ (seen self.now).listed }
+        ensures known { All (λ krate. krate < length (seen self.now).crates) (seen self.now).listed };
+
+    /// Says which crates there are now. Each of them is there already: `has_crate` tells.
+    fn store_all_crates(&mut self, crates: Vec<Crate>, durability: Durability)
+        requires { All (λ krate. krate < length (seen self.old).crates) crates.items }
+        ensures { seen self.new ≡ with_crate_list (seen self.old) crates.items durability };
 }

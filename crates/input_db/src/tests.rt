@@ -55,7 +55,8 @@ fn make<D: SourceDatabase>(
 ) -> Result<(), AllocError> {
     assert!(rt; change.fits(db));
     assert!(rt; are_few(&change.roots));
-    change.apply(alloc, db)
+    change.apply(alloc, db)?;
+    Ok(())
 }
 
 // A database with both roots, and a text in each.

@@ -249,6 +249,7 @@ impl Live {
         let roots = source_roots(alloc, sets)?;
         let changes = self.files.take_changes();
         let change = change_of(alloc, &self.db, roots, changes)?;
-        change.apply(alloc, &mut self.db)
+        change.apply(alloc, &mut self.db)?;
+        Ok(())
     }
 }

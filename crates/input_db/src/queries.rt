@@ -1,0 +1,124 @@
+//! What is asked of the crates of a database.
+
+ghost use Rattle.std.specs.Prelude.{◌≡◌, ◌↔◌, ℕ, ◌<◌, ◌∷◌, IfOk, Some, length, slice_index};
+ghost use Rattle.std.specs.List.{All, Contains};
+ghost use Rattle.std.specs.Option.{option_map};
+ghost use Rattle.graph_base.specs.Reach.{Reaches};
+ghost use Rattle.input_db.specs.Database.{with_crate_list};
+ghost use Rattle.input_db.specs.EditionedFileId.{edition_of, file_of};
+ghost use Rattle.input_db.specs.Identity.{crate_edges, input_in};
+ghost use Rattle.input_db.specs.Queries.{IsWithItselfFirst, others};
+
+use crate::crate_input::{BuiltCrateData, Crate};
+use crate::durability::Durability;
+use crate::editioned_file_id::EditionedFileId;
+use crate::source_database::SourceDatabase;
+use base_text::CfgOptions;
+use crate_graph::{CrateWorkspaceData, Env, ExtraCrateData};
+use std::alloc::{AllocError, Global};
+
+/// The crates that there are now, each after those that it depends on.
+pub fn all_crates<D: SourceDatabase>(db: &D) -> &[Crate]
+    ensures list { result.now ≡ (D.seen db.now).listed }
+    ensures known { All (λ krate. krate < length (D.seen db.now).crates) (D.seen db.now).listed }
+{
+    db.all_crates_list()
+}
+
+/// Says which crates there are now. Each of them is there already: `has_crate` tells.
+pub fn set_all_crates_with_durability<D: SourceDatabase>(
+    db: &mut D,
+    crates: Vec<Crate>,
+    durability: Durability,
+)
+    requires { All (λ krate. krate < length (D.seen db.old).crates) crates.items }
+    ensures { D.seen db.new ≡ with_crate_list (D.seen db.old) crates.items durability }
+{
+    db.store_all_crates(crates, durability);
+}
+
+// Each getter asks that the crate is there: `has_crate` of the database tells.
+impl Crate {
+    pub fn data<D: SourceDatabase>(self, db: &D) -> &BuiltCrateData
+        requires { self < length (D.seen db.now).crates }
+        ensures { option_map (λ input. input.crate_data) (input_in (D.seen db.now).crates self)
+            ≡ Some result.now }
+    {
+        &db.crate_input(self).crate_data
+    }
+
+    pub fn extra_data<D: SourceDatabase>(self, db: &D) -> &ExtraCrateData
+        requires { self < length (D.seen db.now).crates }
+        ensures { option_map (λ input. input.extra_data) (input_in (D.seen db.now).crates self)
+            ≡ Some result.now }
+    {
+        &db.crate_input(self).extra_data
+    }
+
+    pub fn workspace_data<D: SourceDatabase>(self, db: &D) -> &CrateWorkspaceData
+        requires { self < length (D.seen db.now).crates }
+        ensures { option_map (λ input. input.workspace_data) (input_in (D.seen db.now).crates self)
+            ≡ Some result.now }
+    {
+        db.crate_input(self).workspace_data.get()
+    }
+
+    pub fn cfg_options<D: SourceDatabase>(self, db: &D) -> &CfgOptions
+        requires { self < length (D.seen db.now).crates }
+        ensures { option_map (λ input. input.cfg_options) (input_in (D.seen db.now).crates self)
+            ≡ Some result.now }
+    {
+        &db.crate_input(self).cfg_options
+    }
+
+    pub fn env<D: SourceDatabase>(self, db: &D) -> &Env
+        requires { self < length (D.seen db.now).crates }
+        ensures { option_map (λ input. input.env) (input_in (D.seen db.now).crates self)
+            ≡ Some result.now }
+    {
+        &db.crate_input(self).env
+    }
+
+    /// The crate's root file, in the crate's edition.
+    pub fn root_file_id<D: SourceDatabase>(self, db: &D) -> EditionedFileId
+        requires { self < length (D.seen db.now).crates }
+        ensures file { option_map (λ input. input.crate_data.root_file_id)
+            (input_in (D.seen db.now).crates self) ≡ Some (file_of result) }
+        ensures edition { option_map (λ input. input.crate_data.edition)
+            (input_in (D.seen db.now).crates self) ≡ Some (edition_of result) }
+    {
+        let data = &db.crate_input(self).crate_data;
+        EditionedFileId::new(data.root_file_id, data.edition)
+    }
+
+    /// The crates that a crate reaches over dependencies: itself first, then the others by their
+    /// numbers.
+    pub fn transitive_deps<D: SourceDatabase>(
+        self,
+        alloc: Global,
+        db: &D,
+    ) -> Result<Vec<Crate>, AllocError>
+        requires { self < length (D.seen db.now).crates }
+        ensures exact { IfOk result (λ crates. (krate : ℕ) → Contains crates.items krate
+            ↔ Reaches (crate_edges (D.seen db.now).crates) self krate) }
+        ensures once { IfOk result (λ crates. IsWithItselfFirst self crates.items) }
+    {
+        let table = db.crates_map();
+        let reached = graph_base::reached(alloc, table, table.number(self))?;
+        itself_first(alloc, self, &reached)
+    }
+}
+
+// The crate, and then the other crates of the list.
+fn itself_first(alloc: Global, krate: Crate, reached: &[u32]) -> Result<Vec<Crate>, AllocError>
+    ensures { IfOk result (λ crates. crates.items ≡ krate ∷ others krate reached.now) }
+{
+    let mut crates = Vec::new(alloc);
+    crates.push(krate)?;
+    for node in reached {
+        if *node as usize != krate.place() {
+            crates.push(Crate::at(*node as usize))?;
+        }
+    }
+    Ok(crates)
+}
