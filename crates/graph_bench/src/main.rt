@@ -14,8 +14,10 @@ fn main(rt: HostRuntime) -> io::Result<ExitCode> {
         "backward" => Kind::Backward,
         "layers" => Kind::Layers,
         "joined" => Kind::Joined,
+        "set" => Kind::Set,
+        "set apart" => Kind::SetApart,
         _ => {
-            eprintln!(rt; "give forward, backward, layers or joined")?;
+            eprintln!(rt; "give forward, backward, layers, joined, set or set apart")?;
             return Ok(ExitCode::from(2));
         }
     };
