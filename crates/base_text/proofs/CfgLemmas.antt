@@ -1,15 +1,17 @@
 -- Which atom a text names, case by case, and that an atom's text is the one that it was read from.
-use Rattle.std.proofs.Common.{◌≡◌, ℕ, ◌+◌, ◌-◌, suc, ◌||◌, ◌<◌, List, [], ◌∷◌, ◌++◌, Bool, true, false, cond, not, Option, Some, None, length, get_or, take, drop, refl, sym, ap, subst, append_assoc, ◌∙◌, ◌≢◌, arith, rules, eqb, ltb}
+use Rattle.std.proofs.Common.{◌≡◌, ℕ, ◌+◌, ◌-◌, suc, ◌||◌, ◌<◌, List, [], ◌∷◌, ◌++◌, Bool, true, false, cond, not, Option, Some, None, length, get_or, take, refl, sym, ap, append_assoc, ◌∙◌, ◌≢◌, arith, ltb}
 use Rattle.std.proofs.lemmas.Grind.{common_steps}
 use Rattle.std.proofs.lemmas.Bool.Decides.{nat_tests}
 use Rattle.std.proofs.lemmas.List.{take_more}
-use Rattle.std.specs.Prelude.{IfSome, MatchOption}
+use Rattle.std.specs.Prelude.{IfSome, IsErrAnd, IsErrOf, MatchOption, Result, Ok, Err, ◌↔◌}
 use Rattle.std.specs.Option.{option_copied}
 use Rattle.std.specs.Borrow.{Bor}
-use Rattle.std.specs.List.{before_first, after_first, list_any, position_or_len, prefix_len}
+use Rattle.std.specs.List.{before_first, after_first, list_any, position_or_len}
 use Rattle.base_text.specs.declared.cfg.CfgAtom.{CfgAtom}
 use Rattle.base_text.specs.declared.cfg.CfgAtom.TheVariants.{Flag, KeyValue}
-use Rattle.base_text.specs.Cfg.{is_equals, is_quote, unquoted, atom_of, text_of}
+use Rattle.base_text.specs.declared.cfg.CfgError.{CfgError}
+use Rattle.base_text.specs.declared.cfg.CfgError.TheVariants.{BadCfg, OutOfMemory}
+use Rattle.base_text.specs.Cfg.{is_equals, unquoted, atom_of, text_of}
 
 -- some byte passes where the first place that passes is within the text
 list_any-position : {X : Type 0} (p : X → Bool) (xs : List X) → list_any p xs ≡ ltb (position_or_len p xs) (length xs)
@@ -95,3 +97,9 @@ names_key text key quoted value at found between k v same_key same_value =
 -- such a text names no atom where its second part stands in no quotes
 pub names_none : (text key quoted : List ℕ) → SplitsAtEquals text key quoted → None ≡ unquoted quoted → atom_of text ≡ None
 names_none text key quoted at bad = atom_of-bad text at.within (ap unquoted (sym at.after) ∙ sym bad)
+
+-- out of memory is not told as a bad text, and a text that names an atom is none
+pub not_bad : (text : List ℕ) (atom : CfgAtom) (r : Result CfgAtom CfgError)
+    → atom_of text ≡ Some atom → IsErrAnd r (λ e. e ≡ OutOfMemory) → IsErrOf r BadCfg ↔ (atom_of text ≡ None)
+not_bad text atom (Ok x) named memory = absurd memory
+not_bad text atom (Err e) named memory = (λ h. cc, λ h. cc)

@@ -1,6 +1,6 @@
 -- That a sorted list of atoms is the finite set of its atoms.
-use Rattle.std.proofs.Common.{◌≡◌, List, [], ◌∷◌, ◌++◌, ◌||◌, Bool, true, false, Ordering, refl, sym, ap, subst, ◌∙◌, inl, inr, ⊎_elim}
-use Rattle.std.specs.Cmp.{IsTotalOrder, eq_by_cmp_equiv, Equal-is}
+use Rattle.std.proofs.Common.{◌≡◌, List, [], ◌∷◌, ◌||◌, Bool, true, false, Ordering, refl, sym, ap, ◌∙◌, inl, inr, ⊎_elim}
+use Rattle.std.specs.Cmp.{IsTotalOrder, eq_by_cmp_equiv}
 use Rattle.std.specs.Ordering.{nat_cmp, ordering_then, eq_by_cmp}
 use Rattle.std.specs.declared.cmp.Ordering.TheVariants.{Less, Equal, Greater}
 use Rattle.std.specs.Cmp.Lexicographic.{slice_cmp}
@@ -9,7 +9,7 @@ use Rattle.base_text.specs.declared.cfg.CfgAtom.{CfgAtom}
 use Rattle.base_text.specs.declared.cfg.CfgAtom.TheVariants.{Flag, KeyValue}
 use Rattle.base_text.specs.CfgOrder.{atom_cmp, with_atom, with_atoms, without_atoms}
 use Rattle.base_text.specs.contracts.cfg.CfgAtomPartialEq.TheImpl as atom_eq
-use Rattle.base_text.proofs.SortedLists.{settled_is, has-dedup, has-fold, has-insert_key, searched, tied}
+use Rattle.base_values.proofs.SortedLists.{settled_is, has-dedup, has-fold, has-insert_key, searched, tied}
 use Rattle.base_text.proofs.PartedLists.{without-alike}
 use Rattle.std.specs.List.{dedup, Contains, list_any}
 use Rattle.std.specs.Prelude.{ℕ, Result, Ok, Err, is_ok, IsTrue, length, ◌↔◌, ◌⊎◌}

@@ -3,15 +3,10 @@ pub mod CfgSets
 pub mod Comparing
 pub mod Cuts
 pub mod Dots
-pub mod Filled
-pub mod InOrder
+pub mod Equalities
 pub mod Joining
-pub mod MapViews
 pub mod Names
 pub mod Parents
 pub mod PartedLists
 pub mod Prefixes
-pub mod Questions
 pub mod Resolving
-pub mod SortedLists
-pub mod TextMaps

@@ -1,10 +1,12 @@
 -- How an atom of conditional compilation is written, as `rustc --print cfg` writes it.
-use Rattle.std.specs.Prelude.{ℕ, Bool, Option, Some, None, List, [], ◌∷◌, ◌++◌, ◌-◌, ◌==◌, ◌&&◌}
+use Rattle.std.specs.Prelude.{ℕ, Bool, Option, Some, None, List, ◌++◌, ◌-◌, ◌==◌, ◌&&◌}
 use Rattle.std.specs.Prelude.{length, nat_le, slice_index, slice_range, if◌then◌else◌, codes}
 use Rattle.std.specs.List.{before_first, after_first, list_any}
 use Rattle.std.specs.Option.{option_map}
 use Rattle.base_text.specs.declared.cfg.CfgAtom.{CfgAtom}
 use Rattle.base_text.specs.declared.cfg.CfgAtom.TheVariants.{Flag, KeyValue}
+use Rattle.base_text.specs.declared.cfg.CfgError.{CfgError}
+use Rattle.base_text.specs.declared.cfg.CfgError.TheVariants.{BadCfg, OutOfMemory}
 
 -- whether a byte is `=`
 abbrev pub is_equals : ℕ → Bool
@@ -31,3 +33,8 @@ atom_of text =
 unfoldable pub text_of : CfgAtom → List ℕ
 text_of (Flag name) = name
 text_of (KeyValue key value) = key ++ codes "=\"" ++ value ++ codes "\""
+
+-- an error prints its name
+abbrev pub cfg_error_text : CfgError → List ℕ
+cfg_error_text BadCfg = codes "BadCfg"
+cfg_error_text OutOfMemory = codes "OutOfMemory"

@@ -6,13 +6,9 @@ ghost use Rattle.std.specs.Prelude.{IfOk, OnOk, OnErr, slice_get};
 ghost use Rattle.std.specs.Option.{option_copied, option_copied_mut};
 ghost use Rattle.std.specs.Iterator.{YieldsFirstBy, item_count};
 ghost use Rattle.std.specs.Borrow.{sem};
-ghost use Rattle.std.specs.Prelude.{◌==◌};
-ghost use Rattle.std.specs.Ordering.{nat_cmp};
-ghost use Rattle.std.specs.Hash as fed;
-ghost use Rattle.base_text.specs.declared.arena.Idx.{Idx};
 ghost use Rattle.base_text.specs.Arena.{number_of, numbered};
 
-use crate::try_clone::TryClone;
+use base_values::TryClone;
 use std::alloc::{AllocError, Global};
 use std::hash::Hash;
 use std::marker::{Model, PhantomData};
@@ -41,15 +37,6 @@ impl<K> Idx<K> {
         self.raw
     }
 }
-
-/// Numbers are equal, ordered and hashed as what they are, whatever their tag.
-pub fn numbers_compare_as_numbers<K>()
-    ensures equality { (x y : Idx K)
-        → ⟦<Idx<K> as PartialEq>⟧.eq x y ≡ (number_of x == number_of y) }
-    ensures order { (x y : Idx K)
-        → ⟦<Idx<K> as Ord>⟧.cmp x y ≡ nat_cmp (number_of x) (number_of y) }
-    ensures hash { (x : Idx K) → ⟦<Idx<K> as Hash>⟧.hash_input x ≡ fed.u32 (number_of x) }
-{}
 
 impl<K> TryClone for Idx<K> {
     fn try_clone(&self, _alloc: Global) -> Result<Self, AllocError> {
@@ -195,58 +182,5 @@ impl<'a, K, T> Iterator for Iter<'a, K, T> {
         self.left = others;
         self.next += 1;
         Some((id, first))
-    }
-}
-
-#[cfg(test)]
-mod tests {
-    use super::*;
-    use std::test::Fail;
-
-    // A tag has no trait of its own.
-    enum Letter {}
-
-    fn is_least<T: Ord>(value: &T, others: &[T]) -> bool {
-        others.iter().all(|other| value <= other)
-    }
-
-    #[test]
-    fn values_get_the_next_numbers_and_keep_their_order(rt: HostRuntime) -> Result<(), Fail> {
-        let mut arena: Arena<Letter, char> = Arena::new(rt.alloc());
-        let x = arena.alloc('x')?;
-        assert_eq!(rt; arena.len(), 1);
-        let y = arena.alloc('y')?;
-        assert_eq!(rt; (x.into_raw(), y.into_raw()), (0, 1));
-        assert_eq!(rt; arena.get(y), Some(&'y'));
-        assert_eq!(rt; arena.get(Idx::from_raw(2)), None);
-        if let Some(value) = arena.get_mut(x) {
-            *value = 'z';
-        }
-        let mut numbered = arena.iter();
-        assert_eq!(rt; numbered.next(), Some((x, &'z')));
-        assert_eq!(rt; numbered.next(), Some((y, &'y')));
-        assert_eq!(rt; numbered.next(), None);
-        Ok(())
-    }
-
-    #[test]
-    fn numbers_compare_whatever_their_tag(rt: HostRuntime) -> Result<(), Fail> {
-        let one: Idx<Letter> = Idx::from_raw(1);
-        let two = Idx::from_raw(2);
-        assert!(rt; is_least(&one, &[two, one]));
-        assert_eq!(rt; two.try_clone(rt.alloc())?, two);
-        Ok(())
-    }
-
-    #[test]
-    fn arenas_of_equal_values_are_equal(rt: HostRuntime) -> Result<(), Fail> {
-        let mut arena: Arena<Letter, u64> = Arena::new(rt.alloc());
-        let empty: Arena<Letter, u64> = Arena::new(rt.alloc());
-        assert!(rt; arena == empty);
-        let id = arena.alloc(7)?;
-        assert!(rt; arena != empty);
-        assert_eq!(rt; arena.len(), 1);
-        assert_eq!(rt; id.into_raw(), 0);
-        Ok(())
     }
 }

@@ -7,28 +7,30 @@ ghost use Rattle.std.specs.Borrow.{sem};
 ghost use Rattle.base_text.specs.Arena.{number_of};
 
 use crate::arena::Idx;
+use base_values::{ByNumber, TryClone};
 use std::alloc::{AllocError, Global};
-use std::collections::BTreeMap;
 use std::marker::{Model, PhantomData};
 
 /// A map from the numbers of an arena whose tag is `K`.
 #[derive(Drop)]
-#[derive_where(Debug; V)]
+#[derive_where(Debug, PartialEq, Eq; V)]
 pub struct ArenaMap<K, V> {
-    values: BTreeMap<u32, V>,
+    values: ByNumber<V>,
     tag: PhantomData<K>,
 }
 
 impl<K, V> Model for ArenaMap<K, V> {
     ghost use Rattle.std.specs.Ordering.{nat_cmp};
-    ghost use Rattle.std.specs.FinMap.{FinMap, code, from_entries};
+    ghost use Rattle.std.specs.FinMap.{FinMap, code};
     ghost use Rattle.std.specs.Coded.{coded_ℕ};
 
     ghost Value = { FinMap nat_cmp V };
 
     ghost coded = { code coded_ℕ V.code };
 
-    ghost view = { λ a. from_entries a.values.entries };
+    ghost view = { λ a. a.values };
+
+    ghost inverse = { λ values. record { values = values; tag = record {} } };
 }
 
 impl<K, V> ArenaMap<K, V> {
@@ -38,7 +40,7 @@ impl<K, V> ArenaMap<K, V> {
         ensures { result ≡ map.empty }
     {
         ArenaMap {
-            values: BTreeMap::new(alloc),
+            values: ByNumber::new(alloc),
             tag: PhantomData,
         }
     }
@@ -46,14 +48,14 @@ impl<K, V> ArenaMap<K, V> {
     pub fn get(&self, id: Idx<K>) -> Option<&V>
         ensures { option_copied result ≡ map.get self.now (number_of id) }
     {
-        self.values.get(&id.into_raw())
+        self.values.get(id.into_raw())
     }
 
     pub fn get_mut(&mut self, id: Idx<K>) -> Option<&mut V>
         ensures* writes_back { sem 𝓛 (lends_value K.row V.row self.entry (number_of id) result) }
         ensures value { option_copied_mut result ≡ map.get self.old (number_of id) }
     {
-        self.values.get_mut(&id.into_raw())
+        self.values.get_mut(id.into_raw())
     }
 }
 
@@ -69,24 +71,12 @@ impl<K, V: Drop> ArenaMap<K, V> {
     }
 }
 
-#[cfg(test)]
-mod tests {
-    use super::*;
-    use std::test::Fail;
-
-    enum Letter {}
-
-    #[test]
-    fn an_insertion_gives_the_value_that_was_there(rt: HostRuntime) -> Result<(), Fail> {
-        let mut map: ArenaMap<Letter, char> = ArenaMap::new(rt.alloc());
-        let id = Idx::from_raw(0);
-        assert_eq!(rt; map.insert(id, 'x')?, None);
-        assert_eq!(rt; map.insert(id, 'y')?, Some('x'));
-        if let Some(value) = map.get_mut(id) {
-            *value = 'z';
-        }
-        assert_eq!(rt; map.get(id), Some(&'z'));
-        assert_eq!(rt; map.get(Idx::from_raw(1)), None);
-        Ok(())
+impl<K, V: TryClone + Drop> TryClone for ArenaMap<K, V> {
+    fn try_clone(&self, alloc: Global) -> Result<Self, AllocError> {
+        let values = self.values.try_clone(alloc)?;
+        Ok(ArenaMap {
+            values,
+            tag: PhantomData,
+        })
     }
 }

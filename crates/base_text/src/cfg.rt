@@ -1,13 +1,13 @@
 //! Atoms of conditional compilation, as `unix` and `feature="std"`, and how they are written.
 
-ghost use Rattle.std.specs.Prelude.{◌≡◌, ◌∷◌, [], ◌++◌, Some, None, string_bytes};
+ghost use Rattle.std.specs.Prelude.{◌≡◌, ◌↔◌, ◌∷◌, [], ◌++◌, Some, None, string_bytes};
 ghost use Rattle.std.specs.Prelude.{IfSome, IfOk, IsErrOf};
 ghost use Rattle.std.specs.Option.{option_copied};
 ghost use Rattle.base_text.specs.declared.cfg.CfgError.TheVariants.{OutOfMemory};
 ghost use Rattle.base_text.specs.Cfg.{atom_of, text_of, unquoted};
 
 use crate::symbol::Symbol;
-use crate::try_clone::TryClone;
+use base_values::TryClone;
 use std::alloc::{AllocError, Global};
 use std::error::Error;
 use std::fmt;
@@ -44,10 +44,15 @@ pub enum CfgError {
 }
 
 impl fmt::Display for CfgError {
+    ghost use Rattle.std.specs.Prelude.{Some};
+    ghost use Rattle.base_text.specs.Cfg.{cfg_error_text};
+
+    ghost output = { λ e. Some (cfg_error_text e) };
+
     fn fmt<W: fmt::Write>(&self, f: &mut fmt::Formatter<W>) -> fmt::Result {
         match self {
-            CfgError::BadCfg => f.write_str("BadCfg"),
-            CfgError::OutOfMemory => f.write_str("OutOfMemory"),
+            CfgError::BadCfg => write!(f, "BadCfg"),
+            CfgError::OutOfMemory => write!(f, "OutOfMemory"),
         }
     }
 }
@@ -71,10 +76,11 @@ fn unquoted(text: &str) -> Option<&str>
     after.strip_suffix('"')
 }
 
-/// The atom that a line of `rustc --print cfg` names.
+/// The atom that a line of `rustc --print cfg` names. The text is cut at its first `=`, and the
+/// value stands between a `"` at each end, with nothing escaped.
 pub fn parse_cfg(alloc: Global, text: &str) -> Result<CfgAtom, CfgError>
     ensures ok { IfOk result (λ atom. atom_of text.now ≡ Some atom) }
-    ensures bad { IsErrOf result CfgError.BadCfg → atom_of text.now ≡ None }
+    ensures bad { IsErrOf result CfgError.BadCfg ↔ (atom_of text.now ≡ None) }
     ensures again { IfOk result (λ atom. atom_of (text_of atom) ≡ Some atom) }
 {
     match text.split_once('=') {
@@ -107,36 +113,5 @@ pub fn write_cfg(alloc: Global, atom: &CfgAtom) -> Result<String, AllocError>
             text.push_str("\"")?;
             Ok(text)
         }
-    }
-}
-
-#[cfg(test)]
-mod tests {
-    use super::*;
-    use std::test::Fail;
-
-    #[test]
-    fn an_atom_is_written_as_it_was_read(rt: HostRuntime) -> Result<(), Fail> {
-        for text in ["unix", "k=\"v\"", "feature=\"\"", "a=\"b=c\"", ""] {
-            let atom = parse_cfg(rt.alloc(), text)?;
-            let written = write_cfg(rt.alloc(), &atom.try_clone(rt.alloc())?)?;
-            assert_eq!(rt; written.as_str(), text);
-            assert_eq!(rt; parse_cfg(rt.alloc(), written.as_str())?, atom);
-        }
-        Ok(())
-    }
-
-    #[test]
-    fn a_value_stands_in_quotes(rt: HostRuntime) -> Result<(), Fail> {
-        for text in ["a=\"", "a=", "a=b", "a=\"b", "=b\""] {
-            match parse_cfg(rt.alloc(), text) {
-                Err(error) => {
-                    assert_eq!(rt; error, CfgError::BadCfg, "of {text}");
-                    assert_eq!(rt; format!(in rt.alloc(); "{error}")?.as_str(), "BadCfg");
-                }
-                Ok(atom) => assert!(rt; false, "{text} was read as {atom:?}"),
-            }
-        }
-        Ok(())
     }
 }

@@ -6,7 +6,7 @@ ghost use Rattle.base_text.specs.CfgOrder.{alone, atom_cmp};
 
 use crate::cfg::CfgAtom;
 use crate::cfg_options::CfgOptions;
-use crate::try_clone::TryClone;
+use base_values::TryClone;
 use std::alloc::{AllocError, Global};
 use std::marker::Model;
 

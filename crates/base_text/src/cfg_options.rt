@@ -13,7 +13,7 @@ ghost use Rattle.base_text.specs.CfgOrder.{atom_cmp, changed, with_atom, with_at
 use crate::cfg::CfgAtom;
 use crate::cfg_diff::CfgDiff;
 use crate::symbol::Symbol;
-use crate::try_clone::TryClone;
+use base_values::{TryClone, copy_items};
 use std::alloc::{AllocError, Global};
 use std::cmp::Ordering;
 use std::hash::{Hash, Hasher};
@@ -105,17 +105,6 @@ fn part(left: &mut Vec<CfgAtom>, right: &mut Vec<CfgAtom>)
     }
 }
 
-// Copies of the atoms of a list.
-fn copies(alloc: Global, atoms: &[CfgAtom]) -> Result<Vec<CfgAtom>, AllocError>
-    ensures { IfOk result (λ copies. copies.items ≡ atoms.now) }
-{
-    let mut copies = Vec::new(alloc);
-    for atom in atoms {
-        copies.push(atom.try_clone(alloc)?)?;
-    }
-    Ok(copies)
-}
-
 // Whether an atom is not among others.
 fn is_other(atom: &CfgAtom, others: &[CfgAtom]) -> bool
     ensures { result ≡ not (list_any (eq_by_cmp atom_cmp atom.now) others.now) }
@@ -134,7 +123,7 @@ fn apply(
     ensures ok { OnOk result (atoms.new.items ≡ changed atoms.old.items enabled.now disabled.now) }
     ensures unchanged { OnErr result (atoms.new.items ≡ atoms.old.items) }
 {
-    let added = copies(*atoms.allocator(), enabled)?;
+    let added = copy_items(*atoms.allocator(), enabled)?;
     join(atoms, added)?;
     atoms.retain(|atom| is_other(atom, disabled));
     Ok(())
@@ -223,7 +212,7 @@ impl CfgOptions {
 
 impl TryClone for CfgOptions {
     fn try_clone(&self, alloc: Global) -> Result<Self, AllocError> {
-        let atoms = copies(alloc, &self.atoms)?;
+        let atoms = copy_items(alloc, &self.atoms)?;
         Ok(CfgOptions { atoms })
     }
 }
@@ -289,71 +278,5 @@ impl Hash for CfgOptions {
 
     fn hash<H: Hasher>(&self, state: &mut H) {
         self.atoms.as_slice().hash(state);
-    }
-}
-
-#[cfg(test)]
-mod tests {
-    use super::*;
-    use crate::cfg::{parse_cfg, write_cfg};
-    use std::test::Fail;
-
-    fn atoms(alloc: Global, texts: &[&str]) -> Result<Vec<CfgAtom>, Fail> {
-        let mut atoms = Vec::new(alloc);
-        for text in texts {
-            atoms.push(parse_cfg(alloc, text)?)?;
-        }
-        Ok(atoms)
-    }
-
-    // The atoms in order, joined by spaces.
-    fn text_of(alloc: Global, options: &CfgOptions) -> Result<String, Fail> {
-        let mut text = String::new(alloc);
-        for atom in options.iter() {
-            if !text.is_empty() {
-                text.push_str(" ")?;
-            }
-            text.push_str(write_cfg(alloc, atom)?.as_str())?;
-        }
-        Ok(text)
-    }
-
-    #[test]
-    fn flags_stand_before_keys_and_each_atom_once(rt: HostRuntime) -> Result<(), Fail> {
-        let alloc = rt.alloc();
-        let mut options = CfgOptions::new(alloc);
-        options.insert_atom(parse_cfg(alloc, "a")?)?;
-        let key = Symbol::of_str(alloc, "k")?;
-        options.insert_key_value(key, Symbol::of_str(alloc, "v")?)?;
-        options.extend(atoms(alloc, &["b", "a", "b"])?)?;
-        assert_eq!(rt; text_of(alloc, &options)?.as_str(), "a b k=\"v\"");
-        assert!(rt; options.contains(&parse_cfg(alloc, "b")?));
-        assert!(rt; !options.contains(&parse_cfg(alloc, "c")?));
-        assert!(rt; options.try_clone(alloc)? == options);
-        assert!(rt; CfgOptions::of_atoms(atoms(alloc, &["b"])?) > options);
-        Ok(())
-    }
-
-    #[test]
-    fn a_change_puts_atoms_in_and_takes_atoms_out(rt: HostRuntime) -> Result<(), Fail> {
-        let alloc = rt.alloc();
-        let mut options = CfgOptions::of_atoms(atoms(alloc, &["b", "a"])?);
-        let diff = CfgDiff::new(atoms(alloc, &["c"])?, atoms(alloc, &["a"])?);
-        assert_eq!(rt; (diff.len(), diff.is_empty()), (2, false));
-        options.apply_diff(&diff.try_clone(alloc)?)?;
-        assert_eq!(rt; text_of(alloc, &options)?.as_str(), "b c");
-        Ok(())
-    }
-
-    #[test]
-    fn an_atom_that_goes_in_and_out_does_neither(rt: HostRuntime) -> Result<(), Fail> {
-        let alloc = rt.alloc();
-        let enable = atoms(alloc, &["c", "b", "a", "b"])?;
-        let diff = CfgDiff::new(enable, atoms(alloc, &["d", "b"])?);
-        assert_eq!(rt; diff.enabled(), atoms(alloc, &["a", "c"])?.as_slice());
-        assert_eq!(rt; diff.disabled(), atoms(alloc, &["d"])?.as_slice());
-        let both = CfgDiff::new(atoms(alloc, &["a"])?, atoms(alloc, &["a", "a"])?);
-        assert!(rt; both.is_empty());
-        Ok(())
     }
 }

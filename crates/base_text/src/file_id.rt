@@ -2,7 +2,7 @@
 
 ghost use Rattle.std.specs.Prelude.{◌≡◌, ◌≤◌};
 
-use crate::try_clone::TryClone;
+use base_values::TryClone;
 use std::alloc::{AllocError, Global};
 use std::marker::Model;
 
@@ -43,20 +43,5 @@ impl FileId {
 impl TryClone for FileId {
     fn try_clone(&self, _alloc: Global) -> Result<Self, AllocError> {
         Ok(*self)
-    }
-}
-
-#[cfg(test)]
-mod tests {
-    use super::*;
-    use std::test::Fail;
-
-    #[test]
-    fn a_file_keeps_its_number(rt: HostRuntime) -> Result<(), Fail> {
-        let greatest = FileId::from_raw(0x7fff_ffff);
-        assert_eq!(rt; greatest.index(), 0x7fff_ffff);
-        assert_eq!(rt; greatest.try_clone(rt.alloc())?, greatest);
-        assert!(rt; FileId::from_raw(2) < greatest);
-        Ok(())
     }
 }

@@ -8,10 +8,9 @@ mod file_name;
 mod parts;
 mod path_error;
 mod rel_path;
-#[cfg(test)]
-mod tests;
 
 pub use abs_path::AbsPath;
 pub use abs_path_buf::AbsPathBuf;
+pub use clean::{is_component, split_last};
 pub use path_error::PathError;
 pub use rel_path::RelPath;

@@ -2,8 +2,7 @@
 
 ghost use Rattle.std.specs.Prelude.{◌≡◌, IfOk, string_bytes};
 
-use crate::text::Text;
-use crate::try_clone::TryClone;
+use base_values::{Text, TryClone};
 use std::alloc::{AllocError, Global};
 use std::cmp::Ordering;
 use std::fmt;
@@ -63,6 +62,6 @@ impl fmt::Display for Symbol {
     ghost output = { λ a. Some a };
 
     fn fmt<W: fmt::Write>(&self, f: &mut fmt::Formatter<W>) -> fmt::Result {
-        f.write_str(self.text.as_str())
+        f.pad(self.text.as_str())
     }
 }

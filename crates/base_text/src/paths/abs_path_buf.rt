@@ -8,7 +8,7 @@ ghost use Rattle.base_text.specs.Rows.{IsSlashed};
 use crate::paths::abs_path::AbsPath;
 use crate::paths::clean::{parent_len, push_components, rooted};
 use crate::paths::path_error::PathError;
-use crate::try_clone::TryClone;
+use base_values::TryClone;
 use std::alloc::{AllocError, Global};
 use std::marker::Model;
 

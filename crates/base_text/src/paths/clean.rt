@@ -10,7 +10,7 @@ ghost use Rattle.std.specs.List.{fold, join_with_byte};
 use std::alloc::AllocError;
 
 /// Whether a part between slashes is a component.
-fn is_component(part: &str) -> bool
+pub fn is_component(part: &str) -> bool
     ensures { result ≡ is_component part.now }
 {
     !part.is_empty() && part != "."
@@ -32,7 +32,7 @@ pub(crate) fn push_components(text: &mut String, tail: &str) -> Result<(), Alloc
 }
 
 /// What stands before and behind the last `at` of a text.
-pub(crate) fn split_last(text: &str, at: char) -> Option<(&str, &str)>
+pub fn split_last(text: &str, at: char) -> Option<(&str, &str)>
     requires { at < 128 }
     ensures { MatchOption result (Lacks at text.now)
         (λ halves. IsCutAtLast at text.now halves.0.now halves.1.now) }

@@ -1,9 +1,9 @@
-use Rattle.std.proofs.Common.{List, ℕ, rules, lit<, sym, ap, ◌∙◌, ◌<◌}
+use Rattle.std.proofs.Common.{List, ℕ, refl, rules, lit<}
 use Rattle.std.proofs.lemmas.Str.Pattern.{split_once_first, split_parts, IsSplitOnceResult}
 use Rattle.std.proofs.Common.{◌≡◌}
 use Rattle.std.specs.Prelude.{Option, Some}
 use Rattle.std.specs.Borrow.{Bor}
-use Rattle.base_text.proofs.CfgLemmas.{names_flag, names_key, names_none, SplitsAtEquals}
+use Rattle.base_text.proofs.CfgLemmas.{not_bad, names_flag, names_key, names_none, SplitsAtEquals}
 use Rattle.base_text.proofs.cfg.parse_cfg.Goals as goal
 
 splits : (text : List ℕ) (r : Option (Bor (List ℕ) × Bor (List ℕ))) (key quoted : Bor (List ℕ)) → IsSplitOnceResult 61 text r → r ≡ Some (key, quoted)
@@ -21,7 +21,7 @@ returns-in_ok-name-in-None c =
 
 pub returns-in-None-unquoted-clause-bad : goal.returns-in-None-unquoted-clause-bad
 returns-in-None-unquoted-clause-bad c =
-    λ _. names_none _ _ _ (splits _ _ _ _ c.split_once.ensures.cases c.in-Some.is) c.in-None-unquoted.ensures.value
+    (λ _. names_none _ _ _ (splits _ _ _ _ c.split_once.ensures.cases c.in-Some.is) c.in-None-unquoted.ensures.value, λ _. refl)
 
 pub returns-in_ok-value-in-Some-unquoted : goal.returns-in_ok-value-in-Some-unquoted
 returns-in_ok-value-in-Some-unquoted c =
@@ -29,3 +29,23 @@ returns-in_ok-value-in-Some-unquoted c =
     let in_quotes = c.in-Some-unquoted.ensures in
     let named = names_key _ _ _ _ at in_quotes.value in_quotes.between _ _ c.in_ok-key-in-Some-unquoted.ensures c.in_ok-value-in-Some-unquoted.ensures in
     record { ok = named.0; bad = search rules; again = named.1 }
+
+pub returns-in_err-name-in-None-clause-bad : goal.returns-in_err-name-in-None-clause-bad
+returns-in_err-name-in-None-clause-bad c =
+    let none = rw c.in-None.is at (split_once_first 61 _ _ c.split_once.ensures.cases (lit< tt)) in
+    let named = names_flag c.args.text.now _ none refl in
+    not_bad _ _ _ named.0 c.from_residual.ensures.1
+
+pub returns-in_err-key-in-Some-unquoted-clause-bad : goal.returns-in_err-key-in-Some-unquoted-clause-bad
+returns-in_err-key-in-Some-unquoted-clause-bad c =
+    let at = splits _ _ _ _ c.split_once.ensures.cases c.in-Some.is in
+    let in_quotes = c.in-Some-unquoted.ensures in
+    let named = names_key _ _ _ _ at in_quotes.value in_quotes.between _ _ refl refl in
+    not_bad _ _ _ named.0 c.from_residual-in_err-key-in-Some-unquoted.ensures.1
+
+pub returns-in_err-value-in-Some-unquoted-clause-bad : goal.returns-in_err-value-in-Some-unquoted-clause-bad
+returns-in_err-value-in-Some-unquoted-clause-bad c =
+    let at = splits _ _ _ _ c.split_once.ensures.cases c.in-Some.is in
+    let in_quotes = c.in-Some-unquoted.ensures in
+    let named = names_key _ _ _ _ at in_quotes.value in_quotes.between _ _ refl refl in
+    not_bad _ _ _ named.0 c.from_residual-in_err-value-in-Some-unquoted.ensures.1

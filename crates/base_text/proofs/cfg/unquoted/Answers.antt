@@ -2,7 +2,6 @@ use Rattle.std.proofs.Common.{rules, lit<, sym, ap, ◌∙◌}
 use Rattle.std.specs.Option.{option_copied}
 use Rattle.std.proofs.lemmas.Str.Pattern.{strip_prefix_char, strip_suffix_char}
 use Rattle.base_text.proofs.CfgLemmas.{unquoted_no_first, unquoted-cut}
-use Rattle.base_text.specs.Cfg.{unquoted}
 use Rattle.base_text.proofs.cfg.unquoted.Goals as goal
 
 pub returns-in_err-after : goal.returns-in_err-after

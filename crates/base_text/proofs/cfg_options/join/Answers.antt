@@ -1,4 +1,4 @@
-use Rattle.std.proofs.Common.{[], sym, ◌∙◌, ap}
+use Rattle.std.proofs.Common.{[], ◌∙◌, ap}
 use Rattle.std.proofs.lemmas.List.Sums.{fold-append}
 use Rattle.base_text.specs.CfgOrder.{with_atom, with_atoms}
 use Rattle.base_text.proofs.CfgSets.{with_atoms-again}

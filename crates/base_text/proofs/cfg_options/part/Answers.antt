@@ -1,6 +1,6 @@
-use Rattle.std.proofs.Common.{Ok, Err, arith, length, sym, ap, ◌≤◌, ◌<◌}
+use Rattle.std.proofs.Common.{Err, arith}
 use Rattle.base_text.proofs.CfgSets.{atom_cmp-total, atom_cmp-IsAntisymmetric}
-use Rattle.base_text.proofs.SortedLists.{searched}
+use Rattle.base_values.proofs.SortedLists.{searched}
 use Rattle.base_text.proofs.PartedLists.{parted_further, parted_less, parted_at_last}
 use Rattle.base_text.proofs.cfg_options.part.Goals as goal
 

@@ -1,6 +1,6 @@
-use Rattle.std.proofs.Common.{subst, sym, ◌∙◌, Ok, Err}
+use Rattle.std.proofs.Common.{◌∙◌, Ok, Err}
 use Rattle.base_text.proofs.CfgSets.{atom_cmp-total, atom_cmp-IsAntisymmetric}
-use Rattle.base_text.proofs.SortedLists.{searched, insert_key_there, sorted-insert_key}
+use Rattle.base_values.proofs.SortedLists.{searched, insert_key_there, sorted-insert_key}
 use Rattle.base_text.proofs.cfg_options.put.Goals as goal
 
 pub returns-in-Ok-clause-ok : goal.returns-in-Ok-clause-ok

@@ -1,4 +1,4 @@
-use Rattle.std.proofs.Common.{subst, sym, ◌∙◌, ap}
+use Rattle.std.proofs.Common.{◌∙◌}
 use Rattle.std.proofs.lemmas.List.Filters.{dedup_is}
 use Rattle.base_text.proofs.CfgSets.{settled}
 use Rattle.base_text.proofs.cfg_options.settle.Goals as goal

@@ -1,5 +1,3 @@
-use Rattle.std.proofs.Common.{◌∙◌, []}
-use Rattle.base_text.specs.CfgOrder.{atom_cmp, with_atoms, without_atoms}
 use Rattle.base_text.proofs.CfgSets.{without_atoms-ordered}
 use Rattle.base_text.proofs.cfg_diff.CfgDiff.new.Goals as goal
 

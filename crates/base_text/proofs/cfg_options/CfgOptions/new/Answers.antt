@@ -1,6 +1,4 @@
-use Rattle.std.proofs.Common.{subst, sym}
 use Rattle.std.specs.List.Sorted.{IsStrictlySortedBy}
-use Rattle.base_text.specs.CfgOrder.{atom_cmp}
 use Rattle.base_text.proofs.cfg_options.CfgOptions.new.Goals as goal
 
 pub invariant_of-result : goal.invariant_of-result

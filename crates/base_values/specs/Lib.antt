@@ -1,0 +1,7 @@
+pub mod ByNumberEq
+pub mod ByNumberLends
+pub mod ByText
+pub mod Equality
+pub mod formers
+pub mod Sorted
+pub mod Version
