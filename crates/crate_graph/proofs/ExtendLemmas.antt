@@ -10,7 +10,7 @@ use Rattle.std.proofs.lemmas.List.Sums.{fold-append, fold_more}
 use Rattle.graph_base.specs.Edges.{HasEdge, IsInRange}
 use Rattle.crate_graph.specs.declared.builder.CrateBuilder.{CrateBuilder}
 use Rattle.crate_graph.specs.declared.crate_data.Dependency.{Dependency}
-use Rattle.crate_graph.specs.Extend.{Id, Joined, before_others, in_order, renamed, renumbered, take_in, taking, with_crate}
+use Rattle.crate_graph.specs.Extend.{Id, Merge, before_merge, with_sorted_dependencies, with_new_ids, new_id_at, take_in, with_first_equal, with_crate_at}
 use Rattle.crate_graph.specs.Graph.{edges, row_of, target_of}
 use Rattle.crate_graph.proofs.GraphLemmas.{length-edges, row-at, slice_get_some}
 
@@ -46,50 +46,50 @@ targets_within crates k krate n in_range long is = λ i d within.
     get_or-map-at (x ∷ xs) (suc i) d z within = get_or-map-at xs i d z (omega arith)
 
 -- one crate is taken in
-pub take_in-at : (eq : CrateBuilder → CrateBuilder → Bool) (olds : ℕ) (others : List CrateBuilder) (j : Joined) (n : ℕ) (krate : CrateBuilder) → slice_get others n ≡ Some krate
-    → take_in eq olds others j n ≡ taking eq olds j n (renamed (renumbered j.news) krate)
+pub take_in-at : (eq : CrateBuilder → CrateBuilder → Bool) (olds : ℕ) (others : List CrateBuilder) (j : Merge) (n : ℕ) (krate : CrateBuilder) → slice_get others n ≡ Some krate
+    → take_in eq olds others j n ≡ with_first_equal eq olds j n (with_new_ids (new_id_at j.new_numbers) krate)
 unfolding take_in
-take_in-at eq olds others j n krate is = ap (λ o. unwrap_or (option_map (λ k. taking eq olds j n (renamed (renumbered j.news) k)) o) j) is
+take_in-at eq olds others j n krate is = ap (λ o. unwrap_or (option_map (λ k. with_first_equal eq olds j n (with_new_ids (new_id_at j.new_numbers) k)) o) j) is
 
 -- ---- how the crates and numbers grow
 
-with_crate-longer : (j : Joined) (n : ℕ) (krate : CrateBuilder) (o : Option ℕ) → length j.crates ≤ length (with_crate j n krate o).crates
-with_crate-longer j n krate (Some place) = omega arith
-with_crate-longer j n krate None = omega (arith, length_push j.crates krate)
+with_crate_at-longer : (j : Merge) (n : ℕ) (krate : CrateBuilder) (o : Option ℕ) → length j.crates ≤ length (with_crate_at j n krate o).crates
+with_crate_at-longer j n krate (Some place) = omega arith
+with_crate_at-longer j n krate None = omega (arith, length_push j.crates krate)
 
-with_crate-news : (j : Joined) (n : ℕ) (krate : CrateBuilder) (o : Option ℕ) → length (with_crate j n krate o).news ≡ length j.news
-with_crate-news j n krate (Some place) = length-set j.news n place
-with_crate-news j n krate None = length-set j.news n (length j.crates)
+with_crate_at-new_numbers : (j : Merge) (n : ℕ) (krate : CrateBuilder) (o : Option ℕ) → length (with_crate_at j n krate o).new_numbers ≡ length j.new_numbers
+with_crate_at-new_numbers j n krate (Some place) = length-set j.new_numbers n place
+with_crate_at-new_numbers j n krate None = length-set j.new_numbers n (length j.crates)
 
 module _ (eq : CrateBuilder → CrateBuilder → Bool) (olds : ℕ) (others : List CrateBuilder) where
-  pub take_in-longer : (j : Joined) (n : ℕ) → length j.crates ≤ length (take_in eq olds others j n).crates
+  pub take_in-longer : (j : Merge) (n : ℕ) → length j.crates ≤ length (take_in eq olds others j n).crates
   unfolding take_in
-  take_in-longer j n = elim (slice_get others n) as (λ o. length j.crates ≤ length (unwrap_or (option_map (λ k. taking eq olds j n (renamed (renumbered j.news) k)) o) j).crates) [
-    | Some krate ↦ with_crate-longer j n (renamed (renumbered j.news) krate) (position (λ old. eq old (renamed (renumbered j.news) krate)) (take olds j.crates))
+  take_in-longer j n = elim (slice_get others n) as (λ o. length j.crates ≤ length (unwrap_or (option_map (λ k. with_first_equal eq olds j n (with_new_ids (new_id_at j.new_numbers) k)) o) j).crates) [
+    | Some krate ↦ with_crate_at-longer j n (with_new_ids (new_id_at j.new_numbers) krate) (position (λ old. eq old (with_new_ids (new_id_at j.new_numbers) krate)) (take olds j.crates))
     | None ↦ omega arith
   ]
 
-  pub take_in-news : (j : Joined) (n : ℕ) → length (take_in eq olds others j n).news ≡ length j.news
+  pub take_in-new_numbers : (j : Merge) (n : ℕ) → length (take_in eq olds others j n).new_numbers ≡ length j.new_numbers
   unfolding take_in
-  take_in-news j n = elim (slice_get others n) as (λ o. length (unwrap_or (option_map (λ k. taking eq olds j n (renamed (renumbered j.news) k)) o) j).news ≡ length j.news) [
-    | Some krate ↦ with_crate-news j n (renamed (renumbered j.news) krate) (position (λ old. eq old (renamed (renumbered j.news) krate)) (take olds j.crates))
+  take_in-new_numbers j n = elim (slice_get others n) as (λ o. length (unwrap_or (option_map (λ k. with_first_equal eq olds j n (with_new_ids (new_id_at j.new_numbers) k)) o) j).new_numbers ≡ length j.new_numbers) [
+    | Some krate ↦ with_crate_at-new_numbers j n (with_new_ids (new_id_at j.new_numbers) krate) (position (λ old. eq old (with_new_ids (new_id_at j.new_numbers) krate)) (take olds j.crates))
     | None ↦ refl
   ]
 
-  fold-longer : (j : Joined) (ns : List ℕ) → length j.crates ≤ length (fold (take_in eq olds others) j ns).crates
+  fold-longer : (j : Merge) (ns : List ℕ) → length j.crates ≤ length (fold (take_in eq olds others) j ns).crates
   fold-longer j [] = omega arith
   fold-longer j (n ∷ ns) = omega (arith, take_in-longer j n, fold-longer (take_in eq olds others j n) ns)
 
   -- what passes the limit on the way passes it at the end
-  pub passes_later : (j : Joined) (ns : List ℕ) (i limit : ℕ) → i < length ns → limit < length (take_in eq olds others (fold (take_in eq olds others) j (take i ns)) (get_or ns i 0)).crates → limit < length (fold (take_in eq olds others) j ns).crates
+  pub passes_later : (j : Merge) (ns : List ℕ) (i limit : ℕ) → i < length ns → limit < length (take_in eq olds others (fold (take_in eq olds others) j (take i ns)) (get_or ns i 0)).crates → limit < length (fold (take_in eq olds others) j ns).crates
   passes_later j ns i limit within past =
       let f = take_in eq olds others in
       let split : fold f j ns ≡ fold f (f (fold f j (take i ns)) (get_or ns i 0)) (drop (i + 1) ns) =
       ap (fold f j) (sym (take-append-drop (i + 1) ns)) ∙ fold-append f j (take (i + 1) ns) (drop (i + 1) ns) ∙ ap (λ start. fold f start (drop (i + 1) ns)) (fold_more f j ns i 0 within) in
       subst (λ z. limit < length z.crates) (sym split) (omega (arith, past, fold-longer (f (fold f j (take i ns)) (get_or ns i 0)) (drop (i + 1) ns)))
 
-pub before_others-long : (olds others : List CrateBuilder) → length (before_others olds others).crates ≡ length olds
-before_others-long olds others = length-map olds in_order
+pub before_merge-long : (olds others : List CrateBuilder) → length (before_merge olds others).crates ≡ length olds
+before_merge-long olds others = length-map olds with_sorted_dependencies
 
-pub before_others-news : (olds others : List CrateBuilder) → length (before_others olds others).news ≡ length others
-before_others-news olds others = length-replicate (length others) 0
+pub before_merge-new_numbers : (olds others : List CrateBuilder) → length (before_merge olds others).new_numbers ≡ length others
+before_merge-new_numbers olds others = length-replicate (length others) 0

@@ -1,13 +1,17 @@
 -- How the edges of a graph follow its crates.
-use Rattle.std.proofs.Common.{◌≡◌, ℕ, zero, suc, ◌^◌, ◌<◌, List, [], ◌∷◌, ◌++◌, map, length, set, Some, refl, sym, ap, ◌∙◌, subst, arith, length-set}
+use Rattle.std.proofs.Common.{◌≡◌, ℕ, zero, suc, ◌^◌, ◌<◌, List, [], ◌∷◌, ◌++◌, map, length, get_or, set, Some, refl, sym, ap, ◌∙◌, subst, arith, length-set}
 use Rattle.std.specs.Prelude.{slice_get}
+use Rattle.std.proofs.lemmas.Option.{slice_get-get_or, slice_get_within}
 use Rattle.std.proofs.lemmas.List.{length_push, length-map, map-append, map-set}
+use Rattle.std.proofs.lemmas.List.Elements.{All-append, All-cons, All-nil, All-set}
+use Rattle.std.specs.List.{All}
 use Rattle.base_text.specs.declared.arena.Idx.{Idx}
 use Rattle.graph_base.specs.Edges.{HasEdge, IsInRange, row, with_edge, with_node}
 use Rattle.graph_base.specs.Reach.{IsAcyclic}
 use Rattle.crate_graph.specs.declared.builder.CrateBuilder.{CrateBuilder}
 use Rattle.crate_graph.specs.declared.crate_data.CrateTag.{CrateTag}
 use Rattle.crate_graph.specs.declared.crate_data.Dependency.{Dependency}
+use Rattle.crate_graph.specs.Laws.{HasCleanPath}
 use Rattle.crate_graph.specs.Graph.{HasDependency, IsWellMade, edges, row_of, target_of, with_dependency}
 
 pub length-edges : (crates : List CrateBuilder) → length (edges crates) ≡ length crates
@@ -25,6 +29,14 @@ row-at [] i krate is = cc
 row-at (x ∷ xs) zero krate is = let same : x ≡ krate = cc in ap row_of same
 row-at (x ∷ xs) (suc i) krate is = row-at xs i krate is
 
+-- the path of each crate is clean
+pub clean_at : (crates : List CrateBuilder) (i : ℕ) (krate : CrateBuilder) → All (λ krate. HasCleanPath krate.basic) crates → slice_get crates i ≡ Some krate → HasCleanPath krate.basic
+clean_at crates i krate clean is =
+    let within = slice_get_within crates i krate is in
+    let at : slice_get crates i ≡ Some (get_or crates i krate) = slice_get-get_or crates i krate within in
+    let same : get_or crates i krate ≡ krate = cc in
+    subst (λ (k : CrateBuilder). HasCleanPath k.basic) same (clean i krate within)
+
 module _ (old new : List CrateBuilder) (from : ℕ) (dep : Dependency (Idx CrateTag)) (within : from < length old) (has : HasDependency old new from dep) where
   pub edges-with_dependency : edges new ≡ with_edge (edges old) from (target_of dep)
   edges-with_dependency =
@@ -38,27 +50,35 @@ module _ (old new : List CrateBuilder) (from : ℕ) (dep : Dependency (Idx Crate
       let at = slice_get_some old from within in
       ap length (has at.0 at.1) ∙ length-set old from (with_dependency at.0 dep)
 
+  clean-with_dependency : All (λ krate. HasCleanPath krate.basic) old → All (λ krate. HasCleanPath krate.basic) new
+  clean-with_dependency clean =
+      let at = slice_get_some old from within in
+      let here : HasCleanPath at.0.basic = clean_at old from at.0 clean at.1 in
+      subst (All (λ krate. HasCleanPath krate.basic)) (sym (has at.0 at.1)) (All-set (λ (krate : CrateBuilder). HasCleanPath krate.basic) old from (with_dependency at.0 dep) here clean)
+
   pub well_made-with_dependency : (limit : ℕ) → IsWellMade old limit → IsInRange (with_edge (edges old) from (target_of dep)) → IsAcyclic (with_edge (edges old) from (target_of dep)) → IsWellMade new limit
   well_made-with_dependency limit made in_range acyclic = record {
     fits = made.fits;
     within = omega (arith, made.within, length-with_dependency);
     in_range = subst IsInRange (sym edges-with_dependency) in_range;
     acyclic = subst IsAcyclic (sym edges-with_dependency) acyclic;
+    clean = clean-with_dependency made.clean;
   }
 
 -- a crate that depends on nothing
 pub edges-with_crate : (old : List CrateBuilder) (krate : CrateBuilder) → krate.basic.dependencies ≡ [] → edges (old ++ krate ∷ []) ≡ with_node (edges old)
 edges-with_crate old krate none = map-append row_of old (krate ∷ []) ∙ ap (λ r. edges old ++ map target_of r ∷ []) none
 
-pub well_made-with_crate : (old new : List CrateBuilder) (krate : CrateBuilder) (limit : ℕ) → new ≡ old ++ krate ∷ [] → krate.basic.dependencies ≡ [] → length old < limit → IsWellMade old limit
+pub well_made-with_crate : (old new : List CrateBuilder) (krate : CrateBuilder) (limit : ℕ) → new ≡ old ++ krate ∷ [] → krate.basic.dependencies ≡ [] → HasCleanPath krate.basic → length old < limit → IsWellMade old limit
     → IsInRange (with_node (edges old)) → IsAcyclic (with_node (edges old)) → IsWellMade new limit
-well_made-with_crate old new krate limit is none room made in_range acyclic =
+well_made-with_crate old new krate limit is none clean room made in_range acyclic =
     let same : edges new ≡ with_node (edges old) = ap edges is ∙ edges-with_crate old krate none in
     record {
       fits = made.fits;
       within = omega (arith, ap length is, length_push old krate);
       in_range = subst IsInRange (sym same) in_range;
       acyclic = subst IsAcyclic (sym same) acyclic;
+      clean = subst (All (λ krate. HasCleanPath krate.basic)) (sym is) (All-append (λ (krate : CrateBuilder). HasCleanPath krate.basic) old (krate ∷ []) made.clean (All-cons (λ (krate : CrateBuilder). HasCleanPath krate.basic) krate [] clean (All-nil (λ (krate : CrateBuilder). HasCleanPath krate.basic))));
     }
 
 no_edge : (a b : ℕ) → HasEdge (edges []) a b → ⊥
@@ -71,4 +91,5 @@ well_made-none limit fits = record {
   within = omega arith;
   in_range = λ a b e. absurd (no_edge a b e);
   acyclic = λ a b e r. no_edge a b e;
+  clean = All-nil (λ (krate : CrateBuilder). HasCleanPath krate.basic);
 }

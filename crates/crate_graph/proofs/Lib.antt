@@ -1,9 +1,10 @@
+pub mod CyclicLemmas
 pub mod NameLemmas
 pub mod EnvLemmas
 pub mod LawLemmas
 pub mod GraphLemmas
 pub mod ExtendLemmas
 pub mod TakenLemmas
-pub mod MovedLemmas
-pub mod JoinedLemmas
+pub mod NumberMapLemmas
+pub mod MergeLemmas
 pub mod PruneLemmas

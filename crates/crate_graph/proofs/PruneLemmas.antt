@@ -1,10 +1,11 @@
 -- What is named, how it is numbered anew, and the crates that are kept.
 use Rattle.std.proofs.Common.{◌≡◌, ℕ, zero, suc, ◌+◌, ◌<◌, ◌≤◌, inl, inr, List, [], ◌∷◌, ◌++◌, Bool, true, false, cond, map, length, get_or, set, take, drop, Option, Some, None, refl, sym, ap, ◌∙◌, subst, arith, get_or-set_same, get_or-set_other, add-one}
 use Rattle.std.specs.Prelude.{◌==◌, ◌||◌, slice_index_or}
-use Rattle.std.specs.Option.{IsSome, is_some, option_map, unwrap_or}
-use Rattle.std.specs.List.{Contains, list_all, list_any, range_with_len}
-use Rattle.std.proofs.lemmas.Bool.{and_from, cases_Bool, cases_eq, cases_lt, eq-eqb, ne_eqb, false≢true, or_right}
-use Rattle.std.proofs.lemmas.List.{append_assoc, drop_more, get_or-map, get_or_past, length-map, map_push}
+use Rattle.std.specs.Option.{is_some, option_map}
+use Rattle.std.specs.List.{All, Contains, list_all, list_any, range_with_len}
+use Rattle.std.proofs.lemmas.Bool.{and_from, cases_Bool, cases_eq, eq-eqb, ne_eqb, false≢true, or_right}
+use Rattle.std.proofs.lemmas.List.{append_assoc, drop_more, get_or-map, length-map, map_push}
+use Rattle.std.proofs.lemmas.List.Elements.{All-cons, All-head, All-nil, All-tail}
 use Rattle.std.proofs.lemmas.List.Folds.{list_all_at, list_all_more, list_all-map, list_any_at, list_any_more}
 use Rattle.std.proofs.lemmas.List.FromFn.{get_or-map-range_with_len, length-map-range_with_len, map-range_with_len_more}
 use Rattle.base_text.specs.Arena.{number_of}
@@ -17,8 +18,8 @@ use Rattle.crate_graph.specs.declared.builder.CrateBuilder.{CrateBuilder}
 use Rattle.crate_graph.specs.declared.crate_data.CrateTag.{CrateTag}
 use Rattle.crate_graph.specs.declared.crate_data.Dependency.{Dependency}
 use Rattle.crate_graph.specs.Graph.{IsWellMade, edges, row_of, target_of}
-use Rattle.crate_graph.specs.Laws.{renamed_dependency}
-use Rattle.crate_graph.specs.Prune.{Stays, kept_from, moved, moved_id, new_number, number_at}
+use Rattle.crate_graph.specs.Laws.{HasCleanPath, renamed_dependency}
+use Rattle.crate_graph.specs.Prune.{Stays, kept_crates, renumbered_crate, renumbered_id, new_number, number_at}
 
 -- each number of a list is named by it
 pub named_at : (keep : List ℕ) (k n : ℕ) → k < length keep → get_or keep k 0 ≡ n → is_named keep n ≡ true
@@ -92,17 +93,17 @@ kept_within keep (suc n) =
     elim (is_named keep n) as (λ b. cond b (kept_below keep n + 1) (kept_below keep n) ≤ suc n) [ true ↦ omega (arith, before) | false ↦ omega (arith, before) ]
 
 -- one more new number
-module _ (keep : List ℕ) (ids : List (Option (Idx CrateTag))) (k : ℕ) (told : map (option_map number_of) ids ≡ map (new_number keep) (range_with_len 0 k)) where
-  told_more : (o : Option (Idx CrateTag)) → option_map number_of o ≡ new_number keep k → map (option_map number_of) (ids ++ o ∷ []) ≡ map (new_number keep) (range_with_len 0 (k + 1))
-  told_more o is =
-      map_push (option_map number_of) ids o ∙ ap (λ xs. xs ++ option_map number_of o ∷ []) told ∙ ap (λ x. map (new_number keep) (range_with_len 0 k) ++ x ∷ []) is
+module _ (keep : List ℕ) (ids : List (Option (Idx CrateTag))) (k : ℕ) (ids_are : map (option_map number_of) ids ≡ map (new_number keep) (range_with_len 0 k)) where
+  ids_more : (o : Option (Idx CrateTag)) → option_map number_of o ≡ new_number keep k → map (option_map number_of) (ids ++ o ∷ []) ≡ map (new_number keep) (range_with_len 0 (k + 1))
+  ids_more o is =
+      map_push (option_map number_of) ids o ∙ ap (λ xs. xs ++ option_map number_of o ∷ []) ids_are ∙ ap (λ x. map (new_number keep) (range_with_len 0 k) ++ x ∷ []) is
       ∙ sym (map-range_with_len_more (new_number keep) 0 k k (omega arith))
 
-  pub told_named : (id : Idx CrateTag) → is_named keep k ≡ true → number_of id ≡ kept_below keep k → map (option_map number_of) (ids ++ Some id ∷ []) ≡ map (new_number keep) (range_with_len 0 (k + 1))
-  told_named id named is = told_more (Some id) (ap Some is ∙ sym (ap (λ b. cond b (Some (kept_below keep k)) None) named))
+  pub ids_more-named : (id : Idx CrateTag) → is_named keep k ≡ true → number_of id ≡ kept_below keep k → map (option_map number_of) (ids ++ Some id ∷ []) ≡ map (new_number keep) (range_with_len 0 (k + 1))
+  ids_more-named id named is = ids_more (Some id) (ap Some is ∙ sym (ap (λ b. cond b (Some (kept_below keep k)) None) named))
 
-  pub told_other : is_named keep k ≡ false → map (option_map number_of) (ids ++ None ∷ []) ≡ map (new_number keep) (range_with_len 0 (k + 1))
-  told_other other = told_more None (sym (ap (λ b. cond b (Some (kept_below keep k)) None) other))
+  pub ids_more-other : is_named keep k ≡ false → map (option_map number_of) (ids ++ None ∷ []) ≡ map (new_number keep) (range_with_len 0 (k + 1))
+  ids_more-other other = ids_more None (sym (ap (λ b. cond b (Some (kept_below keep k)) None) other))
 
 pub below_named : (keep : List ℕ) (k : ℕ) → is_named keep k ≡ true → kept_below keep (k + 1) ≡ kept_below keep k + 1
 below_named keep k is = ap (kept_below keep) (add-one k) ∙ ap (λ b. cond b (kept_below keep k + 1) (kept_below keep k)) is
@@ -134,54 +135,55 @@ some_number : (keep : List ℕ) (n : ℕ) → is_some (new_number keep n) ≡ is
 some_number keep n = elim (is_named keep n) as (λ b. is_some (cond b (Some (kept_below keep n)) None) ≡ b) [ true ↦ refl | false ↦ refl ]
 
 -- what a list of new numbers tells of a crate
-module _ (keep : List ℕ) (ids : List (Option (Idx CrateTag))) (count : ℕ) (told : map (option_map number_of) ids ≡ map (new_number keep) (range_with_len 0 count)) where
-  pub length_told : length ids ≡ count
-  length_told = sym (length-map ids (option_map number_of)) ∙ ap length told ∙ length-map-range_with_len (new_number keep) 0 count
+module _ (keep : List ℕ) (ids : List (Option (Idx CrateTag))) (count : ℕ) (ids_are : map (option_map number_of) ids ≡ map (new_number keep) (range_with_len 0 count)) where
+  pub length-ids : length ids ≡ count
+  length-ids = sym (length-map ids (option_map number_of)) ∙ ap length ids_are ∙ length-map-range_with_len (new_number keep) 0 count
 
-  pub told_at : (n : ℕ) → n < count → option_map number_of (slice_index_or ids n None) ≡ new_number keep n
-  told_at n within =
-      let there : n < length ids = omega (arith, within, length_told) in
-      sym (get_or-map (option_map number_of) ids n None None there) ∙ ap (λ xs. get_or xs n None) told ∙ get_or-map-range_with_len (new_number keep) 0 count n n None within (omega arith)
+  pub id_at : (n : ℕ) → n < count → option_map number_of (slice_index_or ids n None) ≡ new_number keep n
+  id_at n within =
+      let there : n < length ids = omega (arith, within, length-ids) in
+      sym (get_or-map (option_map number_of) ids n None None there) ∙ ap (λ xs. get_or xs n None) ids_are ∙ get_or-map-range_with_len (new_number keep) 0 count n n None within (omega arith)
 
-  pub told_number : (n : ℕ) → n < count → is_named keep n ≡ true → number_at ids n ≡ kept_below keep n
-  told_number n within is =
-      let told : option_map number_of (slice_index_or ids n None) ≡ Some (kept_below keep n) = told_at n within ∙ ap (λ b. cond b (Some (kept_below keep n)) None) is in
-      ap (λ o. unwrap_or o 0) told
+  pub is_some-id : (n : ℕ) → n < count → is_some (slice_index_or ids n None) ≡ is_named keep n
+  is_some-id n within = same_some (slice_index_or ids n None) ∙ ap is_some (id_at n within) ∙ some_number keep n
 
-  pub told_some : (n : ℕ) → n < count → is_some (slice_index_or ids n None) ≡ is_named keep n
-  told_some n within = same_some (slice_index_or ids n None) ∙ ap is_some (told_at n within) ∙ some_number keep n
+-- the new number of a crate, by the list of them
+number_at-kept : (keep numbers : List ℕ) (count n : ℕ) → numbers ≡ map (kept_below keep) (range_with_len 0 count) → n < count → number_at numbers n ≡ kept_below keep n
+number_at-kept keep numbers count n are within =
+    ap (λ ns. get_or ns n 0) are ∙ get_or-map-range_with_len (kept_below keep) 0 count n n 0 within (omega arith)
 
--- a place that holds something is in the list
-pub some_within : (ids : List (Option (Idx CrateTag))) (n : ℕ) → IsSome (slice_index_or ids n None) → n < length ids
-some_within ids n some = elim (cases_lt n (length ids)) [
-  | inl within ↦ within
-  | inr past ↦ absurd (false≢true (sym (ap is_some (get_or_past ids n None past)) ∙ some))
-]
+-- one more number
+pub numbers_more-kept : (keep numbers : List ℕ) (k next : ℕ) → numbers ≡ map (kept_below keep) (range_with_len 0 k) → next ≡ kept_below keep k → numbers ++ next ∷ [] ≡ map (kept_below keep) (range_with_len 0 (k + 1))
+numbers_more-kept keep numbers k next are is =
+    ap (λ ns. ns ++ next ∷ []) are ∙ ap (λ n. map (kept_below keep) (range_with_len 0 k) ++ n ∷ []) is ∙ sym (map-range_with_len_more (kept_below keep) 0 k k (omega arith))
+
+pub length-numbers : (keep numbers : List ℕ) (count : ℕ) → numbers ≡ map (kept_below keep) (range_with_len 0 count) → length numbers ≡ count
+length-numbers keep numbers count are = ap length are ∙ length-map-range_with_len (kept_below keep) 0 count
 
 -- a dependency on the crate of another number
-abbrev moved_dep : ℕ → Dependency (Idx CrateTag) → Dependency (Idx CrateTag)
-moved_dep n dep = record dep { crate_id = record dep.crate_id { raw = n } }
+abbrev renumbered_dep : ℕ → Dependency (Idx CrateTag) → Dependency (Idx CrateTag)
+renumbered_dep n dep = record dep { crate_id = record dep.crate_id { raw = n } }
 
 -- new names that agree on the dependencies
-deps_same : (f g : ℕ → ℕ) (ds : List (Dependency (Idx CrateTag))) → ((n : ℕ) → Contains (map target_of ds) n → f n ≡ g n) → map (renamed_dependency (moved_id f)) ds ≡ map (renamed_dependency (moved_id g)) ds
+deps_same : (f g : ℕ → ℕ) (ds : List (Dependency (Idx CrateTag))) → ((n : ℕ) → Contains (map target_of ds) n → f n ≡ g n) → map (renamed_dependency (renumbered_id f)) ds ≡ map (renamed_dependency (renumbered_id g)) ds
 deps_same f g [] agree = refl
 deps_same f g (d ∷ ds) agree =
     let here : f (target_of d) ≡ g (target_of d) = agree (target_of d) (0, omega arith, refl) in
     let later = deps_same f g ds (λ n at. agree n (suc at.0, omega (arith, at.1), at.2)) in
-    ap (λ n. moved_dep n d ∷ map (renamed_dependency (moved_id f)) ds) here ∙ ap (λ more. renamed_dependency (moved_id g) d ∷ more) later
+    ap (λ n. renumbered_dep n d ∷ map (renamed_dependency (renumbered_id f)) ds) here ∙ ap (λ more. renamed_dependency (renumbered_id g) d ∷ more) later
 
-pub moved_same : (f g : ℕ → ℕ) (krate : CrateBuilder) → ((n : ℕ) → Contains (row_of krate) n → f n ≡ g n) → moved f krate ≡ moved g krate
-moved_same f g krate agree =
+pub renumbered_same : (f g : ℕ → ℕ) (krate : CrateBuilder) → ((n : ℕ) → Contains (row_of krate) n → f n ≡ g n) → renumbered_crate f krate ≡ renumbered_crate g krate
+renumbered_same f g krate agree =
     ap (λ ds. record krate { basic = record krate.basic { dependencies = ds } }) (deps_same f g krate.basic.dependencies agree)
 
 row_get : (crates : List CrateBuilder) (i : ℕ) (krate : CrateBuilder) → i < length crates → krate ≡ get_or crates i krate → row (edges crates) i ≡ row_of krate
 row_get crates i krate within at = get_or-map row_of crates i krate [] within ∙ ap row_of (sym at)
 
 -- a crate that is kept depends on crates that are kept
-module _ (keep : List ℕ) (crates : List CrateBuilder) (ids : List (Option (Idx CrateTag))) (whole : IsClosed (edges crates) keep) (told : map (option_map number_of) ids ≡ map (new_number keep) (range_with_len 0 (length crates)))
+module _ (keep : List ℕ) (crates : List CrateBuilder) (ids : List (Option (Idx CrateTag))) (whole : IsClosed (edges crates) keep) (ids_are : map (option_map number_of) ids ≡ map (new_number keep) (range_with_len 0 (length crates)))
     (k : ℕ) (krate : CrateBuilder) (within : k < length crates) (at : krate ≡ get_or crates k krate) (some : is_some (slice_index_or ids k None) ≡ true) where
   pub named_here : is_named keep k ≡ true
-  named_here = sym (told_some keep ids (length crates) told k within) ∙ some
+  named_here = sym (is_some-id keep ids (length crates) ids_are k within) ∙ some
 
   named_all : (n : ℕ) → Contains (row_of krate) n → is_named keep n ≡ true
   named_all n c = whole.closed k n named_here (subst (λ r. Contains r n) (sym (row_get crates k krate within at)) c)
@@ -189,53 +191,61 @@ module _ (keep : List ℕ) (crates : List CrateBuilder) (ids : List (Option (Idx
   known_all : (n : ℕ) → Contains (row_of krate) n → n < length crates
   known_all n c = omega (arith, whole.known n (named_all n c), length-edges crates)
 
-  pub all_some : (n : ℕ) → Contains (row_of krate) n → IsSome (slice_index_or ids n None)
-  all_some n c = told_some keep ids (length crates) told n (known_all n c) ∙ named_all n c
-
-  pub moved_kept : moved (number_at ids) krate ≡ moved (kept_below keep) krate
-  moved_kept = moved_same (number_at ids) (kept_below keep) krate (λ n c. told_number keep ids (length crates) told n (known_all n c) (named_all n c))
+  pub renumbered_kept : (numbers : List ℕ) → numbers ≡ map (kept_below keep) (range_with_len 0 (length crates)) → renumbered_crate (number_at numbers) krate ≡ renumbered_crate (kept_below keep) krate
+  renumbered_kept numbers are = renumbered_same (number_at numbers) (kept_below keep) krate (λ n c. number_at-kept keep numbers (length crates) n are (known_all n c))
 
 -- one step over the crates
-module _ (keep : List ℕ) (crates done whole : List CrateBuilder) (k : ℕ) (c : CrateBuilder) (within : k < length crates) (at : c ≡ get_or crates k c) (so_far : done ++ kept_from keep k (drop k crates) ≡ whole) where
+module _ (keep : List ℕ) (crates done whole : List CrateBuilder) (k : ℕ) (c : CrateBuilder) (within : k < length crates) (at : c ≡ get_or crates k c) (so_far : done ++ kept_crates keep k (drop k crates) ≡ whole) where
   left : drop k crates ≡ c ∷ drop (k + 1) crates
   left = drop_more crates k c within ∙ ap (λ x. x ∷ drop (k + 1) crates) (sym at)
 
   abbrev rest : List CrateBuilder
-  rest = kept_from keep (k + 1) (drop (k + 1) crates)
+  rest = kept_crates keep (k + 1) (drop (k + 1) crates)
 
-  step : done ++ kept_from keep k (drop k crates) ≡ done ++ cond (is_named keep k) (moved (kept_below keep) c ∷ rest) rest
-  step = ap (λ cs. done ++ kept_from keep k cs) left ∙ ap (λ n. done ++ cond (is_named keep k) (moved (kept_below keep) c ∷ kept_from keep n (drop (k + 1) crates)) (kept_from keep n (drop (k + 1) crates))) (sym (add-one k))
+  step : done ++ kept_crates keep k (drop k crates) ≡ done ++ cond (is_named keep k) (renumbered_crate (kept_below keep) c ∷ rest) rest
+  step = ap (λ cs. done ++ kept_crates keep k cs) left ∙ ap (λ n. done ++ cond (is_named keep k) (renumbered_crate (kept_below keep) c ∷ kept_crates keep n (drop (k + 1) crates)) (kept_crates keep n (drop (k + 1) crates))) (sym (add-one k))
 
-  pub kept_more : is_named keep k ≡ true → (done ++ moved (kept_below keep) c ∷ []) ++ kept_from keep (k + 1) (drop (k + 1) crates) ≡ whole
+  pub kept_more : is_named keep k ≡ true → (done ++ renumbered_crate (kept_below keep) c ∷ []) ++ kept_crates keep (k + 1) (drop (k + 1) crates) ≡ whole
   kept_more is =
-      append_assoc done (moved (kept_below keep) c ∷ []) rest
-      ∙ sym (step ∙ ap (λ b. done ++ cond b (moved (kept_below keep) c ∷ rest) rest) is)
+      append_assoc done (renumbered_crate (kept_below keep) c ∷ []) rest
+      ∙ sym (step ∙ ap (λ b. done ++ cond b (renumbered_crate (kept_below keep) c ∷ rest) rest) is)
       ∙ so_far
 
-  pub kept_skip : is_named keep k ≡ false → done ++ kept_from keep (k + 1) (drop (k + 1) crates) ≡ whole
-  kept_skip is = sym (step ∙ ap (λ b. done ++ cond b (moved (kept_below keep) c ∷ rest) rest) is) ∙ so_far
+  pub kept_skip : is_named keep k ≡ false → done ++ kept_crates keep (k + 1) (drop (k + 1) crates) ≡ whole
+  kept_skip is = sym (step ∙ ap (λ b. done ++ cond b (renumbered_crate (kept_below keep) c ∷ rest) rest) is) ∙ so_far
 
 -- the edges of the crates that are kept
-row_moved : (f : ℕ → ℕ) (ds : List (Dependency (Idx CrateTag))) → map target_of (map (renamed_dependency (moved_id f)) ds) ≡ map f (map target_of ds)
+row_moved : (f : ℕ → ℕ) (ds : List (Dependency (Idx CrateTag))) → map target_of (map (renamed_dependency (renumbered_id f)) ds) ≡ map f (map target_of ds)
 row_moved f [] = refl
 row_moved f (d ∷ ds) = ap (λ ns. f (target_of d) ∷ ns) (row_moved f ds)
 
-edges_from : (keep : List ℕ) (n : ℕ) (crates : List CrateBuilder) → edges (kept_from keep n crates) ≡ kept_rows keep n (edges crates)
+edges_from : (keep : List ℕ) (n : ℕ) (crates : List CrateBuilder) → edges (kept_crates keep n crates) ≡ kept_rows keep n (edges crates)
 edges_from keep n [] = refl
 edges_from keep n (c ∷ cs) =
     let later = edges_from keep (suc n) cs in
-    elim (is_named keep n) as (λ b. edges (cond b (moved (kept_below keep) c ∷ kept_from keep (suc n) cs) (kept_from keep (suc n) cs)) ≡ cond b (map (kept_below keep) (row_of c) ∷ kept_rows keep (suc n) (edges cs)) (kept_rows keep (suc n) (edges cs))) [
-      | true ↦ ap (λ r. r ∷ edges (kept_from keep (suc n) cs)) (row_moved (kept_below keep) c.basic.dependencies) ∙ ap (λ rs. map (kept_below keep) (row_of c) ∷ rs) later
+    elim (is_named keep n) as (λ b. edges (cond b (renumbered_crate (kept_below keep) c ∷ kept_crates keep (suc n) cs) (kept_crates keep (suc n) cs)) ≡ cond b (map (kept_below keep) (row_of c) ∷ kept_rows keep (suc n) (edges cs)) (kept_rows keep (suc n) (edges cs))) [
+      | true ↦ ap (λ r. r ∷ edges (kept_crates keep (suc n) cs)) (row_moved (kept_below keep) c.basic.dependencies) ∙ ap (λ rs. map (kept_below keep) (row_of c) ∷ rs) later
       | false ↦ later
     ]
 
-fewer_from : (keep : List ℕ) (n : ℕ) (crates : List CrateBuilder) → length (kept_from keep n crates) ≤ length crates
+fewer_from : (keep : List ℕ) (n : ℕ) (crates : List CrateBuilder) → length (kept_crates keep n crates) ≤ length crates
 fewer_from keep n [] = omega arith
 fewer_from keep n (c ∷ cs) =
     let later = fewer_from keep (suc n) cs in
-    elim (is_named keep n) as (λ b. length (cond b (moved (kept_below keep) c ∷ kept_from keep (suc n) cs) (kept_from keep (suc n) cs)) ≤ suc (length cs)) [ true ↦ omega (arith, later) | false ↦ omega (arith, later) ]
+    elim (is_named keep n) as (λ b. length (cond b (renumbered_crate (kept_below keep) c ∷ kept_crates keep (suc n) cs) (kept_crates keep (suc n) cs)) ≤ suc (length cs)) [ true ↦ omega (arith, later) | false ↦ omega (arith, later) ]
 
-pub well_made-kept : (old new : List CrateBuilder) (keep : List ℕ) (limit : ℕ) → new ≡ kept_from keep 0 old → IsWellMade old limit → IsInRange (kept_rows keep 0 (edges old)) → IsAcyclic (kept_rows keep 0 (edges old)) → IsWellMade new limit
+-- the paths of the crates that are kept are clean
+clean_from : (keep : List ℕ) (n : ℕ) (crates : List CrateBuilder) → All (λ krate. HasCleanPath krate.basic) crates → All (λ krate. HasCleanPath krate.basic) (kept_crates keep n crates)
+clean_from keep n [] clean = All-nil (λ (krate : CrateBuilder). HasCleanPath krate.basic)
+clean_from keep n (c ∷ cs) clean =
+    let later = clean_from keep (suc n) cs (All-tail (λ (krate : CrateBuilder). HasCleanPath krate.basic) c cs clean) in
+    let here : HasCleanPath c.basic = All-head (λ (krate : CrateBuilder). HasCleanPath krate.basic) c cs clean in
+    elim (is_named keep n) as (λ b. All (λ (krate : CrateBuilder). HasCleanPath krate.basic) (cond b (renumbered_crate (kept_below keep) c ∷ kept_crates keep (suc n) cs) (kept_crates keep (suc n) cs))) [
+      | true ↦ All-cons (λ (krate : CrateBuilder). HasCleanPath krate.basic) (renumbered_crate (kept_below keep) c) (kept_crates keep (suc n) cs) here later
+      | false ↦ later
+    ]
+
+pub well_made-kept : (old new : List CrateBuilder) (keep : List ℕ) (limit : ℕ) → new ≡ kept_crates keep 0 old → IsWellMade old limit → IsInRange (kept_rows keep 0 (edges old)) → IsAcyclic (kept_rows keep 0 (edges old)) → IsWellMade new limit
 well_made-kept old new keep limit is made in_range acyclic =
     let same : edges new ≡ kept_rows keep 0 (edges old) = ap edges is ∙ edges_from keep 0 old in
     record {
@@ -243,4 +253,5 @@ well_made-kept old new keep limit is made in_range acyclic =
       within = omega (arith, made.within, ap length is, fewer_from keep 0 old);
       in_range = subst IsInRange (sym same) in_range;
       acyclic = subst IsAcyclic (sym same) acyclic;
+      clean = subst (All (λ krate. HasCleanPath krate.basic)) (sym is) (clean_from keep 0 old made.clean);
     }

@@ -1,7 +1,7 @@
 -- The environment that a crate is built in: variables and values, ascending by the variables' bytes.
 use Rattle.std.specs.Prelude.{◌≡◌, ◌≤◌, ℕ, List, fold, length, take, String, string_bytes}
 use Rattle.std.specs.declared.alloc.Global.{Global}
-use Rattle.base_text.specs.ByText.{with_value}
+use Rattle.base_values.specs.ByText.{with_value}
 
 -- a variable and its value, as their bytes
 abbrev pub pair_text : String Global × String Global → List ℕ × List ℕ

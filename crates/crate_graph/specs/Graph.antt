@@ -1,9 +1,11 @@
 -- The crates of a graph, the edges between them, and what every graph keeps.
 use Rattle.std.specs.Prelude.{◌≡◌, ℕ, ◌<◌, ◌≤◌, ◌^◌, List, ◌++◌, ◌∷◌, [], map, length, codes, Some, slice_get, slice_set}
+use Rattle.std.specs.List.{All}
 use Rattle.base_text.specs.Arena.{number_of}
 use Rattle.base_text.specs.declared.arena.Idx.{Idx}
 use Rattle.graph_base.specs.Edges.{IsInRange}
 use Rattle.graph_base.specs.Reach.{IsAcyclic}
+use Rattle.crate_graph.specs.Laws.{HasCleanPath}
 use Rattle.crate_graph.specs.declared.builder.CrateBuilder.{CrateBuilder}
 use Rattle.crate_graph.specs.declared.crate_data.Dependency.{Dependency}
 use Rattle.crate_graph.specs.declared.crate_data.CrateTag.{CrateTag}
@@ -20,12 +22,13 @@ row_of krate = map target_of krate.basic.dependencies
 abbrev pub edges : List CrateBuilder → List (List ℕ)
 edges crates = map row_of crates
 
--- what every graph keeps: no more crates than the limit, no dependency that leads out of it, and no cycle
+-- what every graph keeps: no more crates than the limit, no dependency that leads out of it, no cycle, and clean paths
 pub record IsWellMade (crates : List CrateBuilder) (limit : ℕ) : Type 0 where
   pub fits : limit < 2 ^ 32
   pub within : length crates ≤ limit
   pub in_range : IsInRange (edges crates)
   pub acyclic : IsAcyclic (edges crates)
+  pub clean : All (λ krate. HasCleanPath krate.basic) crates
 
 -- a graph: the limit of its crates, and the crates, each under its number
 pub record Graph : Type 0 where
@@ -36,6 +39,11 @@ pub record Graph : Type 0 where
 abbrev pub attribute : List ℕ → List ℕ
 attribute text = codes "#![" ++ text ++ codes "]"
 
+-- the new graph has one more crate, behind the others, and the same limit
+pub record AddsCrate (old new : Graph) (krate : CrateBuilder) : Type 0 where
+  pub limit : new.limit ≡ old.limit
+  pub crates : new.crates ≡ old.crates ++ krate ∷ []
+
 -- the crate with one more dependency, behind those that it had
 abbrev pub with_dependency : CrateBuilder → Dependency (Idx CrateTag) → CrateBuilder
 with_dependency krate dep = record krate { basic = record krate.basic { dependencies = krate.basic.dependencies ++ dep ∷ [] } }
@@ -44,7 +52,7 @@ with_dependency krate dep = record krate { basic = record krate.basic { dependen
 abbrev pub HasDependency : List CrateBuilder → List CrateBuilder → ℕ → Dependency (Idx CrateTag) → Type 0
 HasDependency old new from dep = (krate : CrateBuilder) → slice_get old from ≡ Some krate → new ≡ slice_set old from (with_dependency krate dep)
 
--- the new graph has the dependency and is otherwise the old one
+-- the new graph has the dependency, and all else of its crates and its limit is that of the old one
 pub record AddsDependency (old new : Graph) (from : ℕ) (dep : Dependency (Idx CrateTag)) : Type 0 where
   pub limit : new.limit ≡ old.limit
   pub crates : HasDependency old.crates new.crates from dep

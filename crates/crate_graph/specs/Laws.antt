@@ -4,16 +4,15 @@ use Rattle.base_text.specs.Paths.{IsClean}
 use Rattle.crate_graph.specs.declared.crate_data.CrateData.{CrateData}
 use Rattle.crate_graph.specs.declared.crate_data.Dependency.{Dependency}
 
--- a test that is true just of equal values
-abbrev pub Tells : {A : Type 0} → (A → A → Bool) → Type 0
-Tells {A} eq = (x y : A) → (eq x y ≡ true) ↔ (x ≡ y)
+-- a test that, of the values that a fact holds of, is true just of equal ones
+abbrev pub IsContentEqualityOn : {A : Type 0} → (A → Type 0) → (A → A → Bool) → Type 0
+IsContentEqualityOn {A} P eq = (x y : A) → P x → P y → (eq x y ≡ true) ↔ (x ≡ y)
 
--- a test that is true just of equal crates, as long as their paths are clean, as every `AbsPathBuf` is
-abbrev pub TellsCrates : {Id : Type 0} → (CrateData Id → CrateData Id → Bool) → Type 0
-TellsCrates {Id} eq = (x y : CrateData Id) → IsClean x.proc_macro_cwd → IsClean y.proc_macro_cwd
-    → (eq x y ≡ true) ↔ (x ≡ y)
+-- the directory in which the crate's procedural macros run is a clean path, as every `AbsPathBuf` is
+abbrev pub HasCleanPath : {Id : Type 0} → CrateData Id → Type 0
+HasCleanPath krate = IsClean krate.proc_macro_cwd
 
--- new names are equal just where the old ones are
+-- new names are equal exactly where the old ones are
 abbrev pub KeepsEquality : {A B : Type 0} → (A → A → Bool) → (B → B → Bool) → (A → B) → Type 0
 KeepsEquality {A} old new f = (x y : A) → new (f x) (f y) ≡ old x y
 

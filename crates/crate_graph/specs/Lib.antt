@@ -4,6 +4,7 @@ pub mod Cyclic
 pub mod Env
 pub mod Extend
 pub mod Graph
+pub mod GraphError
 pub mod Laws
 pub mod Names
 pub mod Origin

@@ -7,13 +7,12 @@ use crate::crate_data::{CrateBuilderId, CrateDataBuilder};
 use crate::env::Env;
 use crate::names::CrateDisplayName;
 use crate::proc_macro::ProcMacroLoadingError;
-use crate::shared::Shared;
 use crate::workspace_data::CrateWorkspaceData;
-use base_text::{AbsPathBuf, CfgOptions, Text, TryClone};
+use base_text::{AbsPathBuf, CfgOptions, Shared, Text, TryClone};
 use std::alloc::{AllocError, Global};
 use std::collections::BTreeMap;
 
-/// What is known of a crate beside what tells it apart.
+/// What is known of a crate beside the data that identifies it.
 #[derive(Debug, PartialEq, Eq, Drop)]
 pub struct ExtraCrateData {
     pub version: Option<Text>,
@@ -36,7 +35,7 @@ impl TryClone for ExtraCrateData {
 }
 
 /// A crate of a builder.
-#[derive(Debug, PartialEq, Eq, Drop)]
+#[derive(PartialEq, Eq, Debug, Drop)]
 pub struct CrateBuilder {
     pub basic: CrateDataBuilder,
     pub extra: ExtraCrateData,

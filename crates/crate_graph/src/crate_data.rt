@@ -1,4 +1,4 @@
-//! What tells a crate apart from others, over any type of number by which it names them.
+//! The data that identifies a crate, over any type of number by which it names others.
 
 ghost use Rattle.std.specs.Prelude.{◌≡◌, ◌↔◌, true, false, map, IfOk};
 ghost use Rattle.crate_graph.specs.CrateData.{prelude_of, sysroot_of};
@@ -102,7 +102,7 @@ impl<Id: Copy> TryClone for Dependency<Id> {
     }
 }
 
-/// What tells a crate apart from others of its root file.
+/// The data that identifies a crate among those of its root file.
 #[derive(Debug, PartialEq, Eq, PartialOrd, Ord, Hash, Drop)]
 pub struct CrateData<Id> {
     pub root_file_id: FileId,

@@ -1,7 +1,9 @@
 //! Why a dependency is refused: a path of the graph that it would close to a cycle.
 
-ghost use Rattle.std.specs.Prelude.{◌≡◌, map, IfOk};
-ghost use Rattle.crate_graph.specs.Cyclic.{names, numbers, shown_of};
+ghost use Rattle.std.specs.Prelude.{◌≡◌, map, IfOk, Some};
+ghost use Rattle.std.specs.Fmt.{DisplaysOnOk};
+ghost use Rattle.std.specs.Option.{option_copied};
+ghost use Rattle.crate_graph.specs.Cyclic.{back_text, end_text, names, numbers, shown_of, step_text};
 
 use crate::builder::CrateBuilder;
 use crate::crate_data::CrateBuilderId;
@@ -72,11 +74,13 @@ fn shown(
     }
 }
 
-// A crate of a path: its name and its number, or the number alone.
+// Writes a crate of a path: its name and its number, or its number alone.
 fn write_step<W: fmt::Write>(
     f: &mut fmt::Formatter<W>,
     step: &(CrateBuilderId, Option<CrateDisplayName>),
-) -> fmt::Result {
+) -> fmt::Result
+    ensures { DisplaysOnOk W.write_str_gives f.old result (Some (step_text step.now)) f.new }
+{
     let id = step.0.into_raw();
     match &step.1 {
         Some(name) => write!(f, "{name}({id})"),
@@ -84,25 +88,50 @@ fn write_step<W: fmt::Write>(
     }
 }
 
+// Writes an end of a path.
+fn write_end<W: fmt::Write>(
+    f: &mut fmt::Formatter<W>,
+    end: Option<&(CrateBuilderId, Option<CrateDisplayName>)>,
+) -> fmt::Result
+    ensures { DisplaysOnOk W.write_str_gives f.old result (Some (end_text (option_copied end.entry))) f.new }
+{
+    match end {
+        Some(step) => write_step(f, step),
+        None => Ok(()),
+    }
+}
+
+// Writes a path from its last crate to its first, joined by arrows.
+fn write_back<W: fmt::Write>(
+    f: &mut fmt::Formatter<W>,
+    path: &[(CrateBuilderId, Option<CrateDisplayName>)],
+) -> fmt::Result
+    ensures { DisplaysOnOk W.write_str_gives f.old result (Some (back_text path.now)) f.new }
+{
+    let Some((last, before)) = path.split_last() else {
+        return Ok(());
+    };
+    write_step(f, last)?;
+    for step in before.iter().rev() {
+        f.write_str(" -> ")?;
+        write_step(f, step)?;
+    }
+    Ok(())
+}
+
 impl fmt::Display for CyclicDependenciesError {
+    ghost use Rattle.crate_graph.specs.Cyclic.{cyclic_text};
+
+    ghost output = { λ error. Some (cyclic_text error) };
+
     fn fmt<W: fmt::Write>(&self, f: &mut fmt::Formatter<W>) -> fmt::Result {
         let path = self.path.as_slice();
         f.write_str("cyclic deps: ")?;
-        if let Some(first) = path.first() {
-            write_step(f, first)?;
-        }
+        write_end(f, path.first())?;
         f.write_str(" -> ")?;
-        if let Some(last) = path.last() {
-            write_step(f, last)?;
-        }
+        write_end(f, path.last())?;
         f.write_str(", alternative path: ")?;
-        for (place, step) in path.iter().rev().enumerate() {
-            if place > 0 {
-                f.write_str(" -> ")?;
-            }
-            write_step(f, step)?;
-        }
-        Ok(())
+        write_back(f, path)
     }
 }
 
@@ -110,24 +139,9 @@ impl Error for CyclicDependenciesError {}
 
 impl TryClone for CyclicDependenciesError {
     fn try_clone(&self, alloc: Global) -> Result<Self, AllocError> {
-        let path = copied_path(alloc, self.path())?;
+        let path = self.path.try_clone(alloc)?;
         Ok(CyclicDependenciesError { path })
     }
-}
-
-// A copy of a path.
-fn copied_path(
-    alloc: Global,
-    path: &[(CrateBuilderId, Option<CrateDisplayName>)],
-) -> Result<Items<(CrateBuilderId, Option<CrateDisplayName>)>, AllocError>
-    ensures { IfOk result (λ copy. copy ≡ path.now) }
-{
-    let mut copy = Vec::new(alloc);
-    for (id, name) in path {
-        let name = name.try_clone(alloc)?;
-        copy.push((*id, name))?;
-    }
-    Ok(Items::new(copy))
 }
 
 /// Why a dependency was not added.
@@ -139,6 +153,10 @@ pub enum AddDepError {
 }
 
 impl fmt::Display for AddDepError {
+    ghost use Rattle.crate_graph.specs.Refused.{refusal_text};
+
+    ghost output = { λ error. Some (refusal_text error) };
+
     fn fmt<W: fmt::Write>(&self, f: &mut fmt::Formatter<W>) -> fmt::Result {
         match self {
             AddDepError::Cyclic(_) => f.write_str("Cyclic"),

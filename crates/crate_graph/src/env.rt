@@ -4,7 +4,7 @@ ghost use Rattle.std.specs.Prelude.{◌≡◌, ◌↔◌, [], map, is_some, stri
 ghost use Rattle.std.specs.Prelude.{IfOk, IsTrue, OnOk, OnErr};
 ghost use Rattle.std.specs.Option.{option_copied, option_map};
 ghost use Rattle.std.specs.Iterator.{YieldsFirstBy, item_count};
-ghost use Rattle.base_text.specs.ByText.{HasAscendingKeys, value_at};
+ghost use Rattle.base_values.specs.ByText.{HasAscendingKeys, value_at};
 ghost use Rattle.crate_graph.specs.Env.{TakesSome, pair_text, with_pair, with_pairs};
 
 use base_text::{ByText, Text, TryClone};
@@ -146,7 +146,7 @@ pub struct EnvIter<'a> {
 
 impl<'a> Model for EnvIter<'a> {
     ghost use Rattle.std.specs.Prelude.{ℕ, List};
-    ghost use Rattle.base_text.specs.ByText.{text_entries};
+    ghost use Rattle.base_values.specs.ByText.{text_entries};
 
     ghost Value = { List (List ℕ × List ℕ) };
 

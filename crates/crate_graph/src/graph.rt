@@ -8,25 +8,23 @@ ghost use Rattle.std.specs.Option.{option_map};
 ghost use Rattle.base_text.specs.Arena.{number_of};
 ghost use Rattle.graph_base.specs.Reach.{IsAcyclic};
 ghost use Rattle.crate_graph.specs.Builder.{crate_of};
-ghost use Rattle.crate_graph.specs.Graph.{IsWellMade, attribute, edges};
+ghost use Rattle.crate_graph.specs.Graph.{AddsCrate, IsWellMade, attribute, edges};
 
 mod add_dep;
 mod copies;
 mod extend;
 mod prune;
 mod reach;
-#[cfg(test)]
-mod tests;
+mod renaming;
 
 use crate::builder::{CrateBuilder, ExtraCrateData};
 use crate::crate_data::{CrateBuilderId, CrateData};
 use crate::env::Env;
 use crate::names::CrateDisplayName;
 use crate::origin::CrateOrigin;
-use crate::shared::Shared;
 use crate::target_kind::TargetKind;
 use crate::workspace_data::CrateWorkspaceData;
-use base_text::{AbsPathBuf, CfgOptions, Edition, FileId, Items, Text};
+use base_text::{AbsPathBuf, CfgOptions, Edition, FileId, Items, Shared, Text};
 use graph_base::Graph;
 use std::alloc::{AllocError, Global};
 use std::error::Error;
@@ -44,6 +42,10 @@ pub enum GraphError {
 }
 
 impl fmt::Display for GraphError {
+    ghost use Rattle.crate_graph.specs.GraphError.{graph_error_text};
+
+    ghost output = { λ error. Some (graph_error_text error) };
+
     fn fmt<W: fmt::Write>(&self, f: &mut fmt::Formatter<W>) -> fmt::Result {
         match self {
             GraphError::TooMany => f.write_str("TooMany"),
@@ -84,7 +86,8 @@ impl Model for CrateGraphBuilder {
 impl CrateGraphBuilder {
     /// A graph with no crates, which takes as many as the limit.
     pub fn new(alloc: Global, limit: u32) -> Self
-        ensures { result ≡ record { limit = limit; crates = [] } }
+        ensures limit { result.limit ≡ limit }
+        ensures crates { result.crates ≡ [] }
     {
         CrateGraphBuilder {
             crates: Vec::new(alloc),
@@ -92,7 +95,7 @@ impl CrateGraphBuilder {
         }
     }
 
-    /// How many crates there are. Every graph is acyclic and within its limit.
+    /// How many crates there are. Every graph is acyclic and within its limit, and its paths are clean.
     pub fn len(&self) -> usize
         ensures length { result ≡ length self.now.crates }
         ensures well_made { IsWellMade self.now.crates self.now.limit }
@@ -142,22 +145,19 @@ impl CrateGraphBuilder {
         ws_data: Rc<CrateWorkspaceData>,
     ) -> Result<CrateBuilderId, GraphError>
         ensures next { IfOk result (λ id. number_of id ≡ length self.old.crates) }
-        ensures added { OnOk result (self.new ≡ record {
-          limit = self.old.limit;
-          crates = self.old.crates ++ crate_of (record {
-            root_file_id = root_file_id;
-            edition = edition;
-            dependencies = [];
-            origin = origin;
-            crate_attrs = map (λ text. attribute (string_bytes text)) crate_attrs.items;
-            target_kind = target_kind;
-            proc_macro_cwd = proc_macro_cwd;
-          }) (record {
-            version = option_map string_bytes version;
-            display_name = display_name;
-            potential_cfg_options = potential_cfg_options;
-          }) cfg_options env ws_data.value ∷ [];
-        }) }
+        ensures added { OnOk result (AddsCrate self.old self.new (crate_of (record {
+          root_file_id = root_file_id;
+          edition = edition;
+          dependencies = [];
+          origin = origin;
+          crate_attrs = map (λ text. attribute (string_bytes text)) crate_attrs.items;
+          target_kind = target_kind;
+          proc_macro_cwd = proc_macro_cwd;
+        }) (record {
+          version = option_map string_bytes version;
+          display_name = display_name;
+          potential_cfg_options = potential_cfg_options;
+        }) cfg_options env ws_data.value)) }
         ensures unchanged { OnErr result (self.new ≡ self.old) }
         ensures too_many { IsErrOf result GraphError.TooMany
             ↔ (length self.old.crates ≡ self.old.limit) }
@@ -184,7 +184,6 @@ impl CrateGraphBuilder {
         let ws_data = Shared::new(ws_data);
         let krate = CrateBuilder::new(basic, extra, cfg_options, env, ws_data);
         let id = CrateBuilderId::from_raw(self.crates.len() as u32);
-        graph_base::laws::with_one_more_node();
         put(&mut self.crates, krate)?;
         Ok(id)
     }

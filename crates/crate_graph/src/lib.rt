@@ -11,13 +11,11 @@ pub mod names;
 pub mod origin;
 pub mod proc_macro;
 pub mod release_channel;
-pub mod shared;
 pub mod target;
 pub mod target_kind;
-#[cfg(test)]
-mod tests;
 pub mod workspace_data;
 
+pub use base_text::{Shared, Version as ToolchainVersion};
 pub use builder::{CrateBuilder, ExtraCrateData, ProcMacroPaths};
 pub use crate_data::{
     CrateBuilderId, CrateData, CrateDataBuilder, CrateTag, Dependency, DependencyBuilder,
@@ -29,6 +27,5 @@ pub use names::{CrateDisplayName, CrateName};
 pub use origin::{CrateOrigin, LangCrateOrigin};
 pub use proc_macro::ProcMacroLoadingError;
 pub use release_channel::ReleaseChannel;
-pub use shared::Shared;
 pub use target_kind::TargetKind;
-pub use workspace_data::{CrateWorkspaceData, ToolchainVersion};
+pub use workspace_data::CrateWorkspaceData;

@@ -7,7 +7,7 @@ use std::alloc::{AllocError, Global};
 use std::error::Error;
 use std::fmt;
 
-/// The kinds of machine that are told apart.
+/// The kinds of machine that matter to the input side.
 #[derive(Clone, Copy, Debug, PartialEq, Eq, Hash)]
 pub enum Arch {
     Wasm32,

@@ -2,77 +2,12 @@
 
 ghost use Rattle.std.specs.Prelude.{◌≡◌, [], IfOk};
 ghost use Rattle.std.specs.Ordering.{is_le};
-ghost use Rattle.semver.specs.Identifiers.{parts_of};
-ghost use Rattle.crate_graph.specs.Toolchain.{is_at_least_187, version_cmp};
+ghost use Rattle.base_values.specs.Version.{version_cmp};
+ghost use Rattle.crate_graph.specs.Toolchain.{is_at_least_187};
 
 use crate::target::TargetLoadResult;
-use base_text::TryClone;
+use base_text::{TryClone, Version as ToolchainVersion};
 use std::alloc::{AllocError, Global};
-use std::marker::Model;
-
-/// The version of a toolchain, seen as its three numbers and the texts of its pre-release and its
-/// build metadata.
-#[derive(Debug, Drop)]
-pub struct ToolchainVersion {
-    inner: semver::Version,
-}
-
-impl Model for ToolchainVersion {
-    ghost use Rattle.std.specs.Prelude.{ℕ, List};
-    ghost use Rattle.semver.specs.Identifiers.{parts_of};
-
-    ghost Value = { ℕ × ℕ × ℕ × List ℕ × List ℕ };
-
-    ghost view = { λ a. parts_of a.inner };
-}
-
-impl ToolchainVersion {
-    pub fn new(inner: semver::Version) -> Self
-        ensures { result ≡ parts_of inner }
-    {
-        ToolchainVersion { inner }
-    }
-
-    pub fn as_version(&self) -> &semver::Version
-        ensures { parts_of result.now ≡ self.now }
-    {
-        &self.inner
-    }
-
-    pub fn into_inner(self) -> semver::Version
-        ensures { parts_of result ≡ self }
-    {
-        self.inner
-    }
-}
-
-impl TryClone for ToolchainVersion {
-    fn try_clone(&self, _alloc: Global) -> Result<Self, AllocError> {
-        let inner = self.inner.clone()?;
-        Ok(ToolchainVersion { inner })
-    }
-}
-
-impl PartialEq for ToolchainVersion {
-    ghost use Rattle.std.proofs.Common.{rules};
-    ghost use Rattle.std.specs.Cmp.Rules.{comparing};
-    ghost use Rattle.crate_graph.specs.Toolchain.{version_eq};
-
-    ghost eq = { version_eq };
-
-    ghost laws = { Prim.search (comparing, rules) depth 9 };
-
-    fn eq(&self, other: &Self) -> bool {
-        self.inner == other.inner
-    }
-}
-
-impl Eq for ToolchainVersion {
-    ghost use Rattle.std.proofs.Common.{rules};
-    ghost use Rattle.std.specs.Cmp.Rules.{comparing};
-
-    ghost laws = { Prim.search (comparing, rules) depth 9 };
-}
 
 /// What the crates of a workspace share.
 #[derive(Debug, PartialEq, Eq, Drop)]

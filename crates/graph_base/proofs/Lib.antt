@@ -1,3 +1,4 @@
+pub mod EdgeListLemmas
 pub mod KeptLemmas
 pub mod ReachLemmas
 pub mod TrailLemmas

@@ -9,7 +9,7 @@ use Rattle.std.proofs.lemmas.List.Folds.{sum_by-replicate}
 use Rattle.std.proofs.lemmas.List.Sums.{sum_by-set, count_by-le-length, fold_more}
 use Rattle.graph_base.specs.Edges.{HasEdge, IsInRange, row}
 use Rattle.graph_base.specs.Reach.{Reaches, itself, IsPathBack}
-use Rattle.graph_base.specs.Trail.{Trail, IsTrail, IsFollowed, IsMarked, IsTraced, IsWhole, blank, noted, noted_all, with_found}
+use Rattle.graph_base.specs.Trail.{Trail, IsTrail, IsFollowed, AreMarked, IsTraced, IsWhole, empty_trail, after_edge, after_edges, with_found}
 use Rattle.graph_base.proofs.ReachLemmas.{reaches_edge, kept_along}
 
 -- a place in a list that was pushed to is an old one or the last
@@ -137,8 +137,8 @@ pub record IsNoted (g : List (List ℕ)) (start b : ℕ) (t u : Trail) : Type 0 
   pub grew : Grew t u
   pub has : get_or u.marks b false ≡ true
 
-pub noted_is : (g : List (List ℕ)) (start place b : ℕ) (t : Trail) → IsTrail g start t → place < length t.nodes → HasEdge g (get_or t.nodes place 0) b → b < length g → IsNoted g start b t (noted place t b)
-unfolding noted
+pub noted_is : (g : List (List ℕ)) (start place b : ℕ) (t : Trail) → IsTrail g start t → place < length t.nodes → HasEdge g (get_or t.nodes place 0) b → b < length g → IsNoted g start b t (after_edge place t b)
+unfolding after_edge
 noted_is g start place b t old there edge within =
     elim (get_or t.marks b false) as (λ m. get_or t.marks b false ≡ m → IsNoted g start b t (cond m t (with_found place t b))) [
       | true ↦ λ is. record { trail = old; grew = grew_none t; has = is }
@@ -159,7 +159,7 @@ pub noted_upto_none : (g : List (List ℕ)) (start place : ℕ) (t : Trail) → 
 noted_upto_none g start place t old = record { trail = old; grew = grew_none t; has = λ k below. absurd (omega arith) }
 
 pub noted_upto_more : (g : List (List ℕ)) (start place count b : ℕ) (t u : Trail) → IsInRange g → place < length t.nodes → count < length (row g (get_or t.nodes place 0)) → b ≡ get_or (row g (get_or t.nodes place 0)) count 0 → IsNotedUpto g start place count t u
-    → IsNotedUpto g start place (count + 1) t (noted place u b)
+    → IsNotedUpto g start place (count + 1) t (after_edge place u b)
 noted_upto_more g start place count b t u in_range there within is upto =
     let from = get_or t.nodes place 0 in
     let grew = upto.grew in
@@ -169,22 +169,22 @@ noted_upto_more g start place count b t u in_range there within is upto =
     let next = noted_is g start place b u upto.trail (omega arith) now (in_range from b edge) in
     record {
       trail = next.trail;
-      grew = grew_on t u (noted place u b) grew next.grew;
+      grew = grew_on t u (after_edge place u b) grew next.grew;
       has = λ k below. elim (cases_eq k count) [
-        | inl same ↦ subst (λ z. get_or (noted place u b).marks z false ≡ true) (is ∙ ap (λ z. get_or (row g from) z 0) (sym same)) next.has
+        | inl same ↦ subst (λ z. get_or (after_edge place u b).marks z false ≡ true) (is ∙ ap (λ z. get_or (row g from) z 0) (sym same)) next.has
         | inr other ↦ next.grew.marks (get_or (row g from) k 0) (upto.has k (omega arith))
       ];
     }
 
--- the node at a place is followed once its edges are noted
+-- the node at a place is followed once its edges are after_edge
 pub followed_more : (g : List (List ℕ)) (start place : ℕ) (t u : Trail) → place < length t.nodes → IsFollowed g t place → IsNotedUpto g start place (length (row g (get_or t.nodes place 0))) t u
     → IsFollowed g u (place + 1)
-followed_more g start place t u there followed noted k b below edge =
-    let grew = noted.grew in
+followed_more g start place t u there followed after_edge k b below edge =
+    let grew = after_edge.grew in
     elim (cases_eq k place) [
       | inl same ↦
           let here : HasEdge g (get_or t.nodes place 0) b = subst (λ z. HasEdge g z b) (ap (λ z. get_or u.nodes z 0) same ∙ grew.same place there) edge in
-          subst (λ z. get_or u.marks z false ≡ true) (at_place (row g (get_or t.nodes place 0)) b here) (noted.has here.0 here.1)
+          subst (λ z. get_or u.marks z false ≡ true) (at_place (row g (get_or t.nodes place 0)) b here) (after_edge.has here.0 here.1)
       | inr other ↦
           let before : k < place = omega arith in
           grew.marks b (followed k b before (subst (λ z. HasEdge g z b) (grew.same k (omega arith)) edge))
@@ -200,15 +200,15 @@ only_place : (k : ℕ) → k < 1 → ◌≡◌ {A = ℕ} 0 k
 only_place k below = omega arith
 
 -- a search begins at its start
-pub begun : (g : List (List ℕ)) (start : ℕ) → start < length g → IsTrail g start (noted 0 (blank (length g)) start)
-unfolding noted
+pub begun : (g : List (List ℕ)) (start : ℕ) → start < length g → IsTrail g start (after_edge 0 (empty_trail (length g)) start)
+unfolding after_edge
 begun g start within =
     let none : List Bool = replicate (length g) false in
     let long : length none ≡ length g = length-replicate (length g) false in
     let unmarked : get_or none start false ≡ false = get_or-replicate (length g) start false false within in
     let fits : start < length none = omega arith in
     let zero_marks : count_by (λ m. m) none ≡ 0 = sum_by-replicate (λ m. cond m 1 0) (length g) false ∙ omega arith in
-    let one : IsTrail g start (with_found 0 (blank (length g)) start) = record {
+    let one : IsTrail g start (with_found 0 (empty_trail (length g)) start) = record {
       marks_long = length-set none start true ∙ long;
       links_long = refl;
       counted = counted_set none start fits unmarked ∙ ap (λ n. n + 1) zero_marks;
@@ -224,7 +224,7 @@ begun g start within =
       earlier = λ k positive below. absurd (omega arith);
       linked = λ k positive below. absurd (omega arith);
     } in
-    subst (λ m. IsTrail g start (cond m (blank (length g)) (with_found 0 (blank (length g)) start))) (sym unmarked) one
+    subst (λ m. IsTrail g start (cond m (empty_trail (length g)) (with_found 0 (empty_trail (length g)) start))) (sym unmarked) one
 
 -- a trail finds no more nodes than there are
 pub trail_fits : (g : List (List ℕ)) (start : ℕ) (t : Trail) → IsTrail g start t → length t.nodes ≤ length g
@@ -285,30 +285,30 @@ traced_back g start t path place end trail is traced = record {
       subst (λ z. HasEdge g z (get_or path k 0)) (sym step.4) (subst (λ z. HasEdge g (get_or t.nodes (get_or t.links step.0 0) 0) z) (sym step.3) (trail.linked step.0 step.1 step.2));
 }
 
-pub marks_noted : (place b : ℕ) (t : Trail) → length (noted place t b).marks ≡ length t.marks
-unfolding noted
+pub marks_noted : (place b : ℕ) (t : Trail) → length (after_edge place t b).marks ≡ length t.marks
+unfolding after_edge
 marks_noted place b t =
     elim (get_or t.marks b false) as (λ m. length (cond m t (with_found place t b)).marks ≡ length t.marks) [ true ↦ refl | false ↦ length-set t.marks b true ]
 
--- one edge after another is noted
+-- one edge after another is after_edge
 pub noted_front : (g : List (List ℕ)) (start place count : ℕ) (t : Trail) → IsTrail g start t → IsInRange g → place < length t.nodes → count ≤ length (row g (get_or t.nodes place 0))
-    → IsNotedUpto g start place count t (noted_all place t (take count (row g (get_or t.nodes place 0))))
+    → IsNotedUpto g start place count t (after_edges place t (take count (row g (get_or t.nodes place 0))))
 noted_front g start place zero t old in_range there within = noted_upto_none g start place t old
 noted_front g start place (suc count) t old in_range there within =
     let edges = row g (get_or t.nodes place 0) in
     let before = noted_front g start place count t old in_range there (omega arith) in
-    let more = noted_upto_more g start place count (get_or edges count 0) t (noted_all place t (take count edges)) in_range there (omega arith) refl before in
-    subst (λ n. IsNotedUpto g start place n t (noted_all place t (take n edges))) (add-one count)
-    (subst (λ u. IsNotedUpto g start place (count + 1) t u) (sym (fold_more (noted place) t edges count 0 (omega arith))) more)
+    let more = noted_upto_more g start place count (get_or edges count 0) t (after_edges place t (take count edges)) in_range there (omega arith) refl before in
+    subst (λ n. IsNotedUpto g start place n t (after_edges place t (take n edges))) (add-one count)
+    (subst (λ u. IsNotedUpto g start place (count + 1) t u) (sym (fold_more (after_edge place) t edges count 0 (omega arith))) more)
 
 pub noted_whole : (g : List (List ℕ)) (start place : ℕ) (t : Trail) → IsTrail g start t → IsInRange g → place < length t.nodes
-    → IsNotedUpto g start place (length (row g (get_or t.nodes place 0))) t (noted_all place t (row g (get_or t.nodes place 0)))
+    → IsNotedUpto g start place (length (row g (get_or t.nodes place 0))) t (after_edges place t (row g (get_or t.nodes place 0)))
 noted_whole g start place t old in_range there =
     let edges = row g (get_or t.nodes place 0) in
-    subst (λ front. IsNotedUpto g start place (length edges) t (noted_all place t front)) (take_all (length edges) edges (omega arith)) (noted_front g start place (length edges) t old in_range there (omega arith))
+    subst (λ front. IsNotedUpto g start place (length edges) t (after_edges place t front)) (take_all (length edges) edges (omega arith)) (noted_front g start place (length edges) t old in_range there (omega arith))
 
 -- the marked nodes, one more looked at
-pub marked_none : (marks : List Bool) → IsMarked marks 0 []
+pub marked_none : (marks : List Bool) → AreMarked marks 0 []
 marked_none marks = record {
   ascending = λ i j before below. absurd (omega arith);
   below = λ k within. absurd (omega arith);
@@ -316,7 +316,7 @@ marked_none marks = record {
   all = λ m below is. absurd (omega arith);
 }
 
-pub marked_skip : (marks : List Bool) (count : ℕ) (nodes : List ℕ) → get_or marks count false ≡ false → IsMarked marks count nodes → IsMarked marks (count + 1) nodes
+pub marked_skip : (marks : List Bool) (count : ℕ) (nodes : List ℕ) → get_or marks count false ≡ false → AreMarked marks count nodes → AreMarked marks (count + 1) nodes
 marked_skip marks count nodes is old = record {
   ascending = old.ascending;
   below = λ k within. omega (arith, old.below k within);
@@ -327,7 +327,7 @@ marked_skip marks count nodes is old = record {
   ];
 }
 
-pub marked_more : (marks : List Bool) (count : ℕ) (nodes : List ℕ) → get_or marks count false ≡ true → IsMarked marks count nodes → IsMarked marks (count + 1) (nodes ++ count ∷ [])
+pub marked_more : (marks : List Bool) (count : ℕ) (nodes : List ℕ) → get_or marks count false ≡ true → AreMarked marks count nodes → AreMarked marks (count + 1) (nodes ++ count ∷ [])
 marked_more marks count nodes is old = record {
   ascending = λ i j before below. elim (pushed_cases nodes count j below) [
     | inl was ↦ subst (λ z. get_or (nodes ++ count ∷ []) i 0 < z) (sym was.1) (subst (λ z. z < get_or nodes j 0) (sym (pushed_old nodes count i (omega (arith, was.0)))) (old.ascending i j before was.0))
@@ -356,7 +356,7 @@ mark_within marks b is = elim (cases_lt b (length marks)) [
 ]
 
 -- the marked nodes of a search that is over are those that are reached
-pub marked_are_reached : (g : List (List ℕ)) (start : ℕ) (t : Trail) (nodes : List ℕ) → IsWhole g start t → IsMarked t.marks (length t.marks) nodes → (b : ℕ) → Contains nodes b ↔ Reaches g start b
+pub marked_are_reached : (g : List (List ℕ)) (start : ℕ) (t : Trail) (nodes : List ℕ) → IsWhole g start t → AreMarked t.marks (length t.marks) nodes → (b : ℕ) → Contains nodes b ↔ Reaches g start b
 marked_are_reached g start t nodes whole is b = (
   λ there. marks_reached g start t whole b (subst (λ z. get_or t.marks z false ≡ true) (at_place nodes b there) (is.marked there.0 there.1)),
   λ r. let marked = reached_marks g start t whole b r in is.all b (mark_within t.marks b marked) marked,
@@ -368,19 +368,19 @@ pub record IsSearched (g : List (List ℕ)) (start place : ℕ) (t : Trail) : Ty
   pub followed : IsFollowed g t place
   pub within : place ≤ length t.nodes
 
-pub searched_none : (g : List (List ℕ)) (start : ℕ) (t : Trail) → start < length g → t ≡ noted 0 (blank (length g)) start → IsSearched g start 0 t
+pub searched_none : (g : List (List ℕ)) (start : ℕ) (t : Trail) → start < length g → t ≡ after_edge 0 (empty_trail (length g)) start → IsSearched g start 0 t
 searched_none g start t within is = subst (IsSearched g start 0) (sym is) (record {
   trail = begun g start within;
   followed = λ k b below edge. absurd (omega arith);
   within = omega arith;
 })
 
-pub searched_more : (g : List (List ℕ)) (start place : ℕ) (t u : Trail) → IsInRange g → place < length t.nodes → u ≡ noted_all place t (row g (get_or t.nodes place 0)) → IsSearched g start place t → IsSearched g start (place + 1) u
+pub searched_more : (g : List (List ℕ)) (start place : ℕ) (t u : Trail) → IsInRange g → place < length t.nodes → u ≡ after_edges place t (row g (get_or t.nodes place 0)) → IsSearched g start place t → IsSearched g start (place + 1) u
 searched_more g start place t u in_range there is old =
     let upto = noted_whole g start place t old.trail in_range there in
     subst (IsSearched g start (place + 1)) (sym is) (record {
       trail = upto.trail;
-      followed = followed_more g start place t (noted_all place t (row g (get_or t.nodes place 0))) there old.followed upto;
+      followed = followed_more g start place t (after_edges place t (row g (get_or t.nodes place 0))) there old.followed upto;
       within = omega (arith, upto.grew.longer);
     })
 
@@ -398,6 +398,6 @@ pub edge_fits : (g : List (List ℕ)) (node edge target : ℕ) → IsInRange g �
 edge_fits g node edge target in_range within is =
     in_range node target (edge, within, get_or_default (row g node) edge target 0 within ∙ sym is)
 
-pub noted_next : (place edge target : ℕ) (t u : Trail) (edges : List ℕ) → edge < length edges → target ≡ get_or edges edge 0 → u ≡ noted_all place t (take edge edges) → noted place u target ≡ noted_all place t (take (edge + 1) edges)
+pub noted_next : (place edge target : ℕ) (t u : Trail) (edges : List ℕ) → edge < length edges → target ≡ get_or edges edge 0 → u ≡ after_edges place t (take edge edges) → after_edge place u target ≡ after_edges place t (take (edge + 1) edges)
 noted_next place edge target t u edges within is so_far =
-    ap (λ v. noted place v target) so_far ∙ ap (noted place (noted_all place t (take edge edges))) is ∙ sym (fold_more (noted place) t edges edge 0 within)
+    ap (λ v. after_edge place v target) so_far ∙ ap (after_edge place (after_edges place t (take edge edges))) is ∙ sym (fold_more (after_edge place) t edges edge 0 within)

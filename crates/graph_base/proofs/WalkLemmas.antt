@@ -8,7 +8,7 @@ use Rattle.std.proofs.lemmas.List.Sums.{count_by-le-length}
 use Rattle.graph_base.specs.Edges.{HasEdge, IsInRange, row}
 use Rattle.graph_base.specs.Reach.{IsAcyclic, Reaches, itself, further}
 use Rattle.graph_base.specs.Finish.{Visits, none, known, fresh}
-use Rattle.graph_base.specs.Walk.{Walk, HasPassed, HasVisited, Finishes, Enters, IsMarked, IsResting, Runs, blank, entered, pushed, with_finished}
+use Rattle.graph_base.specs.Walk.{Walk, HasPassed, HasVisited, Finishes, Enters, HasEntered, IsResting, Runs, empty_walk, with_entered, with_frame, with_finished}
 use Rattle.graph_base.specs.declared.walk.Frame.{Frame}
 use Rattle.graph_base.proofs.ReachLemmas.{none_in, reaches_edge}
 use Rattle.graph_base.proofs.TrailLemmas.{counted_set, mark_cases, mark_kept, unmarked_all}
@@ -35,9 +35,9 @@ AreFrames g (f ∷ fs) = IsFrame g f × AreFrames g fs
 pub record IsWalk (g : List (List ℕ)) (before : List ℕ) (start : ℕ) (w : Walk) : Type 0 where
   pub marks_long : length w.marks ≡ length g
   pub frames : AreFrames g w.frames
-  pub marked : (m : ℕ) → Contains w.finished m → IsMarked w m
-  pub waiting : (m : ℕ) → Contains (nodes w.frames) m → IsMarked w m
-  pub placed : (m : ℕ) → IsMarked w m → Contains w.finished m ⊎ Contains (nodes w.frames) m
+  pub marked : (m : ℕ) → Contains w.finished m → HasEntered w m
+  pub waiting : (m : ℕ) → Contains (nodes w.frames) m → HasEntered w m
+  pub placed : (m : ℕ) → HasEntered w m → Contains w.finished m ⊎ Contains (nodes w.frames) m
   pub stacked : IsStacked g (nodes w.frames)
   pub runs : (new : List ℕ) → Runs g w.finished w.frames new → Visits g before (start ∷ []) new
 
@@ -51,9 +51,9 @@ passed_over g done targets from (suc count) new within has v =
     passed_over g done targets (from + 1) count new (omega arith) (λ k low high. has k (omega arith) (omega arith)) (subst (λ n. Visits g done (drop n targets) new) (omega arith) v) in
     subst (λ ts. Visits g done ts new) (sym (drop_more targets from 0 there)) (known (has from (omega arith) (omega arith)) rest)
 
-module _ (g : List (List ℕ)) (before : List ℕ) (start : ℕ) (f : Frame) (w : Walk) (acyclic : IsAcyclic g) (old : IsWalk g before start (pushed w f)) where
+module _ (g : List (List ℕ)) (before : List ℕ) (start : ℕ) (f : Frame) (w : Walk) (acyclic : IsAcyclic g) (old : IsWalk g before start (with_frame w f)) where
   -- a target that the walk came to is finished, since it does not wait below the frame
-  target_finished : (b : ℕ) → HasEdge g f.node b → IsMarked w b → Contains w.finished b
+  target_finished : (b : ℕ) → HasEdge g f.node b → HasEntered w b → Contains w.finished b
   target_finished b edge marked = elim (old.placed b marked) [
     | inl there ↦ there
     | inr waits ↦ elim (contains_cases f.node (nodes w.frames) b waits) [
@@ -82,7 +82,7 @@ module _ (g : List (List ℕ)) (before : List ℕ) (start : ℕ) (f : Frame) (w 
     frames = old.frames.1;
     marked = λ m c. elim (Contains-push_cases w.finished f.node m c) [
       | inl was ↦ old.marked m was
-      | inr same ↦ subst (λ z. IsMarked w z) same (old.waiting f.node (contains_first f.node (nodes w.frames)))
+      | inr same ↦ subst (λ z. HasEntered w z) same (old.waiting f.node (contains_first f.node (nodes w.frames)))
     ];
     waiting = λ m c. old.waiting m (contains_other f.node (nodes w.frames) m c);
     placed = λ m is. elim (old.placed m is) [
@@ -137,7 +137,7 @@ module _ (g : List (List ℕ)) (before : List ℕ) (start : ℕ) (f : Frame) (w 
       })
 
 -- a walk begins at a node that is not finished
-pub walk_begun : (g : List (List ℕ)) (node : ℕ) (w u : Walk) → node < length g → IsResting g w → get_or w.marks node false ≡ false → u ≡ entered w node → IsWalk g w.finished node u
+pub walk_begun : (g : List (List ℕ)) (node : ℕ) (w u : Walk) → node < length g → IsResting g w → get_or w.marks node false ≡ false → u ≡ with_entered w node → IsWalk g w.finished node u
 walk_begun g node w u fits rests unmarked is =
     let long : length w.marks ≡ length g = rests.marks_long in
     let inside : node < length w.marks = omega arith in
@@ -174,7 +174,7 @@ walk_over g node before w is empty = record {
   };
 }
 
-pub walk_goes_on : (g : List (List ℕ)) (before : List ℕ) (start : ℕ) (f : Frame) (v w u : Walk) → IsAcyclic g → IsInRange g → v ≡ pushed w f → IsWalk g before start v → Finishes g f w u ⊎ Enters g f w u → IsWalk g before start u
+pub walk_goes_on : (g : List (List ℕ)) (before : List ℕ) (start : ℕ) (f : Frame) (v w u : Walk) → IsAcyclic g → IsInRange g → v ≡ with_frame w f → IsWalk g before start v → Finishes g f w u ⊎ Enters g f w u → IsWalk g before start u
 walk_goes_on g before start f v w u acyclic in_range is old step =
     let here = subst (IsWalk g before start) is old in
     elim step [
@@ -186,10 +186,10 @@ walk_goes_on g before start f v w u acyclic in_range is old step =
 abbrev pub left : List (List ℕ) → Walk → ℕ
 left g w = 2 * (length g - count_by (λ m. m) w.marks) + length w.frames
 
-pub left_falls : (g : List (List ℕ)) (before : List ℕ) (start : ℕ) (f : Frame) (v w u : Walk) → IsInRange g → v ≡ pushed w f → IsWalk g before start v → Finishes g f w u ⊎ Enters g f w u → left g u < left g v
+pub left_falls : (g : List (List ℕ)) (before : List ℕ) (start : ℕ) (f : Frame) (v w u : Walk) → IsInRange g → v ≡ with_frame w f → IsWalk g before start v → Finishes g f w u ⊎ Enters g f w u → left g u < left g v
 left_falls g before start f v w u in_range is old step =
     let long : length w.marks ≡ length g = ap (λ z. length z.marks) (sym is) ∙ old.marks_long in
-    let before_is : left g v ≡ left g (pushed w f) = ap (left g) is in
+    let before_is : left g v ≡ left g (with_frame w f) = ap (left g) is in
     elim step [
       | inl fin ↦
           let now : left g u ≡ left g (with_finished w f.node) = ap (left g) fin.is in
@@ -202,12 +202,12 @@ left_falls g before start f v w u in_range is old step =
           let more : count_by (λ m. m) (set w.marks t true) ≡ count_by (λ m. m) w.marks + 1 = counted_set w.marks t inside ent.unmarked in
           let most : count_by (λ m. m) (set w.marks t true) ≤ length (set w.marks t true) = count_by-le-length (λ m. m) (set w.marks t true) in
           let same : length (set w.marks t true) ≡ length w.marks = length-set w.marks t true in
-          let now : left g u ≡ left g (entered (pushed w (record { node = f.node; place = ent.place + 1 })) t) = ap (left g) ent.is in
+          let now : left g u ≡ left g (with_entered (with_frame w (record { node = f.node; place = ent.place + 1 })) t) = ap (left g) ent.is in
           omega arith
     ]
 
 -- no node is marked before a walk
-pub rests_blank : (g : List (List ℕ)) (w : Walk) → w ≡ blank (length g) → IsResting g w
+pub rests_blank : (g : List (List ℕ)) (w : Walk) → w ≡ empty_walk (length g) → IsResting g w
 rests_blank g w is = subst (IsResting g) (sym is) (record {
   marks_long = length-replicate (length g) false;
   none = refl;

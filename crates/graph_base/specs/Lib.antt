@@ -1,3 +1,4 @@
+pub mod EdgeList
 pub mod Edges
 pub mod Finish
 pub mod Kept

@@ -14,20 +14,20 @@ pub record Trail : Type 0 where
   pub links : List ℕ
 
 -- nothing is found, of so many nodes
-abbrev pub blank : ℕ → Trail
-blank count = record { marks = replicate count false; nodes = []; links = [] }
+abbrev pub empty_trail : ℕ → Trail
+empty_trail count = record { marks = replicate count false; nodes = []; links = [] }
 
 -- the trail with a node that was not found before
 abbrev pub with_found : ℕ → Trail → ℕ → Trail
 with_found place t node = record { marks = slice_set t.marks node true; nodes = t.nodes ++ node ∷ []; links = t.links ++ place ∷ [] }
 
 -- the trail after an edge that leads from a place to a node
-unfoldable pub noted : ℕ → Trail → ℕ → Trail
-noted place t node = if slice_index_or t.marks node false then t else with_found place t node
+unfoldable pub after_edge : ℕ → Trail → ℕ → Trail
+after_edge place t node = if slice_index_or t.marks node false then t else with_found place t node
 
 -- the trail after all edges of the node at a place
-abbrev pub noted_all : ℕ → Trail → List ℕ → Trail
-noted_all place t nodes = fold (noted place) t nodes
+abbrev pub after_edges : ℕ → Trail → List ℕ → Trail
+after_edges place t nodes = fold (after_edge place) t nodes
 
 -- what is found is reached from the start, each node once, over the edge that its link names
 pub record IsTrail (g : List (List ℕ)) (start : ℕ) (t : Trail) : Type 0 where
@@ -60,7 +60,7 @@ pub record IsTraced (t : Trail) (path : List ℕ) (place last : ℕ) : Type 0 wh
   pub steps : (k : ℕ) → k + 1 < length path → (i : ℕ) × (0 < i) × (i < length t.nodes) × (slice_index path k ≡ slice_index t.nodes i) × (slice_index path (k + 1) ≡ slice_index t.nodes (slice_index t.links i))
 
 -- the nodes that are marked among the first so many, in order
-pub record IsMarked (marks : List Bool) (count : ℕ) (nodes : List ℕ) : Type 0 where
+pub record AreMarked (marks : List Bool) (count : ℕ) (nodes : List ℕ) : Type 0 where
   pub ascending : IsAscending nodes
   pub below : (k : ℕ) → k < length nodes → slice_index nodes k < count
   pub marked : (k : ℕ) → k < length nodes → slice_index_or marks (slice_index nodes k) false ≡ true

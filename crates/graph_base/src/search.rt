@@ -5,7 +5,7 @@ ghost use Rattle.std.specs.Option.{IfNone};
 ghost use Rattle.std.specs.List.{Contains};
 ghost use Rattle.graph_base.specs.Edges.{IsAscending, IsInRange, row};
 ghost use Rattle.graph_base.specs.Reach.{IsPathBack, Reaches};
-ghost use Rattle.graph_base.specs.Trail.{IsMarked, IsTraced, IsWhole, noted_all};
+ghost use Rattle.graph_base.specs.Trail.{AreMarked, IsTraced, IsWhole, after_edges};
 
 use crate::graph::Graph;
 use crate::trail::Trail;
@@ -18,7 +18,7 @@ fn note_edges<G: Graph>(graph: &G, trail: &mut Trail, place: usize) -> Result<()
     requires marks { length trail.old.marks ≡ length (G.rows graph.now) }
     requires in_range { IsInRange (G.rows graph.now) }
     ensures { OnOk result (trail.new
-        ≡ noted_all place trail.old (row (G.rows graph.now) (slice_index trail.old.nodes place))) }
+        ≡ after_edges place trail.old (row (G.rows graph.now) (slice_index trail.old.nodes place))) }
 {
     let node = trail.node(place);
     for edge in 0..graph.degree(node) {
@@ -45,9 +45,9 @@ fn search<G: Graph>(alloc: Global, graph: &G, start: u32) -> Result<Trail, Alloc
 }
 
 // The nodes that are marked, in order.
-fn marked(alloc: Global, marks: &[bool]) -> Result<Vec<u32>, AllocError>
+fn marked_nodes(alloc: Global, marks: &[bool]) -> Result<Vec<u32>, AllocError>
     requires { length marks.now < 2 ^ 32 }
-    ensures { IfOk result (λ nodes. IsMarked marks.now (length marks.now) nodes.items) }
+    ensures { IfOk result (λ nodes. AreMarked marks.now (length marks.now) nodes.items) }
 {
     let mut nodes = Vec::new(alloc);
     for (node, mark) in marks.iter().enumerate() {
@@ -59,15 +59,18 @@ fn marked(alloc: Global, marks: &[bool]) -> Result<Vec<u32>, AllocError>
 }
 
 /// The nodes that a node reaches, itself among them, in ascending order.
-pub fn reached<G: Graph>(alloc: Global, graph: &G, start: u32) -> Result<Vec<u32>, AllocError>
+pub fn reachable_nodes<G: Graph>(
+    alloc: Global,
+    graph: &G,
+    start: u32,
+) -> Result<Vec<u32>, AllocError>
     requires { start < length (G.rows graph.now) }
     ensures exact { IfOk result
         (λ nodes. (b : ℕ) → Contains nodes.items b ↔ Reaches (G.rows graph.now) start b) }
     ensures ascending { IfOk result (λ nodes. IsAscending nodes.items) }
 {
     let trail = search(alloc, graph, start)?;
-    let nodes = marked(alloc, trail.marks())?;
-    Ok(nodes)
+    marked_nodes(alloc, trail.marks())
 }
 
 // The nodes from a place on, each followed by the one that led to it.
@@ -87,7 +90,7 @@ fn trace(alloc: Global, trail: &Trail, from: usize) -> Result<Vec<u32>, AllocErr
     Ok(path)
 }
 
-/// A path on which one node reaches another, told from its end; none where there is none.
+/// A path on which one node reaches another, listed from its end to its start; none where there is none.
 pub fn path_back<G: Graph>(
     alloc: Global,
     graph: &G,
@@ -103,9 +106,6 @@ pub fn path_back<G: Graph>(
     let trail = search(alloc, graph, start)?;
     match trail.place_of(end) {
         None => Ok(None),
-        Some(place) => {
-            let path = trace(alloc, &trail, place)?;
-            Ok(Some(path))
-        }
+        Some(place) => Ok(Some(trace(alloc, &trail, place)?)),
     }
 }

@@ -2,7 +2,7 @@
 
 ghost use Rattle.std.specs.Prelude.{◌≡◌, ℕ, ◌<◌, length, slice_index, IfOk, OnOk, MatchOption};
 ghost use Rattle.std.specs.List.{Contains};
-ghost use Rattle.graph_base.specs.Trail.{blank, noted, IsTraced};
+ghost use Rattle.graph_base.specs.Trail.{empty_trail, after_edge, IsTraced};
 
 use std::alloc::{AllocError, Global};
 use std::marker::Model;
@@ -30,7 +30,7 @@ impl Model for Trail {
 impl Trail {
     /// Nothing is found yet, of so many nodes.
     pub(crate) fn new(alloc: Global, count: u32) -> Result<Self, AllocError>
-        ensures { IfOk result (λ trail. trail ≡ blank count) }
+        ensures { IfOk result (λ trail. trail ≡ empty_trail count) }
     {
         let marks = vec![in alloc; false; count as usize]?;
         Ok(Trail {
@@ -71,10 +71,10 @@ impl Trail {
     }
 
     /// Takes a node in, unless it was found before.
-    #[tactic(auto, unfolding(crate::specs::Trail::noted))]
+    #[tactic(auto, unfolding(crate::specs::Trail::after_edge))]
     pub(crate) fn note(&mut self, place: usize, node: u32) -> Result<(), AllocError>
         requires { node < length self.old.marks }
-        ensures { OnOk result (self.new ≡ noted place self.old node) }
+        ensures { OnOk result (self.new ≡ after_edge place self.old node) }
     {
         if self.marks[node as usize] {
             return Ok(());

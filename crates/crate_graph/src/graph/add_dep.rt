@@ -1,4 +1,4 @@
-//! A dependency is added where it closes no cycle: a search from the crate to depend on tells.
+//! A dependency is added where it closes no cycle: a search from its target decides.
 
 ghost use Rattle.std.specs.Prelude.{◌≡◌, ◌<◌, [], ◌∷◌, ◌++◌, length, map, IfErr, IfOk, OnErr, OnOk};
 ghost use Rattle.base_text.specs.Arena.{number_of};
@@ -40,14 +40,13 @@ impl CrateGraphBuilder {
         match found {
             Some(path) => Err(self.cyclic(alloc, &path)),
             None => {
-                graph_base::laws::with_one_more_edge();
                 append(alloc, &mut self.crates, from, dep)?;
                 Ok(())
             }
         }
     }
 
-    // The refusal that a path tells.
+    // The refusal with a path.
     fn cyclic(&self, alloc: Global, path: &[u32]) -> AddDepError
         ensures numbers { IfCyclic result (λ error. numbers error ≡ path.now) }
         ensures names { IfCyclic result

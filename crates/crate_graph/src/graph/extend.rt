@@ -1,21 +1,18 @@
 //! A graph takes another's crates in, so that what both have stands once.
 
-ghost use Rattle.std.specs.Prelude.{◌≡◌, true, IfOk, IsErrOf, OnErr, OnOk};
+ghost use Rattle.std.specs.Prelude.{◌≡◌, ◌↔◌, ◌⊎◌, ◌<◌, length};
+ghost use Rattle.std.specs.Prelude.{IfOk, IsErrOf, IsSome, OnErr};
 ghost use Rattle.std.specs.BTreeMap as tree;
 ghost use Rattle.std.specs.List.{All};
-ghost use Rattle.std.specs.Prelude.{◌<◌, length};
 ghost use Rattle.base_text.specs.Arena.{number_of};
-ghost use Rattle.crate_graph.specs.Extend.{AreApart, HasEquals, Joins, KeepsCrates, PassesLimit};
-ghost use Rattle.crate_graph.specs.Extend.{Id, moved, new_id};
+ghost use Rattle.crate_graph.specs.Extend.{HoldsBoth, Id, Merges, PassesLimit, moved_entry, new_id};
 
-mod joined;
 mod macros;
-mod renamed;
-#[cfg(test)]
-mod tests;
+mod merge;
 
 use crate::builder::{CrateBuilder, ProcMacroPaths};
 use crate::crate_data::CrateBuilderId;
+use crate::graph::renaming::ids_of_numbers;
 use crate::graph::{CrateGraphBuilder, GraphError};
 use std::alloc::Global;
 use std::collections::BTreeMap;
@@ -35,35 +32,30 @@ impl CrateGraphBuilder {
     ) -> Result<BTreeMap<CrateBuilderId, CrateBuilderId>, GraphError>
         requires { All (λ id. number_of id < length other.crates) (tree.keys proc_macros.old) }
         // What the graph is then, and where each crate of the other is in it.
-        ensures joined { IfOk result (Joins ⟦<CrateBuilder as PartialEq>⟧.eq
-            ⟦<CrateBuilderId as Ord>⟧.cmp self.old other self.new) }
-        ensures kept { OnOk result (KeepsCrates self.old.crates self.new.crates) }
-        ensures equal { IfOk result (λ ids. HasEquals ⟦<CrateBuilder as PartialEq>⟧.eq
-            (new_id ⟦<CrateBuilderId as Ord>⟧.cmp ids) other.crates self.new.crates) }
-        ensures apart { IfOk result (λ ids.
-            AreApart (new_id ⟦<CrateBuilderId as Ord>⟧.cmp ids) self.old.crates other.crates) }
+        ensures joined { IfOk result (λ ids. Merges ⟦<CrateBuilder as PartialEq>⟧.eq
+            self.old other self.new (new_id ⟦<CrateBuilderId as Ord>⟧.cmp ids)) }
+        ensures both { IfOk result (λ ids. HoldsBoth ⟦<CrateBuilder as PartialEq>⟧.eq
+            self.old.crates other.crates self.new.crates
+            (new_id ⟦<CrateBuilderId as Ord>⟧.cmp ids)) }
+        ensures ids { IfOk result (λ ids. (id : Id)
+            → IsSome (tree.get ⟦<CrateBuilderId as Ord>⟧.cmp ids id)
+            ↔ (number_of id < length other.crates)) }
         ensures macros { IfOk result (λ ids. (id : Id)
             → tree.get ⟦<CrateBuilderId as Ord>⟧.cmp proc_macros.new id
-            ≡ moved (new_id ⟦<CrateBuilderId as Ord>⟧.cmp ids) proc_macros.old.entries id) }
+            ≡ moved_entry (new_id ⟦<CrateBuilderId as Ord>⟧.cmp ids) proc_macros.old.entries id) }
         // Refusals.
-        ensures too_many { IsErrOf result GraphError.TooMany
-            → PassesLimit ⟦<CrateBuilder as PartialEq>⟧.eq self.old other }
-        ensures unchanged { OnErr result (self.new ≡ self.old) }
-        ensures macros_unchanged { OnErr result (tree.IsUnchanged proc_macros.old proc_macros.new) }
+        ensures too_many { IsErrOf result GraphError.OutOfMemory
+            ⊎ (IsErrOf result GraphError.TooMany
+            ↔ PassesLimit ⟦<CrateBuilder as PartialEq>⟧.eq self.old other) }
+        ensures unchanged { OnErr result ((self.new ≡ self.old)
+            × tree.IsUnchanged proc_macros.old proc_macros.new) }
     {
-        equality_owes::<CrateBuilder>();
-        graph_base::order_laws::with_nodes_above();
         let order = graph_base::finish_order(alloc, &other)?;
-        let joined = joined::join(alloc, self.limit, &self.crates, &other.crates, &order)?;
-        let ids = renamed::ids_of_news(alloc, joined.news())?;
-        let macros = macros::moved_macros(alloc, joined.news(), proc_macros)?;
-        self.crates = joined.into_crates();
+        let merge = merge::join(alloc, self.limit, &self.crates, &other.crates, &order)?;
+        let ids = ids_of_numbers(alloc, merge.new_numbers())?;
+        let macros = macros::renumber_macros(alloc, merge.new_numbers(), proc_macros)?;
+        self.crates = merge.into_crates();
         *proc_macros = macros;
         Ok(ids)
     }
 }
-
-// The law that the equality of any type owes.
-fn equality_owes<T: Eq>()
-    ensures { (x : T) → T.eq x x ≡ true }
-{}

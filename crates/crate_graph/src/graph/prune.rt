@@ -1,20 +1,21 @@
 //! A graph of which only some crates are kept, numbered anew in their order.
 
-ghost use Rattle.std.specs.Prelude.{◌≡◌, ◌↔◌, ℕ, ◌<◌, ◌^◌, None, true, false, length, map};
-ghost use Rattle.std.specs.Prelude.{IfOk, IsSome, IsTrue, OnErr, OnOk, slice_index_or};
-ghost use Rattle.std.specs.List.{Contains, list_all, range_with_len};
+ghost use Rattle.std.specs.Prelude.{◌≡◌, ◌↔◌, ℕ, ◌<◌, ◌^◌, true, false, length, map};
+ghost use Rattle.std.specs.Prelude.{IfOk, IsTrue, OnErr, OnOk, slice_index_or};
+ghost use Rattle.std.specs.List.{All, list_all, range_with_len};
 ghost use Rattle.std.specs.Option.{option_map};
 ghost use Rattle.base_text.specs.Arena.{number_of};
-ghost use Rattle.graph_base.specs.Kept.{IsClosed, is_named};
+ghost use Rattle.graph_base.specs.Kept.{IsClosed, is_named, kept_below};
 ghost use Rattle.crate_graph.specs.Graph.{edges, row_of, target_of};
-ghost use Rattle.crate_graph.specs.Laws.{renamed_dependency};
-ghost use Rattle.crate_graph.specs.Prune.{Stays, kept_from, moved, moved_id, new_number, number_at};
+ghost use Rattle.crate_graph.specs.Prune.{KeepsNamed, Stays, kept_crates, new_number, number_at};
+ghost use Rattle.crate_graph.specs.Prune.{renumbered_crate};
 
 use crate::builder::CrateBuilder;
-use crate::crate_data::{CrateBuilderId, CrateTag, DependencyBuilder};
+use crate::crate_data::{CrateBuilderId, CrateTag};
 use crate::graph::CrateGraphBuilder;
-use base_text::arena::numbers_compare_as_numbers;
-use base_text::{Items, TryClone};
+use crate::graph::renaming::renamed_dependencies;
+use base_text::TryClone;
+use base_text::laws::numbers_compare_as_numbers;
 use std::alloc::{AllocError, Global};
 
 impl CrateGraphBuilder {
@@ -39,23 +40,20 @@ impl CrateGraphBuilder {
     }
 
     /// Keeps the named crates alone, in the graph's order, and answers for each old number the new
-    /// one. `is_closed` tells which lists may be kept.
+    /// one. `is_closed` tests whether a list may be kept.
     pub fn remove_crates_except(
         &mut self,
         alloc: Global,
         to_keep: &[CrateBuilderId],
     ) -> Result<Vec<Option<CrateBuilderId>>, AllocError>
         requires { IsClosed (edges self.old.crates) (map number_of to_keep.now) }
-        ensures kept { OnOk result (self.new ≡ record self.old {
-          crates = kept_from (map number_of to_keep.now) 0 self.old.crates;
-        }) }
+        ensures kept { OnOk result (KeepsNamed self.old self.new (map number_of to_keep.now)) }
         ensures numbers { IfOk result (λ ids. map (option_map number_of) ids.items
             ≡ map (new_number (map number_of to_keep.now))
             (range_with_len 0 (length self.old.crates))) }
         ensures unchanged { OnErr result (self.new ≡ self.old) }
     {
         let (kept, ids) = self.kept(alloc, to_keep)?;
-        graph_base::laws::with_kept_nodes();
         self.crates = kept;
         Ok(ids)
     }
@@ -68,16 +66,16 @@ impl CrateGraphBuilder {
     ) -> Result<(Vec<CrateBuilder>, Vec<Option<CrateBuilderId>>), AllocError>
         requires { IsClosed (edges self.now.crates) (map number_of to_keep.now) }
         ensures crates { IfOk result (λ made. made.0.items
-            ≡ kept_from (map number_of to_keep.now) 0 self.now.crates) }
+            ≡ kept_crates (map number_of to_keep.now) 0 self.now.crates) }
         ensures numbers { IfOk result (λ made. map (option_map number_of) made.1.items
             ≡ map (new_number (map number_of to_keep.now))
             (range_with_len 0 (length self.now.crates))) }
     {
-        let ids = new_ids(alloc, to_keep, self.crates.len())?;
+        let (ids, numbers) = new_ids(alloc, to_keep, self.crates.len())?;
         let mut kept = Vec::new(alloc);
         for (place, krate) in self.crates.iter().enumerate() {
             if ids[place].is_some() {
-                kept.push(moved_copy(alloc, krate, &ids)?)?;
+                kept.push(renumbered_copy(alloc, krate, &numbers)?)?;
             }
         }
         Ok((kept, ids))
@@ -122,20 +120,25 @@ fn marks_of(
     Ok(marks)
 }
 
-// Of each crate its new number, where it is named.
+// Of each crate its new number where it is named, and how many crates before it are named.
 fn new_ids(
     alloc: Global,
     to_keep: &[CrateBuilderId],
     count: usize,
-) -> Result<Vec<Option<CrateBuilderId>>, AllocError>
+) -> Result<(Vec<Option<CrateBuilderId>>, Vec<u32>), AllocError>
     requires short { count < 2 ^ 32 }
     requires known { (n : ℕ) → is_named (map number_of to_keep.now) n ≡ true → n < count }
-    ensures { IfOk result (λ ids. map (option_map number_of) ids.items
+    ensures ids { IfOk result (λ made. map (option_map number_of) made.0.items
         ≡ map (new_number (map number_of to_keep.now)) (range_with_len 0 count)) }
+    ensures numbers { IfOk result (λ made. made.1.items
+        ≡ map (kept_below (map number_of to_keep.now)) (range_with_len 0 count)) }
 {
+    let marks = marks_of(alloc, to_keep, count)?;
     let mut ids = Vec::with_capacity(alloc, count)?;
+    let mut numbers = Vec::with_capacity(alloc, count)?;
     let mut next = 0;
-    for mark in &marks_of(alloc, to_keep, count)? {
+    for mark in &marks {
+        numbers.push(next)?;
         if *mark {
             ids.push(Some(CrateBuilderId::from_raw(next)))?;
             next += 1;
@@ -143,37 +146,20 @@ fn new_ids(
             ids.push(None)?;
         }
     }
-    Ok(ids)
+    Ok((ids, numbers))
 }
 
 // A copy of a crate whose dependencies go by the new numbers.
-fn moved_copy(
+fn renumbered_copy(
     alloc: Global,
     krate: &CrateBuilder,
-    ids: &[Option<CrateBuilderId>],
+    numbers: &[u32],
 ) -> Result<CrateBuilder, AllocError>
-    requires { (n : ℕ) → Contains (row_of krate.now) n → IsSome (slice_index_or ids.now n None) }
-    ensures { IfOk result (λ copy. copy ≡ moved (number_at ids.now) krate.now) }
+    requires { All (λ dep. target_of dep < length numbers.now) krate.now.basic.dependencies }
+    ensures { IfOk result (λ copy. copy ≡ renumbered_crate (number_at numbers.now) krate.now) }
 {
+    let deps = renamed_dependencies(alloc, numbers, krate.basic.dependencies.as_slice())?;
     let mut copy = krate.try_clone(alloc)?;
-    copy.basic.dependencies = moved_all(alloc, krate.basic.dependencies.as_slice(), ids)?;
+    copy.basic.dependencies = deps;
     Ok(copy)
-}
-
-// The dependencies by the new numbers.
-fn moved_all(
-    alloc: Global,
-    deps: &[DependencyBuilder],
-    ids: &[Option<CrateBuilderId>],
-) -> Result<Items<DependencyBuilder>, AllocError>
-    requires { (n : ℕ) → Contains (map target_of deps.now) n → IsSome (slice_index_or ids.now n None) }
-    ensures { IfOk result (λ moved. moved
-        ≡ map (renamed_dependency (moved_id (number_at ids.now))) deps.now) }
-{
-    let mut moved = Vec::with_capacity(alloc, deps.len())?;
-    for dep in deps {
-        let id = ids[dep.crate_id.into_raw() as usize].unwrap();
-        moved.push(dep.with_id(alloc, id)?)?;
-    }
-    Ok(Items::new(moved))
 }

@@ -23,9 +23,8 @@ impl CrateGraphBuilder {
             ↔ Reaches (edges self.now.crates) (number_of of) n) }
         ensures ascending { IfOk result (λ ids. IsAscending (map number_of ids.items)) }
     {
-        let nodes = graph_base::reached(alloc, self, of.into_raw())?;
-        let ids = ids_of(alloc, &nodes)?;
-        Ok(ids)
+        let nodes = graph_base::reachable_nodes(alloc, self, of.into_raw())?;
+        ids_of(alloc, &nodes)
     }
 }
 

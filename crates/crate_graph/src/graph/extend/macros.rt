@@ -4,11 +4,11 @@ ghost use Rattle.std.specs.Prelude.{◌≡◌, ◌<◌, length, IfOk};
 ghost use Rattle.std.specs.BTreeMap as tree;
 ghost use Rattle.std.specs.List.{All};
 ghost use Rattle.base_text.specs.Arena.{number_of};
-ghost use Rattle.crate_graph.specs.Extend.{Id, moved, renumbered};
+ghost use Rattle.crate_graph.specs.Extend.{Id, moved_entry, new_id_at};
 
 use crate::builder::ProcMacroPaths;
 use crate::crate_data::{CrateBuilderId, CrateTag};
-use crate::graph::extend::renamed::new_number;
+use crate::graph::renaming::new_id_at;
 use crate::proc_macro::ProcMacroLoadingError;
 use base_text::{AbsPathBuf, Text, TryClone};
 use std::alloc::{AllocError, Global};
@@ -35,21 +35,21 @@ fn copy_of(
 }
 
 // The libraries under the new numbers of their crates: of two under one, that of the greater old one stays.
-pub(super) fn moved_macros(
+pub(super) fn renumber_macros(
     alloc: Global,
-    news: &[u32],
+    new_numbers: &[u32],
     macros: &ProcMacroPaths,
 ) -> Result<ProcMacroPaths, AllocError>
-    requires { All (λ id. number_of id < length news.now) (tree.keys macros.now) }
+    requires { All (λ id. number_of id < length new_numbers.now) (tree.keys macros.now) }
     ensures { IfOk result (λ new. (id : Id)
         → tree.get ⟦<CrateBuilderId as Ord>⟧.cmp new id
-        ≡ moved (renumbered news.now) macros.now.entries id) }
+        ≡ moved_entry (new_id_at new_numbers.now) macros.now.entries id) }
 {
-    base_text::arena::numbers_compare_as_numbers::<CrateTag>();
-    let mut moved = BTreeMap::new(alloc);
+    base_text::laws::numbers_compare_as_numbers::<CrateTag>();
+    let mut new_macros = BTreeMap::new(alloc);
     for (id, library) in macros.iter() {
         let library = copy_of(alloc, library)?;
-        drop(moved.insert(new_number(news, *id), library)?);
+        drop(new_macros.insert(new_id_at(new_numbers, *id), library)?);
     }
-    Ok(moved)
+    Ok(new_macros)
 }

@@ -9,4 +9,4 @@ returns-in-None-clause-apart g c = λ r.
 
 pub returns-clause-path : goal.returns-clause-path
 returns-clause-path g c =
-    traced_back (g.G.Graph.rows c.args.graph.now) c.args.start c.in_ok-trail.trail c.in_ok-path-in-Some.path.items c.in-Some.place c.args.end c.in_ok-trail.ensures.whole.trail (sym c.in-Some.ensures.1) c.in_ok-path-in-Some.ensures
+    traced_back (g.G.Graph.rows c.args.graph.now) c.args.start c.in_ok-trail.trail c.in_ok-trace-in-Some.field-0.items c.in-Some.place c.args.end c.in_ok-trail.ensures.whole.trail (sym c.in-Some.ensures.1) c.in_ok-trace-in-Some.ensures

@@ -1,12 +1,12 @@
 use Rattle.std.proofs.Common.{◌<◌, ◌≤◌, ◌∙◌, ap, arith, length}
-use Rattle.graph_base.specs.Trail.{blank, noted}
+use Rattle.graph_base.specs.Trail.{empty_trail, after_edge}
 use Rattle.graph_base.proofs.TrailLemmas.{searched_none, searched_more, searched_all}
 use Rattle.graph_base.proofs.search.search.Goals as goal
 
 pub loop-place-init : goal.loop-place-init
 loop-place-init g c =
     searched_none (g.G.Graph.rows c.args.graph.now) c.args.start c.note.new.self c.requires
-    (c.in_ok-note.ensures ∙ ap (λ t. noted 0 t c.args.start) (c.in_ok-trail.ensures ∙ ap blank c.count.ensures.nodes))
+    (c.in_ok-note.ensures ∙ ap (λ t. after_edge 0 t c.args.start) (c.in_ok-trail.ensures ∙ ap empty_trail c.count.ensures.nodes))
 
 pub loop-place-preserved : goal.loop-place-preserved
 loop-place-preserved g c =

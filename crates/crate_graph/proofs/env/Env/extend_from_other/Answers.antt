@@ -1,5 +1,5 @@
 use Rattle.std.proofs.Common.{◌≡◌, ◌∙◌, ◌++◌, map, rules}
-use Rattle.base_text.specs.ByText.{text_entries}
+use Rattle.base_values.specs.ByText.{text_entries}
 use Rattle.crate_graph.proofs.EnvLemmas.{seen_text, takes_front, on_err}
 use Rattle.crate_graph.proofs.env.Env.extend_from_other.Goals as goal
 

@@ -1,5 +1,5 @@
 use Rattle.std.proofs.Common.{◌≡◌, ◌++◌, map}
-use Rattle.base_text.specs.ByText.{text_entries}
+use Rattle.base_values.specs.ByText.{text_entries}
 use Rattle.crate_graph.specs.Env.{with_pairs}
 use Rattle.crate_graph.proofs.EnvLemmas.{seen_text}
 use Rattle.crate_graph.proofs.env.Env.extend_from_other.Given as goal

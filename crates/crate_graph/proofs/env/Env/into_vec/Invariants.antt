@@ -1,5 +1,5 @@
 use Rattle.std.proofs.Common.{◌≡◌, ◌++◌, map}
-use Rattle.base_text.specs.ByText.{text_entries}
+use Rattle.base_values.specs.ByText.{text_entries}
 use Rattle.crate_graph.specs.Env.{pair_text}
 use Rattle.crate_graph.proofs.env.Env.into_vec.Given as goal
 

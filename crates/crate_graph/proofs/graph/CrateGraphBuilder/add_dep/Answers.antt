@@ -2,6 +2,7 @@ use Rattle.std.proofs.Common.{◌<◌, subst, arith, length, rules}
 use Rattle.base_text.specs.Arena.{number_of}
 use Rattle.graph_base.specs.Reach.{Reaches}
 use Rattle.crate_graph.specs.Graph.{HasDependency, IsWellMade, edges, target_of}
+use Rattle.graph_base.proofs.ReachLemmas.{acyclic_with_edge, in_range_with_edge}
 use Rattle.crate_graph.proofs.GraphLemmas.{length-edges, well_made-with_dependency}
 use Rattle.crate_graph.proofs.graph.CrateGraphBuilder.add_dep.Goals as goal
 
@@ -16,5 +17,5 @@ invariant_of-self-in-None c =
     let from_in : number_of c.args.from < length (edges c.args.self.now.crates) = omega (arith, c.requires.from, length-edges c.args.self.now.crates) in
     let to_in : target_of c.args.dep < length (edges c.args.self.now.crates) = omega (arith, c.requires.to, length-edges c.args.self.now.crates) in
     well_made-with_dependency old c.append.new.crates.items from c.args.dep c.requires.from has c.self.inside.limit made
-    (c.with_one_more_edge.ensures.in_range (edges old) from to from_in to_in made.in_range)
-    (c.with_one_more_edge.ensures.acyclic (edges old) from to from_in made.acyclic apart)
+    (in_range_with_edge (edges old) from to from_in to_in made.in_range)
+    (acyclic_with_edge (edges old) from to from_in made.acyclic apart)

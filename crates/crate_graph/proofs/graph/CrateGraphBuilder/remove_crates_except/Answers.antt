@@ -1,6 +1,7 @@
 use Rattle.std.proofs.Common.{map, subst}
 use Rattle.base_text.specs.Arena.{number_of}
 use Rattle.crate_graph.specs.Graph.{IsWellMade, edges}
+use Rattle.graph_base.proofs.KeptLemmas.{acyclic_kept, in_range_kept}
 use Rattle.crate_graph.proofs.PruneLemmas.{well_made-kept}
 use Rattle.crate_graph.proofs.graph.CrateGraphBuilder.remove_crates_except.Goals as goal
 
@@ -10,4 +11,4 @@ invariant_of-self c =
     let keep = map number_of c.args.to_keep.now in
     let made = subst (λ graph. IsWellMade graph.crates c.self.inside.limit) c.self.view_is c.self.invariant in
     well_made-kept old c.in_ok-kept.kept.items keep c.self.inside.limit c.in_ok-kept.ensures.crates made
-    (c.with_kept_nodes.ensures.in_range (edges old) keep c.requires) (c.with_kept_nodes.ensures.acyclic (edges old) keep c.requires made.acyclic)
+    (in_range_kept (edges old) keep c.requires) (acyclic_kept (edges old) keep c.requires made.acyclic)
