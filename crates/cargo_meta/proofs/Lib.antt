@@ -1,5 +1,4 @@
 pub mod Folders
-pub mod MetadataRows
-pub mod PackageRows
 pub mod RootManifest
 pub mod Joins
+pub mod Steps

@@ -1,8 +1,8 @@
 -- what the answer to a metadata command holds: the document of its first line that begins with `{`
 use Rattle.std.specs.Prelude.{◌≡◌, ◌==◌, ℕ, List, ◌∷◌, Bool, if◌then◌else◌, codes, find, slice_index, Option, Some, None, Result, Ok, Err}
 use Rattle.std.specs.Str.Lines.{lines}
-use Rattle.base_text.specs.declared.command.CommandLine.{CommandLine}
-use Rattle.base_text.specs.declared.command.Output.{Output}
+use Rattle.outside.specs.declared.command.CommandLine.{CommandLine}
+use Rattle.outside.specs.declared.command.Output.{Output}
 use Rattle.json_fields.specs.Document.{document}
 use Rattle.json_fields.specs.Outcome.{Reading}
 use Rattle.cargo_meta.specs.Command.{joined}

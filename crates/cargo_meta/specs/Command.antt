@@ -1,9 +1,8 @@
 -- the command that asks for metadata: the words of `cargo metadata`, by what was set
 use Rattle.std.specs.Prelude.{◌≡◌, ℕ, List, [], ◌∷◌, ◌++◌, Bool, true, false, if◌then◌else◌, codes, map, Option, Some, None, unwrap_or}
 use Rattle.std.specs.List.{join_by}
-use Rattle.base_text.specs.ByText.{with_value}
-use Rattle.base_text.specs.declared.command.CommandLine.{CommandLine}
-use Rattle.base_text.specs.declared.command.Variable.{Variable}
+use Rattle.base_values.specs.ByText.{with_value}
+use Rattle.outside.specs.declared.command.CommandLine.{CommandLine}
 use Rattle.cargo_meta.specs.declared.command.CargoOpt.{CargoOpt}
 use Rattle.cargo_meta.specs.declared.command.CargoOpt.TheVariants.{AllFeatures, NoDefaultFeatures, SomeFeatures}
 
@@ -80,15 +79,11 @@ words_of s =
     ++ option_words (codes "--manifest-path") s.manifest_path
     ++ s.other_options
 
--- the variables by ascending key
-abbrev pub variables_of : List (List ℕ × Option (List ℕ)) → List Variable
-variables_of env = map (λ e. record { name = e.0; value = e.1 }) env
-
 -- the command: its program is `cargo`, and it runs where it is asked, unless another is set
 abbrev pub command_of : Settings → CommandLine
 command_of s = record {
   program = unwrap_or s.cargo_path (codes "cargo");
   words = words_of s;
   dir = unwrap_or s.current_dir [];
-  env = variables_of s.env;
+  env = s.env;
 }

@@ -1,8 +1,9 @@
 -- the texts of kinds and editions: the names that `cargo metadata` writes
-use Rattle.std.specs.Prelude.{if◌then◌else◌, ℕ, List, [], codes, bytes_eq, Ok, Err}
+use Rattle.std.specs.Prelude.{ℕ, List, [], ◌∷◌, codes, Ok, Err}
 use Rattle.serde_json.specs.Data.{Data, null, boolean, number, string, array, object}
-use Rattle.json_fields.specs.Fields.{text_at, under}
-use Rattle.json_fields.specs.Outcome.{Reading, ◌>>=◌}
+use Rattle.json_fields.specs.Names.{value_named, value_named_or}
+use Rattle.json_fields.specs.Outcome.{Reading}
+use Rattle.json_fields.specs.TextJson.{text_form_at, text_form_data}
 use Rattle.cargo_meta.specs.declared.kinds.TargetKind.{TargetKind}
 use Rattle.cargo_meta.specs.declared.kinds.TargetKind.TheVariants as target
 use Rattle.cargo_meta.specs.declared.kinds.CrateType.{CrateType}
@@ -11,22 +12,6 @@ use Rattle.cargo_meta.specs.declared.kinds.DependencyKind.{DependencyKind}
 use Rattle.cargo_meta.specs.declared.kinds.DependencyKind.TheVariants as dependency
 use Rattle.cargo_meta.specs.declared.kinds.Edition.{Edition}
 use Rattle.cargo_meta.specs.declared.kinds.Edition.TheVariants as edition
-
--- the kind of target that a text names; another text stays as it is
-unfoldable pub target_kind_of : List ℕ → TargetKind
-target_kind_of text =
-    if bytes_eq text (codes "bench") then target.Bench
-    else if bytes_eq text (codes "bin") then target.Bin
-    else if bytes_eq text (codes "custom-build") then target.CustomBuild
-    else if bytes_eq text (codes "cdylib") then target.CDyLib
-    else if bytes_eq text (codes "dylib") then target.DyLib
-    else if bytes_eq text (codes "example") then target.Example
-    else if bytes_eq text (codes "lib") then target.Lib
-    else if bytes_eq text (codes "proc-macro") then target.ProcMacro
-    else if bytes_eq text (codes "rlib") then target.RLib
-    else if bytes_eq text (codes "staticlib") then target.StaticLib
-    else if bytes_eq text (codes "test") then target.Test
-    else target.Unknown text
 
 -- the text of a kind of target
 abbrev pub target_kind_text : TargetKind → List ℕ
@@ -43,17 +28,13 @@ target_kind_text target.StaticLib = codes "staticlib"
 target_kind_text target.Test = codes "test"
 target_kind_text (target.Unknown text) = text
 
--- the type of crate that a text names; another text stays as it is
-unfoldable pub crate_type_of : List ℕ → CrateType
-crate_type_of text =
-    if bytes_eq text (codes "bin") then crate_type.Bin
-    else if bytes_eq text (codes "cdylib") then crate_type.CDyLib
-    else if bytes_eq text (codes "dylib") then crate_type.DyLib
-    else if bytes_eq text (codes "lib") then crate_type.Lib
-    else if bytes_eq text (codes "proc-macro") then crate_type.ProcMacro
-    else if bytes_eq text (codes "rlib") then crate_type.RLib
-    else if bytes_eq text (codes "staticlib") then crate_type.StaticLib
-    else crate_type.Unknown text
+-- the kinds of targets that are known
+abbrev pub target_kinds : List TargetKind
+target_kinds = target.Bench ∷ target.Bin ∷ target.CustomBuild ∷ target.CDyLib ∷ target.DyLib ∷ target.Example ∷ target.Lib ∷ target.ProcMacro ∷ target.RLib ∷ target.StaticLib ∷ target.Test ∷ []
+
+-- the kind of target that a text names; another text stays as it is
+unfoldable pub target_kind_of : List ℕ → TargetKind
+target_kind_of = value_named_or target_kind_text target_kinds target.Unknown
 
 -- the text of a type of crate
 abbrev pub crate_type_text : CrateType → List ℕ
@@ -66,13 +47,13 @@ crate_type_text crate_type.RLib = codes "rlib"
 crate_type_text crate_type.StaticLib = codes "staticlib"
 crate_type_text (crate_type.Unknown text) = text
 
--- the kind of dependency that a text names
-unfoldable pub dependency_kind_of : List ℕ → DependencyKind
-dependency_kind_of text =
-    if bytes_eq text (codes "normal") then dependency.Normal
-    else if bytes_eq text (codes "dev") then dependency.Development
-    else if bytes_eq text (codes "build") then dependency.Build
-    else dependency.Unknown
+-- the types of crates that are known
+abbrev pub crate_types : List CrateType
+crate_types = crate_type.Bin ∷ crate_type.CDyLib ∷ crate_type.DyLib ∷ crate_type.Lib ∷ crate_type.ProcMacro ∷ crate_type.RLib ∷ crate_type.StaticLib ∷ []
+
+-- the type of crate that a text names; another text stays as it is
+unfoldable pub crate_type_of : List ℕ → CrateType
+crate_type_of = value_named_or crate_type_text crate_types crate_type.Unknown
 
 -- the text of a kind of dependency
 abbrev pub dependency_kind_text : DependencyKind → List ℕ
@@ -81,16 +62,13 @@ dependency_kind_text dependency.Development = codes "dev"
 dependency_kind_text dependency.Build = codes "build"
 dependency_kind_text dependency.Unknown = codes "Unknown"
 
--- the edition that a text names
-unfoldable pub edition_of : List ℕ → Reading Edition
-edition_of text =
-    if bytes_eq text (codes "2015") then Ok edition.E2015
-    else if bytes_eq text (codes "2018") then Ok edition.E2018
-    else if bytes_eq text (codes "2021") then Ok edition.E2021
-    else if bytes_eq text (codes "2024") then Ok edition.E2024
-    else if bytes_eq text (codes "2027") then Ok edition._E2027
-    else if bytes_eq text (codes "2030") then Ok edition._E2030
-    else Err []
+-- the kinds of dependencies that are known
+abbrev pub dependency_kinds : List DependencyKind
+dependency_kinds = dependency.Normal ∷ dependency.Development ∷ dependency.Build ∷ []
+
+-- the kind of dependency that a text names
+unfoldable pub dependency_kind_of : List ℕ → DependencyKind
+dependency_kind_of = value_named_or dependency_kind_text dependency_kinds (λ _. dependency.Unknown)
 
 -- the text of an edition
 abbrev pub edition_text : Edition → List ℕ
@@ -101,21 +79,29 @@ edition_text edition.E2024 = codes "2024"
 edition_text edition._E2027 = codes "2027"
 edition_text edition._E2030 = codes "2030"
 
--- the tables of kinds: a text
+-- the editions
+abbrev pub editions : List Edition
+editions = edition.E2015 ∷ edition.E2018 ∷ edition.E2021 ∷ edition.E2024 ∷ edition._E2027 ∷ edition._E2030 ∷ []
+
+-- the edition that a text names
+unfoldable pub edition_of : List ℕ → Reading Edition
+edition_of = value_named edition_text editions
+
+-- the kind of a target: a text
 abbrev pub target_kind_at : Data → Reading TargetKind
-target_kind_at d = under target_kind_of (text_at d)
+target_kind_at = text_form_at (λ text. Ok (target_kind_of text))
 
 -- the kind of a target, written
 abbrev pub target_kind_data : TargetKind → Data
-target_kind_data kind = string (target_kind_text kind)
+target_kind_data = text_form_data target_kind_text
 
 -- the type of a crate, read
 abbrev pub crate_type_at : Data → Reading CrateType
-crate_type_at d = under crate_type_of (text_at d)
+crate_type_at = text_form_at (λ text. Ok (crate_type_of text))
 
 -- the type of a crate, written
 abbrev pub crate_type_data : CrateType → Data
-crate_type_data kind = string (crate_type_text kind)
+crate_type_data = text_form_data crate_type_text
 
 -- null is the kind of a normal dependency
 abbrev pub dependency_kind_at : Data → Reading DependencyKind
@@ -132,8 +118,8 @@ dependency_kind_data kind = string (dependency_kind_text kind)
 
 -- an edition, read
 abbrev pub edition_at : Data → Reading Edition
-edition_at d = text_at d >>= edition_of
+edition_at = text_form_at edition_of
 
 -- an edition, written
 abbrev pub edition_data : Edition → Data
-edition_data e = string (edition_text e)
+edition_data = text_form_data edition_text

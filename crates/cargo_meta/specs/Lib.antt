@@ -2,7 +2,6 @@ pub mod Kinds
 pub mod Names
 pub mod Target
 pub mod Dependency
-pub mod PackageParts
 pub mod Package
 pub mod NewPackage
 pub mod Beside
@@ -12,3 +11,4 @@ pub mod Errors
 pub mod Select
 pub mod Command
 pub mod Answer
+pub mod laws

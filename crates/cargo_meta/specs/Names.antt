@@ -1,26 +1,42 @@
 -- names, ids and sources: each is a text, and compares as it
-use Rattle.std.specs.Prelude.{Bool, bytes_eq, codes}
-use Rattle.serde_json.specs.Data.{Data, string}
-use Rattle.json_fields.specs.Fields.{text_at, under}
+use Rattle.std.specs.Prelude.{ℕ, Bool, List, bytes_eq, codes, Ok}
+use Rattle.serde_json.specs.Data.{Data}
 use Rattle.json_fields.specs.Outcome.{Reading}
+use Rattle.json_fields.specs.TextJson.{text_form_at, text_form_data}
 use Rattle.cargo_meta.specs.declared.names.PackageId.{PackageId}
 use Rattle.cargo_meta.specs.declared.names.Source.{Source}
 
+-- an id of a text
+abbrev pub package_id_of : List ℕ → Reading PackageId
+package_id_of text = Ok (record { repr = text })
+
+-- the text of an id
+abbrev pub package_id_text : PackageId → List ℕ
+package_id_text x = x.repr
+
 -- an id is a text
 abbrev pub package_id_at : Data → Reading PackageId
-package_id_at d = under (λ text. record { repr = text }) (text_at d)
+package_id_at = text_form_at package_id_of
 
 -- an id, written
 abbrev pub package_id_data : PackageId → Data
-package_id_data id = string id.repr
+package_id_data = text_form_data package_id_text
+
+-- a source of a text
+abbrev pub source_of : List ℕ → Reading Source
+source_of text = Ok (record { repr = text })
+
+-- the text of a source
+abbrev pub source_text : Source → List ℕ
+source_text x = x.repr
 
 -- a source is a text
 abbrev pub source_at : Data → Reading Source
-source_at d = under (λ text. record { repr = text }) (text_at d)
+source_at = text_form_at source_of
 
 -- a source, written
 abbrev pub source_data : Source → Data
-source_data source = string source.repr
+source_data = text_form_data source_text
 
 -- the source of the registry crates.io
 abbrev pub is_crates_io : Source → Bool

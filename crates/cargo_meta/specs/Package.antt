@@ -1,98 +1,131 @@
--- the table of a package: three parts of eight rows, in the field order of `cargo metadata`
-use Rattle.std.specs.Prelude.{◌≡◌, false, refl, Ok}
-use Rattle.serde_json.specs.Data.{Data, object, Members, no_members}
-use Rattle.json_fields.specs.Fields.{members_at}
+-- the table of a package, in the field order of `cargo metadata`: three groups of eight rows, each read into the package
+use Rattle.std.specs.Prelude.{◌≡◌, [], codes, false, refl, Ok}
+use Rattle.serde_json.specs.Data.{Data, null, object, string, Members, no_members}
+use Rattle.json_fields.specs.Fields.{any_at, defaulted, list_at, map_at, members_at, optional, required, text_at}
 use Rattle.json_fields.specs.Outcome.{Reading, ◌>>=◌}
-use Rattle.json_fields.specs.Written.{is_null}
-use Rattle.cargo_meta.specs.PackageParts.{body_at, body_set, head_at, head_set, tail_at, tail_set}
+use Rattle.json_fields.specs.Versions.{bare_at, version_at, version_data}
+use Rattle.json_fields.specs.Written.{is_null, list_data, map_data, option_data, set_member, set_unless_null}
+use Rattle.cargo_meta.specs.Dependency.{dependency_at, dependency_data}
+use Rattle.cargo_meta.specs.Kinds.{edition_at, edition_data}
+use Rattle.cargo_meta.specs.Names.{package_id_at, package_id_data, source_at, source_data}
+use Rattle.cargo_meta.specs.NewPackage.{new_package}
+use Rattle.cargo_meta.specs.Target.{target_at, target_data}
+use Rattle.cargo_meta.specs.declared.kinds.Edition.TheVariants.{E2015}
 use Rattle.cargo_meta.specs.declared.package.Package.{Package}
-use Rattle.cargo_meta.specs.declared.package_parts.PackageHead.{PackageHead}
-use Rattle.cargo_meta.specs.declared.package_parts.PackageBody.{PackageBody}
-use Rattle.cargo_meta.specs.declared.package_parts.PackageTail.{PackageTail}
 
--- the parts of a package
-abbrev pub head_of : Package → PackageHead
-head_of p = record {
-  name = p.name;
-  version = p.version;
-  authors = p.authors;
-  id = p.id;
-  source = p.source;
-  description = p.description;
-  dependencies = p.dependencies;
-  license = p.license;
-}
+-- the first eight rows, of a package that is otherwise a new one
+unfoldable pub head_from : Members → Reading Package
+head_from ms = do
+  name ← required (codes "name") text_at ms
+  version ← required (codes "version") version_at ms
+  authors ← defaulted (codes "authors") [] (list_at text_at) ms
+  id ← required (codes "id") package_id_at ms
+  source ← optional (codes "source") source_at ms
+  description ← optional (codes "description") text_at ms
+  dependencies ← required (codes "dependencies") (list_at dependency_at) ms
+  license ← optional (codes "license") text_at ms
+  Ok (record (new_package name version id []) {
+    authors = authors;
+    source = source;
+    description = description;
+    dependencies = dependencies;
+    license = license;
+  })
 
--- the second part of a package
-abbrev pub body_of : Package → PackageBody
-body_of p = record {
-  license_file = p.license_file;
-  targets = p.targets;
-  features = p.features;
-  manifest_path = p.manifest_path;
-  categories = p.categories;
-  keywords = p.keywords;
-  readme = p.readme;
-  repository = p.repository;
-}
+-- the next eight rows of a package
+unfoldable pub body_from : Package → Members → Reading Package
+body_from p ms = do
+  license_file ← optional (codes "license_file") text_at ms
+  targets ← required (codes "targets") (list_at target_at) ms
+  features ← required (codes "features") (map_at (list_at text_at)) ms
+  manifest_path ← required (codes "manifest_path") text_at ms
+  categories ← defaulted (codes "categories") [] (list_at text_at) ms
+  keywords ← defaulted (codes "keywords") [] (list_at text_at) ms
+  readme ← optional (codes "readme") text_at ms
+  repository ← optional (codes "repository") text_at ms
+  Ok (record p {
+    license_file = license_file;
+    targets = targets;
+    features = features;
+    manifest_path = manifest_path;
+    categories = categories;
+    keywords = keywords;
+    readme = readme;
+    repository = repository;
+  })
 
--- the third part of a package
-abbrev pub tail_of : Package → PackageTail
-tail_of p = record {
-  homepage = p.homepage;
-  documentation = p.documentation;
-  edition = p.edition;
-  metadata = p.metadata;
-  links = p.links;
-  publish = p.publish;
-  default_run = p.default_run;
-  rust_version = p.rust_version;
-}
+-- the last eight rows of a package
+unfoldable pub tail_from : Package → Members → Reading Package
+tail_from p ms = do
+  homepage ← optional (codes "homepage") text_at ms
+  documentation ← optional (codes "documentation") text_at ms
+  edition ← defaulted (codes "edition") E2015 edition_at ms
+  metadata ← defaulted (codes "metadata") null any_at ms
+  links ← optional (codes "links") text_at ms
+  publish ← optional (codes "publish") (list_at text_at) ms
+  default_run ← optional (codes "default_run") text_at ms
+  rust_version ← optional (codes "rust_version") bare_at ms
+  Ok (record p {
+    homepage = homepage;
+    documentation = documentation;
+    edition = edition;
+    metadata = metadata;
+    links = links;
+    publish = publish;
+    default_run = default_run;
+    rust_version = rust_version;
+  })
 
--- the package of three parts
-abbrev pub package_of : PackageHead → PackageBody → PackageTail → Package
-package_of h b t = record {
-  name = h.name;
-  version = h.version;
-  authors = h.authors;
-  id = h.id;
-  source = h.source;
-  description = h.description;
-  dependencies = h.dependencies;
-  license = h.license;
-  license_file = b.license_file;
-  targets = b.targets;
-  features = b.features;
-  manifest_path = b.manifest_path;
-  categories = b.categories;
-  keywords = b.keywords;
-  readme = b.readme;
-  repository = b.repository;
-  homepage = t.homepage;
-  documentation = t.documentation;
-  edition = t.edition;
-  metadata = t.metadata;
-  links = t.links;
-  publish = t.publish;
-  default_run = t.default_run;
-  rust_version = t.rust_version;
-}
-
--- a package as its members tell it
+-- a package as its members have it
 unfoldable pub package_from : Members → Reading Package
 package_from ms = do
-  h ← head_at ms
-  b ← body_at ms
-  t ← tail_at ms
-  Ok (package_of h b t)
+  head ← head_from ms
+  body ← body_from head ms
+  tail_from body ms
 
--- a package as its document tells it
+-- a package as its document has it
 unfoldable pub package_at : Data → Reading Package
 package_at d = members_at d >>= package_from
 
+-- the first eight members of a package, put among members
+unfoldable pub head_set : Package → Members → Members
+head_set p ms =
+    set_member (codes "license") (option_data string p.license)
+    (set_member (codes "dependencies") (list_data dependency_data p.dependencies)
+    (set_member (codes "description") (option_data string p.description)
+    (set_member (codes "source") (option_data source_data p.source)
+    (set_member (codes "id") (package_id_data p.id)
+    (set_member (codes "authors") (list_data string p.authors)
+    (set_member (codes "version") (version_data p.version)
+    (set_member (codes "name") (string p.name) ms)))))))
+
+-- the next eight members
+unfoldable pub body_set : Package → Members → Members
+body_set p ms =
+    set_member (codes "repository") (option_data string p.repository)
+    (set_member (codes "readme") (option_data string p.readme)
+    (set_member (codes "keywords") (list_data string p.keywords)
+    (set_member (codes "categories") (list_data string p.categories)
+    (set_member (codes "manifest_path") (string p.manifest_path)
+    (set_member (codes "features") (map_data (list_data string) p.features)
+    (set_member (codes "targets") (list_data target_data p.targets)
+    (set_member (codes "license_file") (option_data string p.license_file) ms)))))))
+
+-- the last eight members, where null metadata is left out
+unfoldable pub tail_set : Package → Members → Members
+tail_set p ms =
+    set_member (codes "rust_version") (option_data version_data p.rust_version)
+    (set_member (codes "default_run") (option_data string p.default_run)
+    (set_member (codes "publish") (option_data (list_data string) p.publish)
+    (set_member (codes "links") (option_data string p.links)
+    (set_unless_null (codes "metadata") p.metadata
+    (set_member (codes "edition") (edition_data p.edition)
+    (set_member (codes "documentation") (option_data string p.documentation)
+    (set_member (codes "homepage") (option_data string p.homepage) ms)))))))
+
 -- the members of a package
 unfoldable pub package_members : Package → Members
-package_members p = head_set (head_of p) (body_set (body_of p) (tail_set (tail_of p) no_members))
+package_members p = head_set p (body_set p (tail_set p no_members))
 
 -- the document of a package
 unfoldable pub package_data : Package → Data

@@ -1,7 +1,7 @@
 //! The command that asks for metadata, set option by option.
 
 ghost use Rattle.std.specs.Prelude.{◌≡◌, true, IfOk, OnErr, OnOk, Some, None};
-ghost use Rattle.base_text.specs.ByText.{HasAscendingKeys};
+ghost use Rattle.base_values.specs.ByText.{HasAscendingKeys};
 ghost use Rattle.cargo_meta.specs.Command.{IsFirst, command_of, nothing_set, with_features, with_variable, words_of};
 
 use crate::words::{

@@ -3,7 +3,9 @@
 use crate::kinds::DependencyKind;
 use crate::names::Source;
 use base_text::{Items, Text, TryClone};
-use json_fields::{Json, Present, ReadError, Requirement, members, optional, required, set};
+use json_fields::{
+    Json, Present, ReadError, ReadJson, Requirement, members, optional, required, set,
+};
 use serde_json::{Map, Value};
 use std::alloc::{AllocError, Global};
 
@@ -41,13 +43,11 @@ impl TryClone for Dependency {
     }
 }
 
-#[tactic(auto, unfolding(crate::specs::Dependency::dependency_at, crate::specs::Dependency::dependency_data, json_fields::specs::Fields::required, json_fields::specs::Fields::optional, json_fields::specs::Fields::defaulted, json_fields::specs::Written::set_member))]
-impl Json for Dependency {
-    ghost use Rattle.cargo_meta.specs.Dependency.{dependency_at, dependency_data};
+#[tactic(auto, unfolding(crate::specs::Dependency::dependency_at, json_fields::specs::Fields::required, json_fields::specs::Fields::optional, json_fields::specs::Fields::defaulted))]
+impl ReadJson for Dependency {
+    ghost use Rattle.cargo_meta.specs.Dependency.{dependency_at};
 
     ghost reads = { dependency_at };
-
-    ghost writes = { dependency_data };
 
     fn read(alloc: Global, value: &Value) -> Result<Dependency, ReadError> {
         let fields = members(alloc, value)?;
@@ -65,6 +65,16 @@ impl Json for Dependency {
             path: optional(alloc, fields, "path")?,
         })
     }
+}
+
+#[tactic(auto, unfolding(crate::specs::Dependency::dependency_data, json_fields::specs::Written::set_member))]
+impl Json for Dependency {
+    ghost use Rattle.cargo_meta.specs.Dependency.{dependency_data};
+    ghost use Rattle.cargo_meta.specs.laws.Dependency.{dependency-round_trips};
+
+    ghost writes = { dependency_data };
+
+    ghost height = { 0 };
 
     fn write(&self, alloc: Global) -> Result<Value, AllocError> {
         let mut fields = Map::new(alloc);
@@ -86,6 +96,8 @@ impl Json for Dependency {
         set(alloc, &mut fields, "path", &self.path)?;
         Ok(Value::Object(fields))
     }
+
+    ghost round_trips = { dependency-round_trips };
 }
 
 impl Present for Dependency {

@@ -6,7 +6,7 @@ ghost use Rattle.json_fields.specs.Document.{IsWholeAgain, whole};
 ghost use Rattle.cargo_meta.specs.Errors.{GivesDocument};
 ghost use Rattle.cargo_meta.specs.Metadata.{metadata_at, metadata_data};
 
-use crate::errors::{Error, document};
+use crate::errors::{Error, as_error};
 use crate::metadata::Metadata;
 use json_fields::{Json, of_value};
 use serde_json::Value;
@@ -18,7 +18,7 @@ impl Metadata {
         ensures exact { GivesDocument result (whole metadata_at (view value.now)) }
         ensures again { IfOk result (IsWholeAgain metadata_at metadata_data) }
     {
-        document(of_value(alloc, value))
+        as_error(of_value(alloc, value))
     }
 
     /// Writes every field, and leaves out missing default members and null metadata.

@@ -1,4 +1,4 @@
-//! Why metadata was not had.
+//! Why no metadata was read.
 
 ghost use Rattle.std.specs.Prelude.{◌≡◌, IfOk, Ok};
 ghost use Rattle.json_fields.specs.Outcome.{Gives, Reading};
@@ -9,7 +9,7 @@ use json_fields::ReadError;
 use std::alloc::{AllocError, Global};
 use std::{error, fmt};
 
-/// Why metadata was not had.
+/// Why no metadata was read.
 #[derive(Debug, PartialEq, Eq, Drop)]
 pub enum Error {
     /// `cargo metadata` ended with an error.
@@ -82,8 +82,8 @@ impl fmt::Display for Error {
     }
 }
 
-/// What a document's reader answers, as this crate's error tells it.
-pub(crate) fn document<T>(answer: Result<T, ReadError>) -> Result<T, Error>
+/// What a document's reader returned, with this crate's error.
+pub(crate) fn as_error<T>(answer: Result<T, ReadError>) -> Result<T, Error>
     ensures exact { (reading : Reading T) → Gives answer reading → GivesDocument result reading }
     ensures same { IfOk result (λ x. answer ≡ Ok x) }
 {

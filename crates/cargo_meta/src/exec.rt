@@ -1,7 +1,7 @@
 //! What the answer to a metadata command holds.
 
 ghost use Rattle.std.specs.Prelude.{◌≡◌, IfOk, option_copied};
-ghost use Rattle.base_text.specs.Runner.{answer_of};
+ghost use Rattle.outside.specs.Runner.{answer_of};
 ghost use Rattle.json_fields.specs.Document as documents;
 ghost use Rattle.json_fields.specs.Document.{IsWholeAgain};
 ghost use Rattle.cargo_meta.specs.Answer as spec;
@@ -11,7 +11,7 @@ ghost use Rattle.cargo_meta.specs.Errors.{GivesDocument};
 ghost use Rattle.cargo_meta.specs.Metadata.{metadata_at, metadata_data};
 
 use crate::command::MetadataCommand;
-use crate::errors::{Error, document};
+use crate::errors::{Error, as_error};
 use crate::metadata::Metadata;
 use crate::words::joined;
 use base_text::{CommandLine, Output, Runner, Text};
@@ -24,7 +24,7 @@ impl MetadataCommand {
         ensures exact { GivesDocument result (documents.document metadata_at text.now) }
         ensures again { IfOk result (IsWholeAgain metadata_at metadata_data) }
     {
-        document(of_text(alloc, text))
+        as_error(of_text(alloc, text))
     }
 
     /// Asks the runner, and reads the first line of its answer that begins with `{`.

@@ -1,10 +1,11 @@
 //! The kinds of targets, crates and dependencies, and the editions, each with its text.
 
-ghost use Rattle.std.specs.Prelude.{◌≡◌, IfOk, refl};
-ghost use Rattle.cargo_meta.specs.Kinds.{crate_type_at, crate_type_data, crate_type_of, crate_type_text, dependency_kind_at, dependency_kind_data, dependency_kind_of, dependency_kind_text, edition_at, edition_data, edition_of, edition_text, target_kind_at, target_kind_data, target_kind_of, target_kind_text};
+ghost use Rattle.std.specs.Prelude.{◌≡◌, IfOk, Ok};
+ghost use Rattle.cargo_meta.specs.Kinds.{crate_type_of, crate_type_text, dependency_kind_at, dependency_kind_data, dependency_kind_of, dependency_kind_text, edition_of, edition_text, target_kind_of, target_kind_text};
+ghost use Rattle.cargo_meta.specs.laws.Kinds.{crate_type-again, dependency_kind-round_trips, edition-again, target_kind-again};
 
 use base_text::{Text, TryClone};
-use json_fields::{Json, Present, ReadError, missed};
+use json_fields::{Json, ReadError, ReadJson, TextJson, missed};
 use serde_json::Value;
 use std::alloc::{AllocError, Global};
 
@@ -125,25 +126,20 @@ impl TryClone for TargetKind {
     }
 }
 
-impl Json for TargetKind {
-    ghost reads = { target_kind_at };
+impl TextJson for TargetKind {
+    ghost of_text = { λ text. Ok (target_kind_of text) };
 
-    ghost writes = { target_kind_data };
+    ghost text_of = { target_kind_text };
 
-    fn read(alloc: Global, value: &Value) -> Result<TargetKind, ReadError> {
-        match value.as_str() {
-            Some(text) => Ok(TargetKind::from_text(alloc, text)?),
-            None => missed(alloc),
-        }
+    fn read_text(alloc: Global, text: &str) -> Result<TargetKind, ReadError> {
+        Ok(TargetKind::from_text(alloc, text)?)
     }
 
-    fn write(&self, alloc: Global) -> Result<Value, AllocError> {
-        Ok(Value::String(String::from_str(alloc, self.as_str())?))
+    fn write_text(&self, alloc: Global) -> Result<String, AllocError> {
+        String::from_str(alloc, self.as_str())
     }
-}
 
-impl Present for TargetKind {
-    ghost present = { λ x. refl };
+    ghost again = { target_kind-again };
 }
 
 impl CrateType {
@@ -198,25 +194,20 @@ impl TryClone for CrateType {
     }
 }
 
-impl Json for CrateType {
-    ghost reads = { crate_type_at };
+impl TextJson for CrateType {
+    ghost of_text = { λ text. Ok (crate_type_of text) };
 
-    ghost writes = { crate_type_data };
+    ghost text_of = { crate_type_text };
 
-    fn read(alloc: Global, value: &Value) -> Result<CrateType, ReadError> {
-        match value.as_str() {
-            Some(text) => Ok(CrateType::from_text(alloc, text)?),
-            None => missed(alloc),
-        }
+    fn read_text(alloc: Global, text: &str) -> Result<CrateType, ReadError> {
+        Ok(CrateType::from_text(alloc, text)?)
     }
 
-    fn write(&self, alloc: Global) -> Result<Value, AllocError> {
-        Ok(Value::String(String::from_str(alloc, self.as_str())?))
+    fn write_text(&self, alloc: Global) -> Result<String, AllocError> {
+        String::from_str(alloc, self.as_str())
     }
-}
 
-impl Present for CrateType {
-    ghost present = { λ x. refl };
+    ghost again = { crate_type-again };
 }
 
 impl DependencyKind {
@@ -263,10 +254,8 @@ impl TryClone for DependencyKind {
 }
 
 #[tactic(auto, unfolding(crate::specs::Kinds::dependency_kind_of))]
-impl Json for DependencyKind {
+impl ReadJson for DependencyKind {
     ghost reads = { dependency_kind_at };
-
-    ghost writes = { dependency_kind_data };
 
     fn read(alloc: Global, value: &Value) -> Result<DependencyKind, ReadError> {
         match value {
@@ -275,10 +264,18 @@ impl Json for DependencyKind {
             _ => missed(alloc),
         }
     }
+}
+
+impl Json for DependencyKind {
+    ghost writes = { dependency_kind_data };
+
+    ghost height = { 0 };
 
     fn write(&self, alloc: Global) -> Result<Value, AllocError> {
         Ok(Value::String(String::from_str(alloc, self.as_str())?))
     }
+
+    ghost round_trips = { dependency_kind-round_trips };
 }
 
 impl Edition {
@@ -314,15 +311,12 @@ impl TryClone for Edition {
 }
 
 #[tactic(auto, unfolding(crate::specs::Kinds::edition_of))]
-impl Json for Edition {
-    ghost reads = { edition_at };
+impl TextJson for Edition {
+    ghost of_text = { edition_of };
 
-    ghost writes = { edition_data };
+    ghost text_of = { edition_text };
 
-    fn read(alloc: Global, value: &Value) -> Result<Edition, ReadError> {
-        let Some(text) = value.as_str() else {
-            return missed(alloc);
-        };
+    fn read_text(alloc: Global, text: &str) -> Result<Edition, ReadError> {
         match text {
             "2015" => Ok(Edition::E2015),
             "2018" => Ok(Edition::E2018),
@@ -334,11 +328,9 @@ impl Json for Edition {
         }
     }
 
-    fn write(&self, alloc: Global) -> Result<Value, AllocError> {
-        Ok(Value::String(String::from_str(alloc, self.as_str())?))
+    fn write_text(&self, alloc: Global) -> Result<String, AllocError> {
+        String::from_str(alloc, self.as_str())
     }
-}
 
-impl Present for Edition {
-    ghost present = { λ x. refl };
+    ghost again = { edition-again };
 }

@@ -11,20 +11,23 @@ pub mod kinds;
 pub mod metadata;
 pub mod names;
 pub mod package;
-mod package_parts;
+mod package_rows;
 mod printed;
 pub mod resolve;
 pub mod select;
 pub mod target;
 mod words;
 
+pub use base_text::Version;
 pub use command::{CargoOpt, MetadataCommand};
 pub use dependency::Dependency;
 pub use errors::Error;
-pub use json_fields::{AnyValue, BareError, Requirement, Version, bare_version};
+pub use json_fields::{AnyValue, BareError, Requirement, bare_version};
 pub use kinds::{CrateType, DependencyKind, Edition, TargetKind};
 pub use metadata::{Metadata, WorkspaceDefaultMembers};
-pub use names::{FeatureName, PackageId, PackageName, Source, names_compare_as_texts};
+pub use names::{
+    FeatureName, FeatureTag, PackageId, PackageName, PackageTag, Source, names_compare_as_texts,
+};
 pub use package::Package;
 pub use resolve::{DepKindInfo, Node, NodeDep, Resolve};
 pub use target::Target;

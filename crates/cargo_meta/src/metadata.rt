@@ -1,21 +1,20 @@
 //! The document of `cargo metadata`, read by its tables and written again.
 
-ghost use Rattle.std.specs.Prelude.{◌≡◌, false, IfOk, Ok, Some, IsSome, is_none, is_some, OnOk};
-ghost use Rattle.serde_json.specs.View.{members_view, view};
-ghost use Rattle.serde_json.specs.Written.{members_have_float};
-ghost use Rattle.json_fields.specs.Document.{IsWholeAgain, whole};
+ghost use Rattle.std.specs.Prelude.{◌≡◌, Some, IsSome, is_none, is_some};
+ghost use Rattle.serde_json.specs.View.{members_view};
 ghost use Rattle.json_fields.specs.Fields.{list_at, option_at};
 ghost use Rattle.json_fields.specs.Outcome.{Gives};
 ghost use Rattle.json_fields.specs.Written.{list_data, option_data};
 ghost use Rattle.cargo_meta.specs.Names.{package_id_at, package_id_data};
-ghost use Rattle.cargo_meta.specs.Metadata.{metadata_at, metadata_data, metadata_from, metadata_members};
+ghost use Rattle.cargo_meta.specs.Metadata.{metadata_at, metadata_data, metadata_from};
 
 use crate::names::PackageId;
 use crate::package::Package;
 use crate::resolve::Resolve;
 use base_text::{Items, Text, TryClone};
 use json_fields::{
-    AnyValue, Json, ReadError, defaulted, members, optional, required, set, set_unless_null,
+    AnyValue, Json, ReadError, ReadJson, defaulted, members, optional, required, set,
+    set_unless_null,
 };
 use serde_json::{Map, Value};
 use std::alloc::{AllocError, Global};
@@ -88,20 +87,28 @@ impl TryClone for WorkspaceDefaultMembers {
     }
 }
 
-impl Json for WorkspaceDefaultMembers {
+impl ReadJson for WorkspaceDefaultMembers {
     ghost reads = { option_at (list_at package_id_at) };
-
-    ghost writes = { option_data (list_data package_id_data) };
 
     fn read(alloc: Global, value: &Value) -> Result<WorkspaceDefaultMembers, ReadError> {
         Ok(WorkspaceDefaultMembers {
             ids: Option::read(alloc, value)?,
         })
     }
+}
+
+impl Json for WorkspaceDefaultMembers {
+    ghost use Rattle.cargo_meta.specs.laws.DefaultMembers.{default_members-round_trips};
+
+    ghost writes = { option_data (list_data package_id_data) };
+
+    ghost height = { 0 };
 
     fn write(&self, alloc: Global) -> Result<Value, AllocError> {
         self.ids.write(alloc)
     }
+
+    ghost round_trips = { default_members-round_trips };
 }
 
 /// The document of a workspace: its packages, and what they resolve to.
@@ -134,18 +141,24 @@ impl TryClone for Metadata {
     }
 }
 
-#[tactic(auto, unfolding(crate::specs::Metadata::metadata_at, crate::specs::Metadata::metadata_data))]
-impl Json for Metadata {
+#[tactic(auto, unfolding(crate::specs::Metadata::metadata_at))]
+impl ReadJson for Metadata {
     ghost reads = { metadata_at };
-
-    ghost writes = { metadata_data };
 
     fn read(alloc: Global, value: &Value) -> Result<Metadata, ReadError> {
         let fields = members(alloc, value)?;
         read_metadata(alloc, fields)
     }
+}
 
-    #[tactic(auto, unfolding(crate::specs::Metadata::metadata_data, crate::specs::Metadata::metadata_members))]
+#[tactic(auto, unfolding(crate::specs::Metadata::metadata_data, crate::specs::Metadata::metadata_members))]
+impl Json for Metadata {
+    ghost use Rattle.cargo_meta.specs.laws.Metadata.{metadata-round_trips};
+
+    ghost writes = { metadata_data };
+
+    ghost height = { 7 };
+
     fn write(&self, alloc: Global) -> Result<Value, AllocError> {
         let mut fields = Map::new(alloc);
         set(alloc, &mut fields, "packages", &self.packages)?;
@@ -175,14 +188,13 @@ impl Json for Metadata {
         set(alloc, &mut fields, "version", &self.version)?;
         Ok(Value::Object(fields))
     }
+
+    ghost round_trips = { metadata-round_trips };
 }
 
 #[tactic(auto, unfolding(crate::specs::Metadata::metadata_from, json_fields::specs::Fields::required, json_fields::specs::Fields::optional, json_fields::specs::Fields::defaulted))]
 fn read_metadata(alloc: Global, fields: &Map<String, Value>) -> Result<Metadata, ReadError>
     ensures exact { Gives result (metadata_from (members_view fields.now.entries)) }
-    ensures again { IfOk result (λ m. metadata_from (metadata_members m) ≡ Ok m) }
-    ensures clean { members_have_float (members_view fields.now.entries) ≡ false
-        → IfOk result (λ m. members_have_float (metadata_members m) ≡ false) }
 {
     let packages = required(alloc, fields, "packages")?;
     let workspace_members = required(alloc, fields, "workspace_members")?;

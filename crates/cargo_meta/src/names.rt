@@ -1,20 +1,16 @@
 //! The names of packages and features, and the ids and sources of packages.
 
-ghost use Rattle.std.specs.Prelude.{◌≡◌, ℕ, List, IfOk, bytes_eq, refl};
+ghost use Rattle.std.specs.Prelude.{◌≡◌, ℕ, List, bytes_eq, refl};
 ghost use Rattle.std.specs.Cmp.Lexicographic.{slice_cmp};
 ghost use Rattle.std.specs.Hash as fed;
 ghost use Rattle.std.specs.Ordering.{nat_cmp};
-ghost use Rattle.serde_json.specs.Data.{string};
-ghost use Rattle.json_fields.specs.Fields.{text_at};
-ghost use Rattle.cargo_meta.specs.Names.{is_crates_io, package_id_at, package_id_data, source_at, source_data};
+ghost use Rattle.cargo_meta.specs.Names.{is_crates_io, package_id_of, package_id_text, source_of, source_text};
 
-use base_text::{Text, TryClone};
-use json_fields::{Json, Present, ReadError};
-use serde_json::Value;
+use base_text::{Name, Text, TryClone};
+use json_fields::{ReadError, TextJson};
 use std::alloc::{AllocError, Global};
 use std::fmt;
 use std::hash::Hash;
-use std::marker::Model;
 
 /// Names and ids are equal, ordered and hashed as their texts.
 pub fn names_compare_as_texts()
@@ -29,167 +25,17 @@ pub fn names_compare_as_texts()
     ensures id_hash { (x : PackageId) → ⟦<PackageId as Hash>⟧.hash_input x ≡ fed.str x.repr }
 {}
 
+/// What `PackageName` names.
+pub struct PackageTag;
+
+/// What `FeatureName` names.
+pub struct FeatureTag;
+
 /// The name of a package, seen as its text.
-#[derive(Debug, PartialEq, Eq, PartialOrd, Ord, Hash, Drop)]
-pub struct PackageName {
-    name: Text,
-}
-
-impl Model for PackageName {
-    ghost use Rattle.std.specs.Prelude.{ℕ, List};
-
-    ghost Value = { List ℕ };
-
-    ghost view = { λ a. a.name };
-
-    ghost inverse = { λ text. record { name = text } };
-}
-
-impl PackageName {
-    pub fn new(name: Text) -> Self
-        ensures { result ≡ name }
-    {
-        PackageName { name }
-    }
-
-    pub fn into_inner(self) -> Text
-        ensures { result ≡ self }
-    {
-        self.name
-    }
-
-    pub fn as_str(&self) -> &str
-        ensures { result.now ≡ self.now }
-    {
-        self.name.as_str()
-    }
-
-    /// Whether the name is that text.
-    pub fn eq_str(&self, other: &str) -> bool
-        ensures { result ≡ bytes_eq self.now other.now }
-    {
-        self.name.as_str() == other
-    }
-}
-
-impl TryClone for PackageName {
-    fn try_clone(&self, alloc: Global) -> Result<Self, AllocError> {
-        Ok(PackageName {
-            name: self.name.try_clone(alloc)?,
-        })
-    }
-}
-
-impl Json for PackageName {
-    ghost reads = { text_at };
-
-    ghost writes = { string };
-
-    fn read(alloc: Global, value: &Value) -> Result<PackageName, ReadError> {
-        Ok(PackageName {
-            name: Text::read(alloc, value)?,
-        })
-    }
-
-    fn write(&self, alloc: Global) -> Result<Value, AllocError> {
-        self.name.write(alloc)
-    }
-}
-
-impl Present for PackageName {
-    ghost present = { λ x. refl };
-}
-
-impl fmt::Display for PackageName {
-    ghost use Rattle.std.specs.Prelude.{Some};
-
-    ghost output = { Some };
-
-    fn fmt<W: fmt::Write>(&self, f: &mut fmt::Formatter<W>) -> fmt::Result {
-        f.pad(self.name.as_str())
-    }
-}
+pub type PackageName = Name<PackageTag>;
 
 /// The name of a feature, seen as its text.
-#[derive(Debug, PartialEq, Eq, PartialOrd, Ord, Hash, Drop)]
-pub struct FeatureName {
-    name: Text,
-}
-
-impl Model for FeatureName {
-    ghost use Rattle.std.specs.Prelude.{ℕ, List};
-
-    ghost Value = { List ℕ };
-
-    ghost view = { λ a. a.name };
-
-    ghost inverse = { λ text. record { name = text } };
-}
-
-impl FeatureName {
-    pub fn new(name: Text) -> Self
-        ensures { result ≡ name }
-    {
-        FeatureName { name }
-    }
-
-    pub fn into_inner(self) -> Text
-        ensures { result ≡ self }
-    {
-        self.name
-    }
-
-    pub fn as_str(&self) -> &str
-        ensures { result.now ≡ self.now }
-    {
-        self.name.as_str()
-    }
-
-    /// Whether the name is that text.
-    pub fn eq_str(&self, other: &str) -> bool
-        ensures { result ≡ bytes_eq self.now other.now }
-    {
-        self.name.as_str() == other
-    }
-}
-
-impl TryClone for FeatureName {
-    fn try_clone(&self, alloc: Global) -> Result<Self, AllocError> {
-        Ok(FeatureName {
-            name: self.name.try_clone(alloc)?,
-        })
-    }
-}
-
-impl Json for FeatureName {
-    ghost reads = { text_at };
-
-    ghost writes = { string };
-
-    fn read(alloc: Global, value: &Value) -> Result<FeatureName, ReadError> {
-        Ok(FeatureName {
-            name: Text::read(alloc, value)?,
-        })
-    }
-
-    fn write(&self, alloc: Global) -> Result<Value, AllocError> {
-        self.name.write(alloc)
-    }
-}
-
-impl Present for FeatureName {
-    ghost present = { λ x. refl };
-}
-
-impl fmt::Display for FeatureName {
-    ghost use Rattle.std.specs.Prelude.{Some};
-
-    ghost output = { Some };
-
-    fn fmt<W: fmt::Write>(&self, f: &mut fmt::Formatter<W>) -> fmt::Result {
-        f.pad(self.name.as_str())
-    }
-}
+pub type FeatureName = Name<FeatureTag>;
 
 /// An id that `cargo` gives a package, whose form it does not promise.
 #[derive(Debug, PartialEq, Eq, PartialOrd, Ord, Hash, Drop)]
@@ -205,24 +51,22 @@ impl TryClone for PackageId {
     }
 }
 
-impl Json for PackageId {
-    ghost reads = { package_id_at };
+impl TextJson for PackageId {
+    ghost of_text = { package_id_of };
 
-    ghost writes = { package_id_data };
+    ghost text_of = { package_id_text };
 
-    fn read(alloc: Global, value: &Value) -> Result<PackageId, ReadError> {
+    fn read_text(alloc: Global, text: &str) -> Result<PackageId, ReadError> {
         Ok(PackageId {
-            repr: Text::read(alloc, value)?,
+            repr: Text::of_str(alloc, text)?,
         })
     }
 
-    fn write(&self, alloc: Global) -> Result<Value, AllocError> {
-        self.repr.write(alloc)
+    fn write_text(&self, alloc: Global) -> Result<String, AllocError> {
+        String::from_str(alloc, self.repr.as_str())
     }
-}
 
-impl Present for PackageId {
-    ghost present = { λ x. refl };
+    ghost again = { λ text. refl };
 }
 
 impl fmt::Display for PackageId {
@@ -258,24 +102,22 @@ impl TryClone for Source {
     }
 }
 
-impl Json for Source {
-    ghost reads = { source_at };
+impl TextJson for Source {
+    ghost of_text = { source_of };
 
-    ghost writes = { source_data };
+    ghost text_of = { source_text };
 
-    fn read(alloc: Global, value: &Value) -> Result<Source, ReadError> {
+    fn read_text(alloc: Global, text: &str) -> Result<Source, ReadError> {
         Ok(Source {
-            repr: Text::read(alloc, value)?,
+            repr: Text::of_str(alloc, text)?,
         })
     }
 
-    fn write(&self, alloc: Global) -> Result<Value, AllocError> {
-        self.repr.write(alloc)
+    fn write_text(&self, alloc: Global) -> Result<String, AllocError> {
+        String::from_str(alloc, self.repr.as_str())
     }
-}
 
-impl Present for Source {
-    ghost present = { λ x. refl };
+    ghost again = { λ text. refl };
 }
 
 impl fmt::Display for Source {

@@ -1,25 +1,17 @@
 //! A package: one manifest with its targets and what it depends on.
 
-ghost use Rattle.std.specs.Prelude.{◌≡◌, false, IfOk, Ok, option_map};
-ghost use Rattle.serde_json.specs.View.{members_view};
-ghost use Rattle.serde_json.specs.Written.{members_have_float};
-ghost use Rattle.json_fields.specs.Outcome.{Gives};
+ghost use Rattle.std.specs.Prelude.{◌≡◌, IfOk, option_map};
 ghost use Rattle.cargo_meta.specs.Beside.{beside};
 ghost use Rattle.cargo_meta.specs.NewPackage.{new_package};
-ghost use Rattle.cargo_meta.specs.Package as parts;
-ghost use Rattle.cargo_meta.specs.Package.{package_from, package_members};
 
 use crate::beside::beside;
 use crate::dependency::Dependency;
 use crate::kinds::Edition;
 use crate::names::{PackageId, PackageName, Source};
-use crate::package_parts::{
-    PackageBody, PackageHead, PackageTail, copy_body, copy_head, copy_tail, read_body, read_head,
-    read_tail, set_body, set_head, set_tail,
-};
+use crate::package_rows::{read_body, read_head, read_tail, set_body, set_head, set_tail};
 use crate::target::Target;
-use base_text::{ByText, Items, Text, TryClone};
-use json_fields::{AnyValue, BareVersion, Json, Present, ReadError, Version, members};
+use base_text::{ByText, Items, Text, TryClone, Version};
+use json_fields::{AnyValue, Json, Present, ReadError, ReadJson, members};
 use serde_json::{Map, Value};
 use std::alloc::{AllocError, Global};
 
@@ -116,27 +108,58 @@ impl Package {
 
 impl TryClone for Package {
     fn try_clone(&self, alloc: Global) -> Result<Self, AllocError> {
-        let head = copy_head(alloc, self)?;
-        let body = copy_body(alloc, self)?;
-        let tail = copy_tail(alloc, self)?;
-        Ok(package_of(head, body, tail))
+        Ok(Package {
+            name: self.name.try_clone(alloc)?,
+            version: self.version.try_clone(alloc)?,
+            authors: self.authors.try_clone(alloc)?,
+            id: self.id.try_clone(alloc)?,
+            source: self.source.try_clone(alloc)?,
+            description: self.description.try_clone(alloc)?,
+            dependencies: self.dependencies.try_clone(alloc)?,
+            license: self.license.try_clone(alloc)?,
+            license_file: self.license_file.try_clone(alloc)?,
+            targets: self.targets.try_clone(alloc)?,
+            features: self.features.try_clone(alloc)?,
+            manifest_path: self.manifest_path.try_clone(alloc)?,
+            categories: self.categories.try_clone(alloc)?,
+            keywords: self.keywords.try_clone(alloc)?,
+            readme: self.readme.try_clone(alloc)?,
+            repository: self.repository.try_clone(alloc)?,
+            homepage: self.homepage.try_clone(alloc)?,
+            documentation: self.documentation.try_clone(alloc)?,
+            edition: self.edition,
+            metadata: self.metadata.try_clone(alloc)?,
+            links: self.links.try_clone(alloc)?,
+            publish: self.publish.try_clone(alloc)?,
+            default_run: self.default_run.try_clone(alloc)?,
+            rust_version: self.rust_version.try_clone(alloc)?,
+        })
     }
 }
 
-impl Json for Package {
-    ghost use Rattle.cargo_meta.specs.Package.{package_at, package_data};
+#[tactic(auto, unfolding(crate::specs::Package::package_at, crate::specs::Package::package_from))]
+impl ReadJson for Package {
+    ghost use Rattle.cargo_meta.specs.Package.{package_at};
 
     ghost reads = { package_at };
 
-    ghost writes = { package_data };
-
-    #[tactic(auto, unfolding(crate::specs::Package::package_at, crate::specs::Package::package_data))]
     fn read(alloc: Global, value: &Value) -> Result<Package, ReadError> {
         let fields = members(alloc, value)?;
-        read_package(alloc, fields)
+        let head = read_head(alloc, fields)?;
+        let body = read_body(alloc, fields, head)?;
+        read_tail(alloc, fields, body)
     }
+}
 
-    #[tactic(auto, unfolding(crate::specs::Package::package_data, crate::specs::Package::package_members))]
+#[tactic(auto, unfolding(crate::specs::Package::package_data, crate::specs::Package::package_members))]
+impl Json for Package {
+    ghost use Rattle.cargo_meta.specs.Package.{package_data};
+    ghost use Rattle.cargo_meta.specs.laws.Package.{package-round_trips};
+
+    ghost writes = { package_data };
+
+    ghost height = { 4 };
+
     fn write(&self, alloc: Global) -> Result<Value, AllocError> {
         let mut fields = Map::new(alloc);
         set_tail(alloc, &mut fields, self)?;
@@ -144,63 +167,12 @@ impl Json for Package {
         set_head(alloc, &mut fields, self)?;
         Ok(Value::Object(fields))
     }
+
+    ghost round_trips = { package-round_trips };
 }
 
 impl Present for Package {
     ghost use Rattle.cargo_meta.specs.Package.{package_data-present};
 
     ghost present = { package_data-present };
-}
-
-#[tactic(auto, unfolding(crate::specs::Package::package_from))]
-fn read_package(alloc: Global, fields: &Map<String, Value>) -> Result<Package, ReadError>
-    ensures exact { Gives result (package_from (members_view fields.now.entries)) }
-    ensures again { IfOk result (λ p. package_from (package_members p) ≡ Ok p) }
-    ensures clean { members_have_float (members_view fields.now.entries) ≡ false
-        → IfOk result (λ p. members_have_float (package_members p) ≡ false) }
-{
-    let head = read_head(alloc, fields)?;
-    let body = read_body(alloc, fields)?;
-    let tail = read_tail(alloc, fields)?;
-    Ok(package_of(head, body, tail))
-}
-
-fn package_of(head: PackageHead, body: PackageBody, tail: PackageTail) -> Package
-    ensures { result ≡ parts.package_of head body tail }
-{
-    Package {
-        name: head.name,
-        version: head.version,
-        authors: head.authors,
-        id: head.id,
-        source: head.source,
-        description: head.description,
-        dependencies: head.dependencies,
-        license: head.license,
-        license_file: body.license_file,
-        targets: body.targets,
-        features: body.features,
-        manifest_path: body.manifest_path,
-        categories: body.categories,
-        keywords: body.keywords,
-        readme: body.readme,
-        repository: body.repository,
-        homepage: tail.homepage,
-        documentation: tail.documentation,
-        edition: tail.edition,
-        metadata: tail.metadata,
-        links: tail.links,
-        publish: tail.publish,
-        default_run: tail.default_run,
-        rust_version: plain(tail.rust_version),
-    }
-}
-
-fn plain(version: Option<BareVersion>) -> Option<Version>
-    ensures { result ≡ version }
-{
-    match version {
-        Some(version) => Some(version.into_inner()),
-        None => None,
-    }
 }

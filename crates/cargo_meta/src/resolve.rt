@@ -6,7 +6,7 @@ ghost use Rattle.cargo_meta.specs.Resolve.{node_of};
 use crate::kinds::DependencyKind;
 use crate::names::{FeatureName, PackageId};
 use base_text::{Items, Text, TryClone};
-use json_fields::{Json, Present, ReadError, listed, members, optional, required, set};
+use json_fields::{Json, Present, ReadError, ReadJson, listed, members, optional, required, set};
 use serde_json::{Map, Value};
 use std::alloc::{AllocError, Global};
 use std::ops::Index;
@@ -108,13 +108,11 @@ impl TryClone for Resolve {
     }
 }
 
-#[tactic(auto, unfolding(crate::specs::Kinds::dependency_kind_of, crate::specs::Resolve::dep_kind_at, crate::specs::Resolve::dep_kind_data, json_fields::specs::Fields::required, json_fields::specs::Fields::optional, json_fields::specs::Written::set_member))]
-impl Json for DepKindInfo {
-    ghost use Rattle.cargo_meta.specs.Resolve.{dep_kind_at, dep_kind_data};
+#[tactic(auto, unfolding(crate::specs::Kinds::dependency_kind_of, crate::specs::Resolve::dep_kind_at, json_fields::specs::Fields::required, json_fields::specs::Fields::optional))]
+impl ReadJson for DepKindInfo {
+    ghost use Rattle.cargo_meta.specs.Resolve.{dep_kind_at};
 
     ghost reads = { dep_kind_at };
-
-    ghost writes = { dep_kind_data };
 
     fn read(alloc: Global, value: &Value) -> Result<DepKindInfo, ReadError> {
         let fields = members(alloc, value)?;
@@ -123,6 +121,16 @@ impl Json for DepKindInfo {
             target: optional(alloc, fields, "target")?,
         })
     }
+}
+
+#[tactic(auto, unfolding(crate::specs::Resolve::dep_kind_data, json_fields::specs::Written::set_member))]
+impl Json for DepKindInfo {
+    ghost use Rattle.cargo_meta.specs.Resolve.{dep_kind_data};
+    ghost use Rattle.cargo_meta.specs.laws.Resolve.{dep_kind-round_trips};
+
+    ghost writes = { dep_kind_data };
+
+    ghost height = { 0 };
 
     fn write(&self, alloc: Global) -> Result<Value, AllocError> {
         let mut fields = Map::new(alloc);
@@ -130,15 +138,15 @@ impl Json for DepKindInfo {
         set(alloc, &mut fields, "target", &self.target)?;
         Ok(Value::Object(fields))
     }
+
+    ghost round_trips = { dep_kind-round_trips };
 }
 
-#[tactic(auto, unfolding(crate::specs::Resolve::node_dep_at, crate::specs::Resolve::node_dep_data, json_fields::specs::Fields::required, json_fields::specs::Fields::defaulted, json_fields::specs::Written::set_member))]
-impl Json for NodeDep {
-    ghost use Rattle.cargo_meta.specs.Resolve.{node_dep_at, node_dep_data};
+#[tactic(auto, unfolding(crate::specs::Resolve::node_dep_at, json_fields::specs::Fields::required, json_fields::specs::Fields::defaulted))]
+impl ReadJson for NodeDep {
+    ghost use Rattle.cargo_meta.specs.Resolve.{node_dep_at};
 
     ghost reads = { node_dep_at };
-
-    ghost writes = { node_dep_data };
 
     fn read(alloc: Global, value: &Value) -> Result<NodeDep, ReadError> {
         let fields = members(alloc, value)?;
@@ -148,6 +156,16 @@ impl Json for NodeDep {
             dep_kinds: listed(alloc, fields, "dep_kinds")?,
         })
     }
+}
+
+#[tactic(auto, unfolding(crate::specs::Resolve::node_dep_data, json_fields::specs::Written::set_member))]
+impl Json for NodeDep {
+    ghost use Rattle.cargo_meta.specs.Resolve.{node_dep_data};
+    ghost use Rattle.cargo_meta.specs.laws.Resolve.{node_dep-round_trips};
+
+    ghost writes = { node_dep_data };
+
+    ghost height = { 2 };
 
     fn write(&self, alloc: Global) -> Result<Value, AllocError> {
         let mut fields = Map::new(alloc);
@@ -156,15 +174,15 @@ impl Json for NodeDep {
         set(alloc, &mut fields, "dep_kinds", &self.dep_kinds)?;
         Ok(Value::Object(fields))
     }
+
+    ghost round_trips = { node_dep-round_trips };
 }
 
-#[tactic(auto, unfolding(crate::specs::Resolve::node_at, crate::specs::Resolve::node_data, json_fields::specs::Fields::required, json_fields::specs::Fields::defaulted, json_fields::specs::Written::set_member))]
-impl Json for Node {
-    ghost use Rattle.cargo_meta.specs.Resolve.{node_at, node_data};
+#[tactic(auto, unfolding(crate::specs::Resolve::node_at, json_fields::specs::Fields::required, json_fields::specs::Fields::defaulted))]
+impl ReadJson for Node {
+    ghost use Rattle.cargo_meta.specs.Resolve.{node_at};
 
     ghost reads = { node_at };
-
-    ghost writes = { node_data };
 
     fn read(alloc: Global, value: &Value) -> Result<Node, ReadError> {
         let fields = members(alloc, value)?;
@@ -175,6 +193,16 @@ impl Json for Node {
             features: listed(alloc, fields, "features")?,
         })
     }
+}
+
+#[tactic(auto, unfolding(crate::specs::Resolve::node_data, json_fields::specs::Written::set_member))]
+impl Json for Node {
+    ghost use Rattle.cargo_meta.specs.Resolve.{node_data};
+    ghost use Rattle.cargo_meta.specs.laws.Resolve.{node-round_trips};
+
+    ghost writes = { node_data };
+
+    ghost height = { 4 };
 
     fn write(&self, alloc: Global) -> Result<Value, AllocError> {
         let mut fields = Map::new(alloc);
@@ -184,15 +212,15 @@ impl Json for Node {
         set(alloc, &mut fields, "features", &self.features)?;
         Ok(Value::Object(fields))
     }
+
+    ghost round_trips = { node-round_trips };
 }
 
-#[tactic(auto, unfolding(crate::specs::Resolve::resolve_at, crate::specs::Resolve::resolve_data, json_fields::specs::Fields::required, json_fields::specs::Fields::optional, json_fields::specs::Written::set_member))]
-impl Json for Resolve {
-    ghost use Rattle.cargo_meta.specs.Resolve.{resolve_at, resolve_data};
+#[tactic(auto, unfolding(crate::specs::Resolve::resolve_at, json_fields::specs::Fields::required, json_fields::specs::Fields::optional))]
+impl ReadJson for Resolve {
+    ghost use Rattle.cargo_meta.specs.Resolve.{resolve_at};
 
     ghost reads = { resolve_at };
-
-    ghost writes = { resolve_data };
 
     fn read(alloc: Global, value: &Value) -> Result<Resolve, ReadError> {
         let fields = members(alloc, value)?;
@@ -201,6 +229,16 @@ impl Json for Resolve {
             root: optional(alloc, fields, "root")?,
         })
     }
+}
+
+#[tactic(auto, unfolding(crate::specs::Resolve::resolve_data, json_fields::specs::Written::set_member))]
+impl Json for Resolve {
+    ghost use Rattle.cargo_meta.specs.Resolve.{resolve_data};
+    ghost use Rattle.cargo_meta.specs.laws.Resolve.{resolve-round_trips};
+
+    ghost writes = { resolve_data };
+
+    ghost height = { 6 };
 
     fn write(&self, alloc: Global) -> Result<Value, AllocError> {
         let mut fields = Map::new(alloc);
@@ -208,6 +246,8 @@ impl Json for Resolve {
         set(alloc, &mut fields, "root", &self.root)?;
         Ok(Value::Object(fields))
     }
+
+    ghost round_trips = { resolve-round_trips };
 }
 
 impl Present for Resolve {

@@ -8,10 +8,12 @@ ghost use Rattle.cargo_meta.specs.Errors.{GivesDocument};
 ghost use Rattle.cargo_meta.specs.Target.{target_at, target_data};
 ghost use Rattle.cargo_meta.specs.declared.kinds.TargetKind.{TargetKind};
 
-use crate::errors::{Error, document};
+use crate::errors::{Error, as_error};
 use crate::kinds::{CrateType, Edition, TargetKind};
 use base_text::{Items, Text, TryClone};
-use json_fields::{Json, Present, ReadError, defaulted, listed, members, of_value, required, set};
+use json_fields::{
+    Json, Present, ReadError, ReadJson, defaulted, listed, members, of_value, required, set,
+};
 use serde_json::{Map, Value};
 use std::alloc::{AllocError, Global};
 
@@ -35,7 +37,7 @@ impl Target {
         ensures exact { GivesDocument result (whole target_at (view value.now)) }
         ensures again { IfOk result (IsWholeAgain target_at target_data) }
     {
-        document(of_value(alloc, value))
+        as_error(of_value(alloc, value))
     }
 
     /// Writes every field.
@@ -135,13 +137,11 @@ impl TryClone for Target {
     }
 }
 
-#[tactic(auto, unfolding(crate::specs::Kinds::edition_of, crate::specs::Target::target_at, crate::specs::Target::target_data, json_fields::specs::Fields::required, json_fields::specs::Fields::optional, json_fields::specs::Fields::defaulted, json_fields::specs::Written::set_member))]
-impl Json for Target {
-    ghost use Rattle.cargo_meta.specs.Target.{target_at, target_data};
+#[tactic(auto, unfolding(crate::specs::Kinds::edition_of, crate::specs::Target::target_at, json_fields::specs::Fields::required, json_fields::specs::Fields::optional, json_fields::specs::Fields::defaulted))]
+impl ReadJson for Target {
+    ghost use Rattle.cargo_meta.specs.Target.{target_at};
 
     ghost reads = { target_at };
-
-    ghost writes = { target_data };
 
     fn read(alloc: Global, value: &Value) -> Result<Target, ReadError> {
         let fields = members(alloc, value)?;
@@ -157,6 +157,16 @@ impl Json for Target {
             doc: defaulted(alloc, fields, "doc", true)?,
         })
     }
+}
+
+#[tactic(auto, unfolding(crate::specs::Target::target_data, json_fields::specs::Written::set_member))]
+impl Json for Target {
+    ghost use Rattle.cargo_meta.specs.Target.{target_data};
+    ghost use Rattle.cargo_meta.specs.laws.Target.{target-round_trips};
+
+    ghost writes = { target_data };
+
+    ghost height = { 2 };
 
     fn write(&self, alloc: Global) -> Result<Value, AllocError> {
         let mut fields = Map::new(alloc);
@@ -176,6 +186,8 @@ impl Json for Target {
         set(alloc, &mut fields, "doc", &self.doc)?;
         Ok(Value::Object(fields))
     }
+
+    ghost round_trips = { target-round_trips };
 }
 
 impl Present for Target {

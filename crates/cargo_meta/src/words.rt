@@ -1,11 +1,11 @@
 //! The words of a command, one after another, each where it is set.
 
 ghost use Rattle.std.specs.Prelude.{◌≡◌, ◌∷◌, [], ◌++◌, IfOk, OnErr, OnOk, codes, string_bytes, unwrap_or};
-ghost use Rattle.base_text.specs.ByText.{HasAscendingKeys};
+ghost use Rattle.base_values.specs.ByText.{HasAscendingKeys};
 ghost use Rattle.cargo_meta.specs.Command as spec;
-ghost use Rattle.cargo_meta.specs.Command.{feature_words, flag_word, option_words, variables_of};
+ghost use Rattle.cargo_meta.specs.Command.{feature_words, flag_word, option_words};
 
-use base_text::{ByText, Items, Text, TryClone, Variable};
+use base_text::{ByText, Items, Text, TryClone};
 use std::alloc::{AllocError, Global};
 
 /// A copy of the text, or of another where there is none.
@@ -123,15 +123,15 @@ pub(crate) fn push_all(
 pub(crate) fn variables(
     alloc: Global,
     env: &ByText<Option<Text>>,
-) -> Result<Items<Variable>, AllocError>
-    ensures variables { IfOk result (λ variables. variables ≡ variables_of env.now) }
+) -> Result<Items<(Text, Option<Text>)>, AllocError>
+    ensures variables { IfOk result (λ variables. variables ≡ env.now) }
     ensures ascending { OnOk result (HasAscendingKeys env.now) }
 {
     let mut variables = Vec::with_capacity(alloc, env.len())?;
     for (name, value) in env.as_map().iter() {
         let name = Text::of_str(alloc, name.as_str())?;
         let value = value.try_clone(alloc)?;
-        variables.push(Variable { name, value })?;
+        variables.push((name, value))?;
     }
     Ok(Items::new(variables))
 }

@@ -12,9 +12,9 @@ use Rattle.serde_json.specs.Data.{Data, Members, no_members, member, put}
 use Rattle.serde_json.specs.View.{view, members_view}
 use Rattle.serde_json.specs.Written.{has_float, members_have_float}
 use Rattle.serde_json.specs.declared.value.Value.{Value}
-use Rattle.base_text.specs.ByText.{HasAscendingKeys, IsAboveKeys, text_cmp, text_entries}
-use Rattle.base_text.proofs.TextMaps.{text_entries-ascending}
-use Rattle.json_fields.proofs.Parts.{first_of_none, rest_of_none}
+use Rattle.base_values.specs.ByText.{HasAscendingKeys, IsAboveKeys, text_cmp, text_entries}
+use Rattle.base_values.proofs.TextMaps.{text_entries-ascending}
+use Rattle.json_fields.specs.Laws.Parts.{first_of_none, rest_of_none}
 use Rattle.json_fields.specs.Fields.{members_from, under}
 use Rattle.json_fields.specs.Outcome.{Reading, ◌>>=◌, HasNoFloat, IsReadAgain, below_key}
 use Rattle.json_fields.specs.Written.{entries_data, set_member}
@@ -38,17 +38,7 @@ module _ {T : Type 0} where
   under-more front x (Ok xs) = ap Ok (sym (append_assoc front (x ∷ []) xs))
   under-more front x (Err p) = refl
 
-module _ {T : Type 0} (reads : Data → Reading T) (writes : T → Data) where
-  pub members_from-again : (es : List (List ℕ × T)) → All (λ e. IsReadAgain reads writes e.1) es → members_from reads (entries_data writes es) ≡ Ok es
-  members_from-again [] h = refl
-  members_from-again (e ∷ es) h =
-      rw (All-head (λ e. IsReadAgain reads writes e.1) e es h, members_from-again es (All-tail (λ e. IsReadAgain reads writes e.1) e es h))
-
-  pub entries_data-no_float : (es : List (List ℕ × T)) → All (λ e. HasNoFloat writes e.1) es → members_have_float (entries_data writes es) ≡ false
-  entries_data-no_float [] h = refl
-  entries_data-no_float (e ∷ es) h =
-      rw (All-head (λ e. HasNoFloat writes e.1) e es h, entries_data-no_float es (All-tail (λ e. HasNoFloat writes e.1) e es h))
-
+module _ {T : Type 0} (writes : T → Data) where
   -- a key above all others is written last
   pub set_member-last : (es : List (List ℕ × T)) (k : List ℕ) (x : T) → IsAboveKeys k es → set_member k (writes x) (entries_data writes es) ≡ entries_data writes (es ++ (k, x) ∷ [])
   unfolding set_member
@@ -57,27 +47,23 @@ module _ {T : Type 0} (reads : Data → Reading T) (writes : T → Data) where
       let above : slice_cmp nat_cmp k e.0 ≡ Greater = nat_list_cmp_total.antisymm k e.0 ∙ ap ordering_reverse h.0 in
       rw above (ap (member e.0 (writes e.1)) (set_member-last es k x h.1))
 
+module _ {T : Type 0} (reads : Data → Reading T) where
   -- the map found so far, of the members all of which those that are left are the last
   pub record IsReadSoFar (all left : List (String Global × Value)) (found : List (List ℕ × T)) : Type 0 where
     pub so_far : members_from reads (members_view all) ≡ under (λ es. found ++ es) (members_from reads (members_view left))
     pub ascending : IsStrictlySortedBy text_cmp (keys_of found ++ keys_of (text_entries left))
-    pub again : All (λ e. IsReadAgain reads writes e.1) found
-    pub clean : members_have_float (members_view all) ≡ false → (members_have_float (members_view left) ≡ false) × All (λ e. HasNoFloat writes e.1) found
 
   pub IsReadSoFar-none : (all : List (String Global × Value)) → IsStrictlySortedBy string_cmp (keys_of all) → IsReadSoFar all all []
   IsReadSoFar-none all ordered = record {
     so_far = under-id (members_from reads (members_view all));
     ascending = text_entries-ascending all ordered;
-    again = All-nil (λ e. IsReadAgain reads writes e.1);
-    clean = λ h. (h, All-nil (λ e. HasNoFloat writes e.1));
   }
 
   -- one more member, whose key is above those before it
   pub IsReadSoFar-more : (all left rest : List (String Global × Value)) (found new : List (List ℕ × T)) (e : String Global × Value) (x : T)
-      → IsReadSoFar all left found → left ≡ e ∷ rest
-      → below_key (string_bytes e.0) (reads (view e.1)) ≡ Ok x → IsReadAgain reads writes x → (has_float (view e.1) ≡ false → HasNoFloat writes x)
+      → IsReadSoFar all left found → left ≡ e ∷ rest → below_key (string_bytes e.0) (reads (view e.1)) ≡ Ok x
       → (IsAboveKeys (string_bytes e.0) found → new ≡ found ++ (string_bytes e.0, x) ∷ []) → IsReadSoFar all rest new
-  IsReadSoFar-more all left rest found new e x before step reads_to again clean last =
+  IsReadSoFar-more all left rest found new e x before step reads_to last =
       let k = string_bytes e.0 in
       let P : List (String Global × Value) → Type 0 = λ l. IsReadSoFar all l found in
       let was : IsReadSoFar all (e ∷ rest) found = subst P step before in
@@ -90,8 +76,4 @@ module _ {T : Type 0} (reads : Data → Reading T) (writes : T → Data) where
       subst Q (sym added) (record {
         so_far = was.so_far ∙ rw reads_to (under-more found (k, x) (members_from reads (members_view rest)));
         ascending = subst R (sym keys) was.ascending;
-        again = All-push (λ p. IsReadAgain reads writes p.1) found (k, x) was.again again;
-        clean = λ h.
-            let both = was.clean h in
-            (rest_of_none (has_float (view e.1)) _ both.0, All-push (λ p. HasNoFloat writes p.1) found (k, x) both.1 (clean (first_of_none (has_float (view e.1)) _ both.0)));
       })

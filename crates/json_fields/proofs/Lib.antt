@@ -1,5 +1,1 @@
-pub mod Parts
-pub mod Lists
 pub mod Entries
-pub mod ReadAgain
-pub mod Rows

@@ -1,23 +1,28 @@
 -- a whole document: `syntax` where its text is no JSON, `float` where it holds a float, else what its table makes of it
 use Rattle.std.specs.Prelude.{◌≡◌, if◌then◌else◌, ℕ, List, codes, Option, Some, None, Result, Ok, Err}
+use Rattle.std.specs.Str.{is_utf8}
 use Rattle.serde_json.specs.Data.{Data}
 use Rattle.serde_json.specs.Read.{read}
 use Rattle.serde_json.specs.Written.{has_float}
 use Rattle.json_fields.specs.Fields.{found}
-use Rattle.json_fields.specs.Outcome.{Reading, told_place}
+use Rattle.json_fields.specs.Outcome.{Reading, whole_place_of}
 
--- the first miss as the document's reader tells it
-abbrev pub told : {T : Type 0} → Reading T → Reading T
-told (Ok x) = Ok x
-told (Err place) = Err (told_place place)
+-- the first miss by its whole place
+abbrev pub by_whole_place : {T : Type 0} → Reading T → Reading T
+by_whole_place (Ok x) = Ok x
+by_whole_place (Err place) = Err (whole_place_of place)
 
 -- a document's value
 unfoldable pub whole : {T : Type 0} → (Data → Reading T) → Data → Reading T
-whole reads d = if has_float d then Err (codes "float") else told (reads d)
+whole reads d = if has_float d then Err (codes "float") else by_whole_place (reads d)
 
 -- a document's text
 unfoldable pub document : {T : Type 0} → (Data → Reading T) → List ℕ → Reading T
 document reads text = found (Err (codes "syntax")) (whole reads) (read text)
+
+-- a document's bytes, which are no JSON unless they are UTF-8
+unfoldable pub bytes_document : {T : Type 0} → (Data → Reading T) → List ℕ → Reading T
+bytes_document reads bytes = if is_utf8 bytes then document reads bytes else Err (codes "syntax")
 
 -- what is written of the value is read as the value, floats and all
 abbrev pub IsWholeAgain : {T : Type 0} → (Data → Reading T) → (T → Data) → T → Type 0

@@ -1,7 +1,15 @@
 pub mod Outcome
 pub mod Fields
+pub mod RoundTrip
+pub mod TextJson
+pub mod Numbers
+pub mod Pairs
+pub mod Names
+pub mod Nested
 pub mod Written
 pub mod Document
 pub mod DataCode
 pub mod Versions
 pub mod Equal
+pub mod Laws
+pub mod Printed

@@ -46,6 +46,6 @@ below_position n (Ok x) = Ok x
 below_position n (Err place) = Err (91 ∷ (decimal n ++ (93 ∷ place)))
 
 -- the whole place: no dot at its front, and `$` where the document itself misses
-abbrev pub told_place : List ℕ → List ℕ
-told_place [] = codes "$"
-told_place (b ∷ place) = if b == 46 then place else b ∷ place
+abbrev pub whole_place_of : List ℕ → List ℕ
+whole_place_of [] = codes "$"
+whole_place_of (b ∷ place) = if b == 46 then place else b ∷ place

@@ -1,11 +1,11 @@
 -- versions, requirements and bare versions as tables read and write them: Semantic Versioning as `semver` reads it
 use Rattle.std.specs.Prelude.{◌≡◌, ◌==◌, ◌||◌, ◌++◌, if◌then◌else◌, ℕ, Bool, List, [], false, refl, codes, count_by, find, Option, Some, None, Result, Ok, Err}
-use Rattle.serde_json.specs.Data.{Data, string}
+use Rattle.serde_json.specs.Data.{Data}
 use Rattle.semver.specs.Identifiers.{parts_text}
 use Rattle.semver.specs.Parse.{Parts, req_of, version_parts}
-use Rattle.json_fields.specs.Fields.{text_at, under}
-use Rattle.json_fields.specs.Outcome.{Reading, ◌>>=◌}
-use Rattle.json_fields.specs.Written.{is_null}
+use Rattle.json_fields.specs.Fields.{under}
+use Rattle.json_fields.specs.Outcome.{Reading}
+use Rattle.json_fields.specs.TextJson.{text_form_at, text_form_data}
 use Rattle.json_fields.specs.declared.bare.BareError.{BareError}
 use Rattle.json_fields.specs.declared.bare.BareError.TheVariants.{PreRelease, BuildMetadata, NotVersion, OutOfMemory}
 
@@ -14,22 +14,33 @@ abbrev pub or_missed : {T E : Type 0} → Result T E → Reading T
 or_missed (Ok x) = Ok x
 or_missed (Err e) = Err []
 
+-- the version that a text is
+unfoldable pub version_of : List ℕ → Reading Parts
+version_of text = or_missed (version_parts text)
+
 -- a text that is a version
-unfoldable pub version_at : Data → Reading Parts
-version_at d = text_at d >>= λ text. or_missed (version_parts text)
+abbrev pub version_at : Data → Reading Parts
+version_at = text_form_at version_of
+
+-- the text of a version
+unfoldable pub version_text : Parts → List ℕ
+version_text p = parts_text p
 
 -- a version as its text
-unfoldable pub version_data : Parts → Data
-version_data p = string (parts_text p)
+abbrev pub version_data : Parts → Data
+version_data = text_form_data version_text
 
--- a version is not written as null
-pub version_data-present : (p : Parts) → is_null (version_data p) ≡ false
-unfolding version_data
-version_data-present p = refl
+-- the requirement that a text is, which stays as it is
+unfoldable pub requirement_of : List ℕ → Reading (List ℕ)
+requirement_of text = under (λ _. text) (or_missed (req_of text))
 
--- a text that is a requirement, which stays as it is
-unfoldable pub requirement_at : Data → Reading (List ℕ)
-requirement_at d = text_at d >>= λ text. under (λ _. text) (or_missed (req_of text))
+-- a text that is a requirement
+abbrev pub requirement_at : Data → Reading (List ℕ)
+requirement_at = text_form_at requirement_of
+
+-- a requirement as its text
+abbrev pub requirement_data : List ℕ → Data
+requirement_data = text_form_data (λ text. text)
 
 -- the first `-` or `+`
 abbrev pub first_mark : List ℕ → Option ℕ
@@ -53,9 +64,13 @@ unless_marked (Some mark) version = if mark == 45 then Err PreRelease else Err B
 unfoldable pub bare_parts : List ℕ → Result Parts BareError
 bare_parts text = unless_marked (first_mark text) (or_not_version (version_parts (completed text)))
 
+-- the bare version that a text is
+unfoldable pub bare_of : List ℕ → Reading Parts
+bare_of text = or_missed (bare_parts text)
+
 -- a text that is a bare version
-unfoldable pub bare_at : Data → Reading Parts
-bare_at d = text_at d >>= λ text. or_missed (bare_parts text)
+abbrev pub bare_at : Data → Reading Parts
+bare_at = text_form_at bare_of
 
 -- a call answers what the bare reader gives, unless memory ran out
 abbrev pub GivesBare : Result Parts BareError → Result Parts BareError → Type 0

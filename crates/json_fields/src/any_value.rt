@@ -4,10 +4,11 @@ ghost use Rattle.std.specs.Prelude.{◌≡◌};
 ghost use Rattle.serde_json.specs.Data.{null};
 ghost use Rattle.serde_json.specs.View.{view};
 ghost use Rattle.json_fields.specs.Fields.{any_at};
+ghost use Rattle.json_fields.specs.Laws.RoundTrips.{any-round_trips};
 
 use crate::equal::same_value;
 use crate::place::ReadError;
-use crate::reading::Json;
+use crate::reading::{Json, ReadJson};
 use base_text::TryClone;
 use serde_json::Value;
 use std::alloc::{AllocError, Global};
@@ -58,20 +59,26 @@ impl AnyValue {
     }
 }
 
-impl Json for AnyValue {
+impl ReadJson for AnyValue {
     ghost reads = { any_at };
-
-    ghost writes = { λ d. d };
 
     fn read(_alloc: Global, value: &Value) -> Result<AnyValue, ReadError> {
         Ok(AnyValue {
             inner: value.clone()?,
         })
     }
+}
+
+impl Json for AnyValue {
+    ghost writes = { λ d. d };
+
+    ghost height = { 0 };
 
     fn write(&self, _alloc: Global) -> Result<Value, AllocError> {
         self.inner.clone()
     }
+
+    ghost round_trips = { any-round_trips };
 }
 
 impl TryClone for AnyValue {

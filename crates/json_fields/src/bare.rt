@@ -3,24 +3,43 @@
 ghost use Rattle.std.specs.Prelude.{◌≡◌, ◌==◌, ◌||◌, IfOk, Ok, count_by, string_bytes};
 ghost use Rattle.semver.specs.Identifiers.{parts_text};
 ghost use Rattle.semver.specs.Parse.{version_parts};
-ghost use Rattle.json_fields.specs.Versions.{GivesBare, bare_at, bare_parts, completed, first_mark, or_not_version, version_data};
+ghost use Rattle.json_fields.specs.Versions.{GivesBare, bare_of, bare_parts, completed, first_mark, or_not_version, version_text};
+ghost use Rattle.json_fields.specs.Laws.ReadAgain.{bare_of-again};
 
 use crate::place::ReadError;
-use crate::reading::{Json, Present, missed};
-use crate::versions::Version;
-use base_text::TryClone;
-use serde_json::Value;
+use crate::reading::missed;
+use crate::text_json::TextJson;
+use base_text::{TryClone, Version};
 use std::alloc::{AllocError, Global};
 use std::marker::Model;
+use std::{error, fmt};
 
 /// Why a text is no bare version.
-#[derive(Debug, Drop)]
+#[derive(Clone, Copy, Debug, PartialEq, Eq)]
 pub enum BareError {
     PreRelease,
     BuildMetadata,
     NotVersion,
     OutOfMemory,
 }
+
+impl fmt::Display for BareError {
+    ghost use Rattle.std.specs.Prelude.{Some};
+    ghost use Rattle.json_fields.specs.Printed.{bare_error_text};
+
+    ghost output = { λ e. Some (bare_error_text e) };
+
+    fn fmt<W: fmt::Write>(&self, f: &mut fmt::Formatter<W>) -> fmt::Result {
+        match self {
+            BareError::PreRelease => f.write_str("PreRelease"),
+            BareError::BuildMetadata => f.write_str("BuildMetadata"),
+            BareError::NotVersion => f.write_str("NotVersion"),
+            BareError::OutOfMemory => f.write_str("OutOfMemory"),
+        }
+    }
+}
+
+impl error::Error for BareError {}
 
 /// The first `-` or `+` decides, and with exactly one dot `.0` is appended.
 #[tactic(auto, unfolding(crate::specs::Versions::bare_parts))]
@@ -45,10 +64,10 @@ fn completed_version(alloc: Global, text: &str) -> Result<Version, BareError>
     ensures exact { GivesBare result (or_not_version (version_parts (completed text.now))) }
 {
     if count_dots(text.as_bytes()) != 1 {
-        return plain_version(alloc, text);
+        return parse_version(alloc, text);
     }
     match format!(in alloc; "{text}.0") {
-        Ok(whole) => plain_version(alloc, whole.as_str()),
+        Ok(whole) => parse_version(alloc, whole.as_str()),
         Err(_) => Err(BareError::OutOfMemory),
     }
 }
@@ -59,7 +78,7 @@ fn count_dots(text: &[u8]) -> usize
     text.iter().filter(|b| **b == b'.').count()
 }
 
-fn plain_version(alloc: Global, text: &str) -> Result<Version, BareError>
+fn parse_version(alloc: Global, text: &str) -> Result<Version, BareError>
     ensures { GivesBare result (or_not_version (version_parts text.now)) }
 {
     match semver::Version::parse(alloc, text) {
@@ -117,16 +136,13 @@ impl TryClone for BareVersion {
     }
 }
 
-#[tactic(auto, unfolding(crate::specs::Versions::bare_at, crate::specs::Versions::version_data))]
-impl Json for BareVersion {
-    ghost reads = { bare_at };
+#[tactic(auto, unfolding(crate::specs::Versions::bare_of, crate::specs::Versions::version_text))]
+impl TextJson for BareVersion {
+    ghost of_text = { bare_of };
 
-    ghost writes = { version_data };
+    ghost text_of = { version_text };
 
-    fn read(alloc: Global, value: &Value) -> Result<BareVersion, ReadError> {
-        let Some(text) = value.as_str() else {
-            return missed(alloc);
-        };
+    fn read_text(alloc: Global, text: &str) -> Result<BareVersion, ReadError> {
         match bare_version(alloc, text) {
             Ok(version) => Ok(BareVersion { version }),
             Err(BareError::OutOfMemory) => Err(ReadError::OutOfMemory),
@@ -134,13 +150,9 @@ impl Json for BareVersion {
         }
     }
 
-    fn write(&self, alloc: Global) -> Result<Value, AllocError> {
-        self.version.write(alloc)
+    fn write_text(&self, alloc: Global) -> Result<String, AllocError> {
+        self.version.write_text(alloc)
     }
-}
 
-impl Present for BareVersion {
-    ghost use Rattle.json_fields.specs.Versions.{version_data-present};
-
-    ghost present = { version_data-present };
+    ghost again = { bare_of-again };
 }

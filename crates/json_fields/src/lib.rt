@@ -7,18 +7,27 @@ pub mod document;
 pub mod equal;
 pub mod floats;
 pub mod maps;
+pub mod nested;
+pub mod numbers;
+pub mod pairs;
 pub mod place;
 pub mod reading;
+pub mod text_json;
 pub mod values;
 pub mod versions;
 pub mod writing;
 
 pub use any_value::AnyValue;
 pub use bare::{BareError, BareVersion, bare_version};
-pub use document::{of_text, of_value};
+pub use base_text::Version;
+pub use document::{normal_text, of_bytes, of_text, of_value, to_text};
 pub use equal::same_value;
 pub use floats::holds_float;
-pub use place::ReadError;
-pub use reading::{Json, Present, defaulted, listed, mapped, members, missed, optional, required};
-pub use versions::{Requirement, Version};
+pub use nested::{MAX_LEVELS, boxed, inner_levels, optional_by, present, required_by};
+pub use place::{ReadError, below, below_item};
+pub use reading::{
+    Json, Present, ReadJson, defaulted, listed, mapped, member, members, missed, optional, required,
+};
+pub use text_json::TextJson;
+pub use versions::Requirement;
 pub use writing::{set, set_unless_null, set_value};

@@ -1,28 +1,33 @@
 //! A map from text as an object, read by ascending key.
 
-ghost use Rattle.std.specs.Prelude.{◌≡◌, false, Ok, IfOk, refl};
+ghost use Rattle.std.specs.Prelude.{◌≡◌, IfOk, refl};
 ghost use Rattle.serde_json.specs.View.{view, members_view};
-ghost use Rattle.serde_json.specs.Written.{has_float, members_have_float};
 ghost use Rattle.json_fields.specs.Fields.{map_at, members_from};
-ghost use Rattle.json_fields.specs.Outcome.{Gives, HasNoFloat, IsReadAgain, below_key};
-ghost use Rattle.json_fields.specs.Written.{entries_data, map_data};
+ghost use Rattle.json_fields.specs.Outcome.{Gives, below_key};
+ghost use Rattle.json_fields.specs.RoundTrip.{raised};
+ghost use Rattle.json_fields.specs.Written.{map_data};
+ghost use Rattle.json_fields.specs.Laws.RoundTrips.{map-round_trips};
 
 use crate::place::{ReadError, below};
-use crate::reading::{Json, Present, members};
+use crate::reading::{Json, Present, ReadJson, members};
 use crate::writing::set;
 use base_text::ByText;
 use serde_json::{Map, Value};
 use std::alloc::{AllocError, Global};
 
-impl<T: Json> Json for ByText<T> {
+impl<T: ReadJson> ReadJson for ByText<T> {
     ghost reads = { map_at T.reads };
-
-    ghost writes = { map_data T.writes };
 
     fn read(alloc: Global, value: &Value) -> Result<ByText<T>, ReadError> {
         let fields = members(alloc, value)?;
         read_members(alloc, fields)
     }
+}
+
+impl<T: Json> Json for ByText<T> {
+    ghost writes = { map_data T.writes };
+
+    ghost height = { raised T.height };
 
     fn write(&self, alloc: Global) -> Result<Value, AllocError> {
         let mut fields = Map::new(alloc);
@@ -31,17 +36,19 @@ impl<T: Json> Json for ByText<T> {
         }
         Ok(Value::Object(fields))
     }
+
+    ghost round_trips = { map-round_trips T.reads T.writes T.height T.round_trips };
 }
 
 impl<T: Json> Present for ByText<T> {
     ghost present = { λ x. refl };
 }
 
-fn read_members<T: Json>(alloc: Global, fields: &Map<String, Value>) -> Result<ByText<T>, ReadError>
+fn read_members<T: ReadJson>(
+    alloc: Global,
+    fields: &Map<String, Value>,
+) -> Result<ByText<T>, ReadError>
     ensures exact { Gives result (members_from T.reads (members_view fields.now.entries)) }
-    ensures again { IfOk result (λ es. members_from T.reads (entries_data T.writes es) ≡ Ok es) }
-    ensures clean { members_have_float (members_view fields.now.entries) ≡ false
-        → IfOk result (λ es. members_have_float (entries_data T.writes es) ≡ false) }
 {
     let mut found = ByText::empty(alloc);
     for (key, value) in fields.iter() {
@@ -51,10 +58,8 @@ fn read_members<T: Json>(alloc: Global, fields: &Map<String, Value>) -> Result<B
     Ok(found)
 }
 
-fn read_member<T: Json>(alloc: Global, key: &str, value: &Value) -> Result<T, ReadError>
+fn read_member<T: ReadJson>(alloc: Global, key: &str, value: &Value) -> Result<T, ReadError>
     ensures exact { Gives result (below_key key.now (T.reads (view value.now))) }
-    ensures again { IfOk result (IsReadAgain T.reads T.writes) }
-    ensures clean { has_float (view value.now) ≡ false → IfOk result (HasNoFloat T.writes) }
 {
     below(alloc, key, T::read(alloc, value))
 }

@@ -1,18 +1,47 @@
 //! The place of the first miss, composed on the way out: a key or a position goes before what is below it.
 
 ghost use Rattle.std.specs.Prelude.{◌≡◌, ◌++◌, ◌∷◌, codes, decimal, Ok, IfOk};
-ghost use Rattle.json_fields.specs.Outcome.{Gives, Reading, below_key, below_position, told_place};
+ghost use Rattle.json_fields.specs.Outcome.{Gives, Reading, below_key, below_position, whole_place_of};
 
-use base_text::Text;
+use base_text::{Text, TryClone};
 use std::alloc::{AllocError, AllocFailed, Global};
+use std::{error, fmt};
 
 /// Why a document was not read.
-#[derive(Debug, Drop)]
+#[derive(Debug, PartialEq, Eq, Drop)]
 pub enum ReadError {
     /// The first place that does not fit: keys joined by dots with positions as `[n]`.
     Missed(Text),
     OutOfMemory,
 }
+
+impl TryClone for ReadError {
+    fn try_clone(&self, alloc: Global) -> Result<Self, AllocError> {
+        match self {
+            ReadError::Missed(place) => Ok(ReadError::Missed(place.try_clone(alloc)?)),
+            ReadError::OutOfMemory => Ok(ReadError::OutOfMemory),
+        }
+    }
+}
+
+impl fmt::Display for ReadError {
+    ghost use Rattle.std.specs.Prelude.{Some};
+    ghost use Rattle.json_fields.specs.Printed.{read_error_text};
+
+    ghost output = { λ e. Some (read_error_text e) };
+
+    fn fmt<W: fmt::Write>(&self, f: &mut fmt::Formatter<W>) -> fmt::Result {
+        match self {
+            ReadError::Missed(place) => {
+                f.write_str("the document does not fit its table: ")?;
+                f.write_str(place.as_str())
+            }
+            ReadError::OutOfMemory => f.write_str("out of memory"),
+        }
+    }
+}
+
+impl error::Error for ReadError {}
 
 impl From<AllocError> for ReadError {
     ghost use Rattle.std.specs.Prelude.{◌≡◌};
@@ -36,12 +65,8 @@ impl<T: Drop> From<AllocFailed<T>> for ReadError {
     }
 }
 
-/// A miss below a member, told from the object that holds it.
-pub(crate) fn below<T>(
-    alloc: Global,
-    key: &str,
-    answer: Result<T, ReadError>,
-) -> Result<T, ReadError>
+/// A miss below a member, as a place of the object that holds it.
+pub fn below<T>(alloc: Global, key: &str, answer: Result<T, ReadError>) -> Result<T, ReadError>
     ensures exact { (reading : Reading T) → Gives answer reading
         → Gives result (below_key key.now reading) }
     ensures same { IfOk result (λ x. answer ≡ Ok x) }
@@ -56,8 +81,8 @@ pub(crate) fn below<T>(
     }
 }
 
-/// A miss below an item, told from the list that holds it.
-pub(crate) fn below_item<T>(
+/// A miss below an item, as a place of the list that holds it.
+pub fn below_item<T>(
     alloc: Global,
     position: usize,
     answer: Result<T, ReadError>,
@@ -92,9 +117,9 @@ fn position_before(alloc: Global, position: usize, place: &Text) -> Result<Text,
     Ok(Text::new(whole))
 }
 
-/// The place that a caller is told: no dot at its front, and `$` for the whole document.
-pub(crate) fn told(alloc: Global, place: Text) -> Result<Text, AllocError>
-    ensures { IfOk result (λ whole. whole ≡ told_place place) }
+/// The place as a document's reader reports it: no dot at its front, and `$` for the whole document.
+pub(crate) fn whole_place(alloc: Global, place: Text) -> Result<Text, AllocError>
+    ensures { IfOk result (λ whole. whole ≡ whole_place_of place) }
 {
     if place.as_str().is_empty() {
         return Text::of_str(alloc, "$");

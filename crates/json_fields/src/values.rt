@@ -1,23 +1,22 @@
 //! The plain kinds of value: a text, true or false, a number, a value or null, and a list.
 
-ghost use Rattle.std.specs.Prelude.{◌≡◌, false, [], ◌∷◌, Ok, Err, IfOk, refl};
+ghost use Rattle.std.specs.Prelude.{◌≡◌, [], ◌∷◌, Ok, Err, IfOk, refl};
 ghost use Rattle.serde_json.specs.Data.{boolean, string, number, unsigned};
 ghost use Rattle.serde_json.specs.View.{items_view};
-ghost use Rattle.serde_json.specs.Written.{items_have_float};
 ghost use Rattle.json_fields.specs.Fields.{flag_at, items_from, list_at, number_at, option_at, text_at};
 ghost use Rattle.json_fields.specs.Outcome.{Gives};
-ghost use Rattle.json_fields.specs.Written.{items_data, list_data, option_data};
+ghost use Rattle.json_fields.specs.RoundTrip.{raised};
+ghost use Rattle.json_fields.specs.Written.{list_data, option_data};
+ghost use Rattle.json_fields.specs.Laws.RoundTrips.{flag-round_trips, list-round_trips, number-round_trips, option-round_trips, text-round_trips};
 
 use crate::place::{ReadError, below_item};
-use crate::reading::{Json, Present, missed};
-use base_text::{Items, Text};
+use crate::reading::{Json, Present, ReadJson, missed};
+use base_text::{Items, Name, Text};
 use serde_json::Value;
 use std::alloc::{AllocError, Global};
 
-impl Json for Text {
+impl ReadJson for Text {
     ghost reads = { text_at };
-
-    ghost writes = { string };
 
     fn read(alloc: Global, value: &Value) -> Result<Text, ReadError> {
         match value.as_str() {
@@ -25,20 +24,50 @@ impl Json for Text {
             None => missed(alloc),
         }
     }
+}
+
+impl Json for Text {
+    ghost writes = { string };
+
+    ghost height = { 0 };
 
     fn write(&self, alloc: Global) -> Result<Value, AllocError> {
         Ok(Value::String(String::from_str(alloc, self.as_str())?))
     }
+
+    ghost round_trips = { text-round_trips };
 }
 
 impl Present for Text {
     ghost present = { λ x. refl };
 }
 
-impl Json for bool {
-    ghost reads = { flag_at };
+impl<K> ReadJson for Name<K> {
+    ghost reads = { text_at };
 
-    ghost writes = { boolean };
+    fn read(alloc: Global, value: &Value) -> Result<Name<K>, ReadError> {
+        Ok(Name::new(Text::read(alloc, value)?))
+    }
+}
+
+impl<K> Json for Name<K> {
+    ghost writes = { string };
+
+    ghost height = { 0 };
+
+    fn write(&self, alloc: Global) -> Result<Value, AllocError> {
+        Ok(Value::String(String::from_str(alloc, self.as_str())?))
+    }
+
+    ghost round_trips = { text-round_trips };
+}
+
+impl<K> Present for Name<K> {
+    ghost present = { λ x. refl };
+}
+
+impl ReadJson for bool {
+    ghost reads = { flag_at };
 
     fn read(alloc: Global, value: &Value) -> Result<bool, ReadError> {
         match value {
@@ -46,20 +75,26 @@ impl Json for bool {
             _ => missed(alloc),
         }
     }
+}
+
+impl Json for bool {
+    ghost writes = { boolean };
+
+    ghost height = { 0 };
 
     fn write(&self, _alloc: Global) -> Result<Value, AllocError> {
         Ok(Value::Bool(*self))
     }
+
+    ghost round_trips = { flag-round_trips };
 }
 
 impl Present for bool {
     ghost present = { λ x. refl };
 }
 
-impl Json for u64 {
+impl ReadJson for u64 {
     ghost reads = { number_at };
-
-    ghost writes = { λ n. number (unsigned n) };
 
     fn read(alloc: Global, value: &Value) -> Result<u64, ReadError> {
         match value.as_u64() {
@@ -67,20 +102,26 @@ impl Json for u64 {
             None => missed(alloc),
         }
     }
+}
+
+impl Json for u64 {
+    ghost writes = { λ n. number (unsigned n) };
+
+    ghost height = { 0 };
 
     fn write(&self, _alloc: Global) -> Result<Value, AllocError> {
         Ok(Value::from(*self))
     }
+
+    ghost round_trips = { number-round_trips };
 }
 
 impl Present for u64 {
     ghost present = { λ x. refl };
 }
 
-impl<T: Present> Json for Option<T> {
+impl<T: ReadJson> ReadJson for Option<T> {
     ghost reads = { option_at T.reads };
-
-    ghost writes = { option_data T.writes };
 
     fn read(alloc: Global, value: &Value) -> Result<Option<T>, ReadError> {
         match value {
@@ -88,6 +129,12 @@ impl<T: Present> Json for Option<T> {
             _ => Ok(Some(T::read(alloc, value)?)),
         }
     }
+}
+
+impl<T: Present> Json for Option<T> {
+    ghost writes = { option_data T.writes };
+
+    ghost height = { T.height };
 
     fn write(&self, alloc: Global) -> Result<Value, AllocError> {
         match self {
@@ -95,12 +142,12 @@ impl<T: Present> Json for Option<T> {
             Some(x) => x.write(alloc),
         }
     }
+
+    ghost round_trips = { option-round_trips T.reads T.writes T.height T.round_trips T.present };
 }
 
-impl<T: Json> Json for Items<T> {
+impl<T: ReadJson> ReadJson for Items<T> {
     ghost reads = { list_at T.reads };
-
-    ghost writes = { list_data T.writes };
 
     fn read(alloc: Global, value: &Value) -> Result<Items<T>, ReadError> {
         match value.as_array() {
@@ -108,6 +155,12 @@ impl<T: Json> Json for Items<T> {
             None => missed(alloc),
         }
     }
+}
+
+impl<T: Json> Json for Items<T> {
+    ghost writes = { list_data T.writes };
+
+    ghost height = { raised T.height };
 
     fn write(&self, alloc: Global) -> Result<Value, AllocError> {
         let mut values = Vec::new(alloc);
@@ -116,17 +169,16 @@ impl<T: Json> Json for Items<T> {
         }
         Ok(Value::Array(values))
     }
+
+    ghost round_trips = { list-round_trips T.reads T.writes T.height T.round_trips };
 }
 
 impl<T: Json> Present for Items<T> {
     ghost present = { λ x. refl };
 }
 
-fn read_items<T: Json>(alloc: Global, values: &[Value]) -> Result<Items<T>, ReadError>
+fn read_items<T: ReadJson>(alloc: Global, values: &[Value]) -> Result<Items<T>, ReadError>
     ensures exact { Gives result (items_from T.reads 0 (items_view values.now)) }
-    ensures again { IfOk result (λ xs. items_from T.reads 0 (items_data T.writes xs) ≡ Ok xs) }
-    ensures clean { items_have_float (items_view values.now) ≡ false
-        → IfOk result (λ xs. items_have_float (items_data T.writes xs) ≡ false) }
 {
     let mut items = Vec::new(alloc);
     for (position, value) in values.iter().enumerate() {

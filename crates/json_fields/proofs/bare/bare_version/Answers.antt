@@ -1,6 +1,6 @@
 use Rattle.std.proofs.Common.{sym, ap, ◌∙◌}
 use Rattle.json_fields.specs.Versions.{first_mark}
-use Rattle.json_fields.proofs.ReadAgain.{bare_answer_again}
+use Rattle.json_fields.specs.Laws.ReadAgain.{bare_answer_again}
 use Rattle.json_fields.proofs.bare.bare_version.Goals as goal
 
 pub returns-in-None-clause-again : goal.returns-in-None-clause-again

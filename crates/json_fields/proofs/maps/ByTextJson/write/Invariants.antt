@@ -1,6 +1,6 @@
 use Rattle.std.proofs.Common.{◌≡◌, ◌++◌, List, ℕ}
 use Rattle.serde_json.specs.View.{members_view}
-use Rattle.base_text.specs.ByText.{text_entries}
+use Rattle.base_values.specs.ByText.{text_entries}
 use Rattle.json_fields.specs.Written.{entries_data}
 use Rattle.json_fields.proofs.maps.ByTextJson.write.Given as goal
 

@@ -1,0 +1,166 @@
+//! The table of a package in three groups of eight rows, each read into the package.
+
+ghost use Rattle.std.specs.Prelude.{◌≡◌, OnOk};
+ghost use Rattle.serde_json.specs.View.{members_view};
+ghost use Rattle.json_fields.specs.Outcome.{Gives};
+ghost use Rattle.cargo_meta.specs.Package.{body_from, body_set, head_from, head_set, tail_from, tail_set};
+
+use crate::kinds::Edition;
+use crate::package::Package;
+use base_text::{Text, Version};
+use json_fields::{
+    AnyValue, BareVersion, ReadError, defaulted, listed, optional, required, set, set_unless_null,
+};
+use serde_json::{Map, Value};
+use std::alloc::{AllocError, Global};
+
+#[tactic(auto, unfolding(crate::specs::Package::head_from, json_fields::specs::Fields::required, json_fields::specs::Fields::optional, json_fields::specs::Fields::defaulted))]
+pub(crate) fn read_head(alloc: Global, fields: &Map<String, Value>) -> Result<Package, ReadError>
+    ensures exact { Gives result (head_from (members_view fields.now.entries)) }
+{
+    let name = required(alloc, fields, "name")?;
+    let version = required(alloc, fields, "version")?;
+    let authors = listed(alloc, fields, "authors")?;
+    let id = required(alloc, fields, "id")?;
+    let source = optional(alloc, fields, "source")?;
+    let description = optional(alloc, fields, "description")?;
+    let dependencies = required(alloc, fields, "dependencies")?;
+    let license = optional(alloc, fields, "license")?;
+    let path = Text::new(String::new(alloc));
+    let package = Package::new(alloc, name, version, id, path)?;
+    Ok(Package {
+        authors,
+        source,
+        description,
+        dependencies,
+        license,
+        ..package
+    })
+}
+
+#[tactic(auto, unfolding(crate::specs::Package::body_from, json_fields::specs::Fields::required, json_fields::specs::Fields::optional, json_fields::specs::Fields::defaulted))]
+pub(crate) fn read_body(
+    alloc: Global,
+    fields: &Map<String, Value>,
+    head: Package,
+) -> Result<Package, ReadError>
+    ensures exact { Gives result (body_from head (members_view fields.now.entries)) }
+{
+    let license_file = optional(alloc, fields, "license_file")?;
+    let targets = required(alloc, fields, "targets")?;
+    let features = required(alloc, fields, "features")?;
+    let manifest_path = required(alloc, fields, "manifest_path")?;
+    let categories = listed(alloc, fields, "categories")?;
+    let keywords = listed(alloc, fields, "keywords")?;
+    let readme = optional(alloc, fields, "readme")?;
+    let repository = optional(alloc, fields, "repository")?;
+    Ok(Package {
+        license_file,
+        targets,
+        features,
+        manifest_path,
+        categories,
+        keywords,
+        readme,
+        repository,
+        ..head
+    })
+}
+
+#[tactic(auto, unfolding(crate::specs::Package::tail_from, json_fields::specs::Fields::required, json_fields::specs::Fields::optional, json_fields::specs::Fields::defaulted))]
+pub(crate) fn read_tail(
+    alloc: Global,
+    fields: &Map<String, Value>,
+    body: Package,
+) -> Result<Package, ReadError>
+    ensures exact { Gives result (tail_from body (members_view fields.now.entries)) }
+{
+    let homepage = optional(alloc, fields, "homepage")?;
+    let documentation = optional(alloc, fields, "documentation")?;
+    let edition = defaulted(alloc, fields, "edition", Edition::E2015)?;
+    let metadata = defaulted(alloc, fields, "metadata", AnyValue::null())?;
+    let links = optional(alloc, fields, "links")?;
+    let publish = optional(alloc, fields, "publish")?;
+    let default_run = optional(alloc, fields, "default_run")?;
+    let rust_version = optional(alloc, fields, "rust_version")?;
+    Ok(Package {
+        homepage,
+        documentation,
+        edition,
+        metadata,
+        links,
+        publish,
+        default_run,
+        rust_version: version_of(rust_version),
+        ..body
+    })
+}
+
+fn version_of(bare: Option<BareVersion>) -> Option<Version>
+    ensures { result ≡ bare }
+{
+    match bare {
+        Some(bare) => Some(bare.into_inner()),
+        None => None,
+    }
+}
+
+#[tactic(auto, unfolding(crate::specs::Package::head_set))]
+pub(crate) fn set_head(
+    alloc: Global,
+    fields: &mut Map<String, Value>,
+    from: &Package,
+) -> Result<(), AllocError>
+    ensures { OnOk result (members_view fields.new.entries
+        ≡ head_set from.now (members_view fields.old.entries)) }
+{
+    set(alloc, fields, "name", &from.name)?;
+    set(alloc, fields, "version", &from.version)?;
+    set(alloc, fields, "authors", &from.authors)?;
+    set(alloc, fields, "id", &from.id)?;
+    set(alloc, fields, "source", &from.source)?;
+    set(alloc, fields, "description", &from.description)?;
+    set(alloc, fields, "dependencies", &from.dependencies)?;
+    set(alloc, fields, "license", &from.license)?;
+    Ok(())
+}
+
+#[tactic(auto, unfolding(crate::specs::Package::body_set))]
+pub(crate) fn set_body(
+    alloc: Global,
+    fields: &mut Map<String, Value>,
+    from: &Package,
+) -> Result<(), AllocError>
+    ensures { OnOk result (members_view fields.new.entries
+        ≡ body_set from.now (members_view fields.old.entries)) }
+{
+    set(alloc, fields, "license_file", &from.license_file)?;
+    set(alloc, fields, "targets", &from.targets)?;
+    set(alloc, fields, "features", &from.features)?;
+    set(alloc, fields, "manifest_path", &from.manifest_path)?;
+    set(alloc, fields, "categories", &from.categories)?;
+    set(alloc, fields, "keywords", &from.keywords)?;
+    set(alloc, fields, "readme", &from.readme)?;
+    set(alloc, fields, "repository", &from.repository)?;
+    Ok(())
+}
+
+#[tactic(auto, unfolding(crate::specs::Package::tail_set))]
+pub(crate) fn set_tail(
+    alloc: Global,
+    fields: &mut Map<String, Value>,
+    from: &Package,
+) -> Result<(), AllocError>
+    ensures { OnOk result (members_view fields.new.entries
+        ≡ tail_set from.now (members_view fields.old.entries)) }
+{
+    set(alloc, fields, "homepage", &from.homepage)?;
+    set(alloc, fields, "documentation", &from.documentation)?;
+    set(alloc, fields, "edition", &from.edition)?;
+    set_unless_null(alloc, fields, "metadata", &from.metadata)?;
+    set(alloc, fields, "links", &from.links)?;
+    set(alloc, fields, "publish", &from.publish)?;
+    set(alloc, fields, "default_run", &from.default_run)?;
+    set(alloc, fields, "rust_version", &from.rust_version)?;
+    Ok(())
+}

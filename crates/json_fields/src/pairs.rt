@@ -1,0 +1,46 @@
+//! A pair as a list of exactly two.
+
+ghost use Rattle.std.specs.Prelude.{◌≡◌, max, refl};
+ghost use Rattle.json_fields.specs.Pairs.{pair_at, pair_data};
+ghost use Rattle.json_fields.specs.Laws.Pairs.{pair-round_trips};
+ghost use Rattle.json_fields.specs.RoundTrip.{raised};
+
+use crate::place::{ReadError, below_item};
+use crate::reading::{Json, Present, ReadJson, missed};
+use serde_json::Value;
+use std::alloc::{AllocError, Global};
+
+impl<A: ReadJson, B: ReadJson> ReadJson for (A, B) {
+    ghost reads = { pair_at A.reads B.reads };
+
+    fn read(alloc: Global, value: &Value) -> Result<(A, B), ReadError> {
+        let Some(values) = value.as_array() else {
+            return missed(alloc);
+        };
+        let [first, second] = values.as_slice() else {
+            return missed(alloc);
+        };
+        let first = below_item(alloc, 0, A::read(alloc, first))?;
+        let second = below_item(alloc, 1, B::read(alloc, second))?;
+        Ok((first, second))
+    }
+}
+
+impl<A: Json, B: Json> Json for (A, B) {
+    ghost writes = { pair_data A.writes B.writes };
+
+    ghost height = { max (raised A.height) (raised B.height) };
+
+    fn write(&self, alloc: Global) -> Result<Value, AllocError> {
+        let mut values = Vec::new(alloc);
+        values.push(self.0.write(alloc)?)?;
+        values.push(self.1.write(alloc)?)?;
+        Ok(Value::Array(values))
+    }
+
+    ghost round_trips = { pair-round_trips A.reads A.writes A.height A.round_trips B.reads B.writes B.height B.round_trips };
+}
+
+impl<A: Json, B: Json> Present for (A, B) {
+    ghost present = { λ x. refl };
+}
