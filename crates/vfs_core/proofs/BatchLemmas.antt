@@ -8,8 +8,10 @@ use Rattle.indexmap.specs.IndexMap.{insert_entry}
 use Rattle.vfs_core.specs.declared.changed_file.Change.{Change}
 use Rattle.vfs_core.specs.declared.changed_file.Change.TheVariants.{Create, Modify, Delete}
 use Rattle.vfs_core.specs.declared.changed_file.ChangedFile.{ChangedFile}
-use Rattle.vfs_core.specs.Batch.{began_with_creation, changed, done_to, holding, in_one, is_new, kind_in, kind_of_change, merged_change, noted, with_call, with_file, with_noted, IsBatch}
+use Rattle.vfs_core.specs.Batch.{began_with_creation, changed_file, changes_of, create_or_modify, net_change, is_new, kind_in, kind_of_change, merged_change, with_change, with_call, with_changed_file, IsBatch}
+use Rattle.vfs_core.specs.Distinct.{with_item}
 use Rattle.vfs_core.specs.Files.{Files, KeepsCalls}
+use Rattle.vfs_core.proofs.DistinctLemmas.{keys_of_insert_entry}
 
 -- nothing holds with what does not
 and-false : (b : Bool) → (b && false) ≡ false
@@ -18,67 +20,43 @@ and-false false = refl
 
 -- a change behind one whose kind says whether the file is new
 merged-deletion : (is_new : Bool) (bytes : List ℕ) (hash : ℕ)
-    → merged_change (Some (kind_of_change (holding is_new bytes hash))) Delete ≡ Delete
+    → merged_change (Some (kind_of_change (create_or_modify is_new bytes hash))) Delete ≡ Delete
 merged-deletion true bytes hash = refl
 merged-deletion false bytes hash = refl
 
 merged-creation : (is_new : Bool) (bytes bytes' : List ℕ) (hash hash' : ℕ)
-    → merged_change (Some (kind_of_change (holding is_new bytes hash))) (Create bytes' hash') ≡ holding is_new bytes' hash'
+    → merged_change (Some (kind_of_change (create_or_modify is_new bytes hash))) (Create bytes' hash') ≡ create_or_modify is_new bytes' hash'
 merged-creation true bytes bytes' hash hash' = refl
 merged-creation false bytes bytes' hash hash' = refl
 
 merged-modification : (is_new : Bool) (bytes bytes' : List ℕ) (hash hash' : ℕ)
-    → merged_change (Some (kind_of_change (holding is_new bytes hash))) (Modify bytes' hash') ≡ holding is_new bytes' hash'
+    → merged_change (Some (kind_of_change (create_or_modify is_new bytes hash))) (Modify bytes' hash') ≡ create_or_modify is_new bytes' hash'
 merged-modification true bytes bytes' hash hash' = refl
 merged-modification false bytes bytes' hash hash' = refl
 
 -- one change in place of all is that of the earlier ones, merged with the last
-in_one-cons : (change : Change) (changes : List Change)
-    → in_one (change ∷ changes) ≡ Some (merged_change (option_map kind_of_change (in_one changes)) change)
-in_one-cons Delete [] = refl
-in_one-cons (Create bytes hash) [] = refl
-in_one-cons (Modify bytes hash) [] = refl
-in_one-cons Delete (Delete ∷ changes) = refl
-in_one-cons Delete (Create bytes hash ∷ changes) =
+net_change-cons : (change : Change) (changes : List Change)
+    → net_change (change ∷ changes) ≡ Some (merged_change (option_map kind_of_change (net_change changes)) change)
+net_change-cons Delete [] = refl
+net_change-cons (Create bytes hash) [] = refl
+net_change-cons (Modify bytes hash) [] = refl
+net_change-cons Delete (Delete ∷ changes) = refl
+net_change-cons Delete (Create bytes hash ∷ changes) =
     ap Some (sym (merged-deletion (is_new (Create bytes hash ∷ changes)) bytes hash))
-in_one-cons Delete (Modify bytes hash ∷ changes) =
+net_change-cons Delete (Modify bytes hash ∷ changes) =
     ap Some (sym (merged-deletion (is_new (Modify bytes hash ∷ changes)) bytes hash))
-in_one-cons (Create bytes hash) (Delete ∷ changes) =
-    ap (λ (n : Bool). Some (holding n bytes hash)) (and-false (began_with_creation (Delete ∷ changes)))
-in_one-cons (Create bytes hash) (Create bytes' hash' ∷ changes) =
+net_change-cons (Create bytes hash) (Delete ∷ changes) =
+    ap (λ (n : Bool). Some (create_or_modify n bytes hash)) (and-false (began_with_creation (Delete ∷ changes)))
+net_change-cons (Create bytes hash) (Create bytes' hash' ∷ changes) =
     ap Some (sym (merged-creation (is_new (Create bytes' hash' ∷ changes)) bytes' bytes hash' hash))
-in_one-cons (Create bytes hash) (Modify bytes' hash' ∷ changes) =
+net_change-cons (Create bytes hash) (Modify bytes' hash' ∷ changes) =
     ap Some (sym (merged-creation (is_new (Modify bytes' hash' ∷ changes)) bytes' bytes hash' hash))
-in_one-cons (Modify bytes hash) (Delete ∷ changes) =
-    ap (λ (n : Bool). Some (holding n bytes hash)) (and-false (began_with_creation (Delete ∷ changes)))
-in_one-cons (Modify bytes hash) (Create bytes' hash' ∷ changes) =
+net_change-cons (Modify bytes hash) (Delete ∷ changes) =
+    ap (λ (n : Bool). Some (create_or_modify n bytes hash)) (and-false (began_with_creation (Delete ∷ changes)))
+net_change-cons (Modify bytes hash) (Create bytes' hash' ∷ changes) =
     ap Some (sym (merged-modification (is_new (Create bytes' hash' ∷ changes)) bytes' bytes hash' hash))
-in_one-cons (Modify bytes hash) (Modify bytes' hash' ∷ changes) =
+net_change-cons (Modify bytes hash) (Modify bytes' hash' ∷ changes) =
     ap Some (sym (merged-modification (is_new (Modify bytes' hash' ∷ changes)) bytes' bytes hash' hash))
-
--- one more file: the same with both tests known
-with_file-cons : (file first : ℕ) (rest : List ℕ) (is_first is_later : Bool)
-    → (if is_first || is_later then first ∷ rest else (first ∷ rest) ++ file ∷ [])
-    ≡ (if is_first then first ∷ rest else first ∷ (if is_later then rest else rest ++ file ∷ []))
-with_file-cons file first rest true is_later = refl
-with_file-cons file first rest false true = refl
-with_file-cons file first rest false false = refl
-
--- the files of a batch after an insertion: the same with the first test known
-files-split : (file : ℕ) (call : ChangedFile) (first : ℕ × ChangedFile) (rest : List (ℕ × ChangedFile)) (is_first : Bool)
-    → keys_of (insert_entry nat_eq rest file call) ≡ with_file file (keys_of rest)
-    → keys_of (if is_first then (first.0, call) ∷ rest else first ∷ insert_entry nat_eq rest file call)
-    ≡ (if is_first then first.0 ∷ keys_of rest else first.0 ∷ with_file file (keys_of rest))
-files-split file call first rest true more = refl
-files-split file call first rest false more = ap (λ files. first.0 ∷ files) more
-
--- a file that is new in a batch comes last
-files_insert_entry : (batch : List (ℕ × ChangedFile)) (file : ℕ) (call : ChangedFile)
-    → keys_of (insert_entry nat_eq batch file call) ≡ with_file file (keys_of batch)
-files_insert_entry [] file call = refl
-files_insert_entry (entry ∷ batch) file call =
-    files-split file call entry batch (nat_eq file entry.0) (files_insert_entry batch file call)
-    ∙ sym (with_file-cons file entry.0 (keys_of batch) (nat_eq file entry.0) (list_any (nat_eq file) (keys_of batch)))
 
 -- the call of a file after an insertion: the same with both tests of the first entry known
 found-split : (file other : ℕ) (call : ChangedFile) (first : ℕ × ChangedFile) (rest : List (ℕ × ChangedFile))
@@ -112,20 +90,20 @@ found_insert_entry (entry ∷ batch) file other call =
 -- what calls did to a file, with one more: the same by whether it is of the file
 done-split : (other : ℕ) (call : ChangedFile) (calls : List ChangedFile) (batch : List (ℕ × ChangedFile)) (is_own : Bool)
     → nat_eq other call.file_id ≡ is_own → IsBatch batch calls
-    → (if is_own then Some (changed call.file_id (merged_change (kind_in batch call.file_id) call.change)) else lookup (nat_eq other) batch)
-    ≡ option_map (changed other)
-    (in_one (map (λ c. c.change) (if is_own then call ∷ filter (λ c. nat_eq other c.file_id) calls else filter (λ c. nat_eq other c.file_id) calls)))
+    → (if is_own then Some (changed_file call.file_id (merged_change (kind_in batch call.file_id) call.change)) else lookup (nat_eq other) batch)
+    ≡ option_map (changed_file other)
+    (net_change (map (λ c. c.change) (if is_own then call ∷ filter (λ c. nat_eq other c.file_id) calls else filter (λ c. nat_eq other c.file_id) calls)))
 done-split other call calls batch true own before =
     let one : other ≡ call.file_id = eqb-true other call.file_id own in
-    let kinds : (found : Option ChangedFile) (change : Option Change) → found ≡ option_map (changed call.file_id) change
+    let kinds : (found : Option ChangedFile) (change : Option Change) → found ≡ option_map (changed_file call.file_id) change
     → option_map (λ c. kind_of_change c.change) found ≡ option_map kind_of_change change = kinds_of call.file_id in
-    let kind : kind_in batch call.file_id ≡ option_map kind_of_change (in_one (done_to call.file_id calls)) =
+    let kind : kind_in batch call.file_id ≡ option_map kind_of_change (net_change (changes_of call.file_id calls)) =
     kinds _ _ (before.changes call.file_id) in
-    ap (λ k. Some (changed call.file_id (merged_change k call.change))) kind
-    ∙ sym (ap (option_map (changed call.file_id)) (in_one-cons call.change (done_to call.file_id calls)))
-    ∙ ap (λ file. option_map (changed file) (in_one (call.change ∷ done_to file calls))) (sym one)
+    ap (λ k. Some (changed_file call.file_id (merged_change k call.change))) kind
+    ∙ sym (ap (option_map (changed_file call.file_id)) (net_change-cons call.change (changes_of call.file_id calls)))
+    ∙ ap (λ file. option_map (changed_file file) (net_change (call.change ∷ changes_of file calls))) (sym one)
   where
-    kinds_of : (file : ℕ) (found : Option ChangedFile) (change : Option Change) → found ≡ option_map (changed file) change
+    kinds_of : (file : ℕ) (found : Option ChangedFile) (change : Option Change) → found ≡ option_map (changed_file file) change
         → option_map (λ c. kind_of_change c.change) found ≡ option_map kind_of_change change
     kinds_of file found None e = ap (option_map (λ c. kind_of_change c.change)) e
     kinds_of file found (Some change) e = ap (option_map (λ c. kind_of_change c.change)) e
@@ -136,23 +114,23 @@ pub batch_of_none : IsBatch [] []
 batch_of_none = record { order = refl; changes = λ file. refl }
 
 -- one more call
-IsBatch-noted : (batch : List (ℕ × ChangedFile)) (calls : List ChangedFile) (call : ChangedFile)
-    → IsBatch batch calls → IsBatch (noted batch call.file_id call.change) (call ∷ calls)
-IsBatch-noted batch calls call before = record {
-  order = files_insert_entry batch call.file_id _ ∙ ap (with_file call.file_id) before.order;
+IsBatch-with_change : (batch : List (ℕ × ChangedFile)) (calls : List ChangedFile) (call : ChangedFile)
+    → IsBatch batch calls → IsBatch (with_change batch call.file_id call.change) (call ∷ calls)
+IsBatch-with_change batch calls call before = record {
+  order = keys_of_insert_entry nat_eq batch call.file_id _ ∙ ap (with_item nat_eq call.file_id) before.order;
   changes = λ file. found_insert_entry batch call.file_id file _
       ∙ done-split file call calls batch (nat_eq file call.file_id) refl before;
 }
 
 -- the same where the call may have changed nothing
 IsBatch-with : (call : Option ChangedFile) (batch : List (ℕ × ChangedFile)) (calls : List ChangedFile)
-    → IsBatch batch calls → IsBatch (with_noted call batch) (with_call call calls)
+    → IsBatch batch calls → IsBatch (with_changed_file call batch) (with_call call calls)
 IsBatch-with None batch calls before = before
-IsBatch-with (Some call) batch calls before = IsBatch-noted batch calls call before
+IsBatch-with (Some call) batch calls before = IsBatch-with_change batch calls call before
 
 -- a batch with one more call noted is that of one more call
 pub IsBatch_called : (before after : List (ℕ × ChangedFile)) (call : Option ChangedFile)
-    → after ≡ with_noted call before → (calls : List ChangedFile)
+    → after ≡ with_changed_file call before → (calls : List ChangedFile)
     → IsBatch before calls → IsBatch after (with_call call calls)
 IsBatch_called before after call e calls is =
     subst (λ batch. IsBatch batch (with_call call calls)) (sym e) (IsBatch-with call before calls is)

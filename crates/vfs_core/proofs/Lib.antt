@@ -1,4 +1,6 @@
 pub mod BatchLemmas
+pub mod CallLemmas
+pub mod DistinctLemmas
 pub mod FileLemmas
 pub mod LiveLemmas
 pub mod MarkLemmas
@@ -6,5 +8,5 @@ pub mod NormalLemmas
 pub mod NumberLemmas
 pub mod PartLemmas
 pub mod RoomLemmas
-pub mod TrimLemmas
 pub mod TextLemmas
+pub mod TrimLemmas

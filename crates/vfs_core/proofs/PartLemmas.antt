@@ -1,38 +1,21 @@
 -- How the text of a virtual path is cut, as its functions cut it.
-use Rattle.std.proofs.Common.{◌≡◌, ℕ, suc, ◌-◌, ◌+◌, ◌<◌, ◌≤◌, ◌≢◌, ◌==◌, Bool, true, false, not, ◌||◌, List, [], ◌∷◌, ◌++◌, length, get_or, take, drop, Option, Some, None, MatchOption, Bor, refl, sym, ap, ◌∙◌, arith, length-append}
-use Rattle.std.proofs.lemmas.Bool.{cond-true, cond-false, ne_eqb, eq-eqb, false_from_ne_true, le-ltb, lt-ltb}
+use Rattle.std.proofs.Common.{◌≡◌, ℕ, suc, ◌-◌, ◌+◌, ◌<◌, ◌≤◌, ◌≢◌, ◌==◌, Bool, true, false, not, ◌||◌, List, [], ◌∷◌, ◌++◌, length, get_or, take, drop, Some, None, refl, sym, ap, ◌∙◌, arith, length-append}
+use Rattle.std.proofs.lemmas.Bool.{cond-true, cond-false, ne_eqb, eq-eqb, false_from_ne_true}
 use Rattle.std.proofs.lemmas.Slice.Eq.{bytes_eq-Decides}
-use Rattle.std.proofs.lemmas.List.{take-append-drop}
-use Rattle.std.proofs.lemmas.List.Elements.{All-from_get_or, All-from_recursion, recursion_from_All}
+use Rattle.std.proofs.lemmas.List.Elements.{All-from_recursion}
 use Rattle.std.proofs.lemmas.List.Sums.{suffix_len_is}
 use Rattle.std.proofs.Math.Seq.{drop-append-add, get_or-append_right, get_or-append_seam, take-append_seam}
-use Rattle.std.proofs.lemmas.Str.Pattern.{NoCharPasses-char, drop_at_char}
 use Rattle.std.specs.List.{after_last, before_last, list_any, suffix_len}
 use Rattle.std.specs.Prelude.{codes, bytes_eq}
-use Rattle.std.specs.Str.Pattern.{RFindsChar}
-use Rattle.base_text.specs.FileName.{extension_of, stem_of}
+use Rattle.base_text.specs.FileName.{extension_of, is_dot, stem_of}
 use Rattle.base_text.specs.Paths.{is_slash}
 use Rattle.base_text.specs.Rows.{IsCutAtLast, Lacks}
-use Rattle.vfs_core.specs.VirtualPath.{climbed, last_name, popped, unslashed, without_dots}
+use Rattle.base_text.proofs.Dots.{before_at_cut as before_dot, before_lacking, extension_none, stem_whole}
+use Rattle.vfs_core.specs.VirtualPath.{climb, last_name, virtual_parent, without_end_slash, without_dots}
 
 -- texts that differ are told apart
 not_bytes : (xs ys : List ℕ) → (xs ≡ ys → ⊥) → bytes_eq xs ys ≡ false
 not_bytes xs ys h = false_from_ne_true (bytes_eq xs ys) (λ e. h ((bytes_eq-Decides xs ys).0 e))
-
--- a text in which a search finds no `at` lacks it
-pub Lacks-from_reads : (at : ℕ) (text : List ℕ) → ((k : ℕ) → k < length text → get_or text k 0 ≢ at) → Lacks at text
-Lacks-from_reads at text h =
-    recursion_from_All (λ b. (b == at) ≡ false) text (All-from_get_or (λ b. (b == at) ≡ false) text 0 (λ k l. ne_eqb _ at (h k l)))
-
--- what a search from the end gives is the cut at the last `at`
-pub cut_at_last : (at : ℕ) (text : List ℕ) (r : Option (Bor (List ℕ) × Bor (List ℕ))) → at < 128
-    → MatchOption r (RFindsChar at text None) (λ x. (i : ℕ) × (j : ℕ) × RFindsChar at text (Some (i, j)) × (x.0.now ≡ take i text) × (x.1.now ≡ drop j text) × (i ≤ j) × (length x.0.now ≡ i) × (length x.1.now + j ≡ length text))
-    → MatchOption r (Lacks at text) (λ x. IsCutAtLast at text x.0.now x.1.now)
-cut_at_last at text None small h = Lacks-from_reads at text (λ k l. NoCharPasses-char at text k h small l)
-cut_at_last at text (Some x) small h =
-    let whole : text ≡ take h.0 text ++ at ∷ drop h.1 text = sym (take-append-drop h.0 text) ∙ ap (λ rest. take h.0 text ++ rest) (drop_at_char at text h.0 h.1 h.2.1 small) in
-    let no_more : Lacks at (drop h.1 text) = Lacks-from_reads at (drop h.1 text) (λ k l. NoCharPasses-char at (drop h.1 text) k h.2.0 small l) in
-    record { parts = whole ∙ (rw (h.3, h.4) refl); last = rw h.4 no_more }
 
 -- every byte of a text that lacks `at` is something else
 not_at : (at : ℕ) (text : List ℕ) (k : ℕ) → Lacks at text → k < length text → not (get_or text k 0 == at) ≡ true
@@ -72,11 +55,6 @@ suffix_lacking : (at : ℕ) (text : List ℕ) → Lacks at text → suffix_len (
 suffix_lacking at text lacks =
     suffix_len_is (λ b. not (b == at)) text 0 0 (omega arith) (λ k from l. not_at at text k lacks l) (λ some. absurd (omega arith))
 
-before_lacking : (at : ℕ) (text : List ℕ) → Lacks at text → length (before_last (λ b. b == at) text) ≡ 0
-before_lacking at text lacks =
-    let end : length text - suffix_len (λ b. not (b == at)) text - 1 ≡ 0 = omega (arith, suffix_lacking at text lacks) in
-    ap (λ n. length (take n text)) end
-
 after_lacking : (at : ℕ) (text : List ℕ) → Lacks at text → after_last (λ b. b == at) text ≡ text
 after_lacking at text lacks =
     let start : length text - suffix_len (λ b. not (b == at)) text ≡ 0 = omega (arith, suffix_lacking at text lacks) in
@@ -96,15 +74,15 @@ none_at at [] lacks = refl
 none_at at (b ∷ text) lacks = ap (λ t. t || list_any (λ c. c == at) text) lacks.0 ∙ none_at at text lacks.1
 
 -- a cut pops
-pub popped_at_cut : (text front back : List ℕ) → IsCutAtLast 47 text front back → popped text ≡ Some front
-unfolding popped
-popped_at_cut text front back cut =
+pub virtual_parent_at_cut : (text front back : List ℕ) → IsCutAtLast 47 text front back → virtual_parent text ≡ Some front
+unfolding virtual_parent
+virtual_parent_at_cut text front back cut =
     let there : list_any is_slash text ≡ true = ap (list_any is_slash) cut.parts ∙ any_at 47 front back in
     cond-true _ _ _ there ∙ ap Some (before_at_cut 47 text front back cut)
 
-pub popped_lacking : (text : List ℕ) → Lacks 47 text → popped text ≡ None
-unfolding popped
-popped_lacking text lacks = cond-false _ _ _ (none_at 47 text lacks)
+pub virtual_parent_lacking : (text : List ℕ) → Lacks 47 text → virtual_parent text ≡ None
+unfolding virtual_parent
+virtual_parent_lacking text lacks = cond-false _ _ _ (none_at 47 text lacks)
 
 -- the name behind a cut
 pub last_name_at_cut : (text front back : List ℕ) → IsCutAtLast 47 text front back → last_name text ≡ back
@@ -115,51 +93,29 @@ pub last_name_lacking : (text : List ℕ) → Lacks 47 text → last_name text �
 unfolding last_name
 last_name_lacking text lacks = after_lacking 47 text lacks
 
--- a cut with something before its dot is into the stem and the extension
-pub stem_at_cut : (name front back : List ℕ) → IsCutAtLast 46 name front back → 0 < length front → stem_of name ≡ front
-unfolding stem_of
-stem_at_cut name front back cut some =
-    cond-true _ _ _ (lt-ltb 0 (length (before_last (λ b. b == 46) name)) (omega (arith, ap length (before_at_cut 46 name front back cut))))
-    ∙ before_at_cut 46 name front back cut
-
-pub extension_at_cut : (name front back : List ℕ) → IsCutAtLast 46 name front back → 0 < length front → extension_of name ≡ Some back
-unfolding extension_of
-extension_at_cut name front back cut some =
-    cond-true _ _ _ (lt-ltb 0 (length (before_last (λ b. b == 46) name)) (omega (arith, ap length (before_at_cut 46 name front back cut))))
-    ∙ ap Some (after_at_cut 46 name front back cut)
-
--- with nothing before its last dot a name is its own stem and has no extension
-stem_whole : (name : List ℕ) → length (before_last (λ b. b == 46) name) ≡ 0 → stem_of name ≡ name
-unfolding stem_of
-stem_whole name none = cond-false _ _ _ (le-ltb 0 (length (before_last (λ b. b == 46) name)) (omega (arith, none)))
-
-extension_none : (name : List ℕ) → length (before_last (λ b. b == 46) name) ≡ 0 → extension_of name ≡ None
-unfolding extension_of
-extension_none name none = cond-false _ _ _ (le-ltb 0 (length (before_last (λ b. b == 46) name)) (omega (arith, none)))
-
 -- a name whose last dot comes first
 pub named_first_dot : (name front back : List ℕ) → IsCutAtLast 46 name front back → length front ≡ 0
     → (stem_of name ≡ name) × (extension_of name ≡ None)
 named_first_dot name front back cut none =
-    let before : length (before_last (λ b. b == 46) name) ≡ 0 = ap length (before_at_cut 46 name front back cut) ∙ none in
+    let before : length (before_last is_dot name) ≡ 0 = ap length (before_dot name front back cut) ∙ none in
     (stem_whole name before, extension_none name before)
 
 -- a name without a dot
 pub named_no_dot : (name : List ℕ) → Lacks 46 name → (stem_of name ≡ name) × (extension_of name ≡ None)
-named_no_dot name lacks = (stem_whole name (before_lacking 46 name lacks), extension_none name (before_lacking 46 name lacks))
+named_no_dot name lacks = (stem_whole name (before_lacking name lacks), extension_none name (before_lacking name lacks))
 
 -- a slash at the end
-pub unslashed_end : (text front : List ℕ) → text ≡ front ++ 47 ∷ [] → unslashed text ≡ front
-unfolding unslashed
-unslashed_end text front e =
+pub without_end_slash_end : (text front : List ℕ) → text ≡ front ++ 47 ∷ [] → without_end_slash text ≡ front
+unfolding without_end_slash
+without_end_slash_end text front e =
     let end : length text - 1 ≡ length front = omega (arith, ap length e, length-append front (47 ∷ [])) in
     let slash : get_or text (length text - 1) 0 ≡ 47 =
     ap (get_or text (length text - 1)) refl ∙ ap (λ n. get_or text n 0) end ∙ ap (λ s. get_or s (length front) 0) e ∙ get_or-append_seam front 47 [] 0 in
     cond-true _ _ _ (eq-eqb _ 47 slash) ∙ ap (λ n. take n text) end ∙ ap (take (length front)) e ∙ take-append_seam front (47 ∷ [])
 
-pub unslashed_other : (text : List ℕ) → ((front : List ℕ) → text ≡ front ++ 47 ∷ [] → ⊥) → unslashed text ≡ text
-unfolding unslashed
-unslashed_other text lacks = cond-false _ _ _ (ne_eqb _ 47 (λ slash. lacks (take (length text - 1) text) (ends text slash)))
+pub without_end_slash_other : (text : List ℕ) → ((front : List ℕ) → text ≡ front ++ 47 ∷ [] → ⊥) → without_end_slash text ≡ text
+unfolding without_end_slash
+without_end_slash_other text lacks = cond-false _ _ _ (ne_eqb _ 47 (λ slash. lacks (take (length text - 1) text) (ends text slash)))
   where
     ends : (text : List ℕ) → get_or text (length text - 1) 0 ≡ 47 → text ≡ take (length text - 1) text ++ 47 ∷ []
     ends [] slash = absurd (omega (arith, slash))
@@ -170,17 +126,17 @@ unslashed_other text lacks = cond-false _ _ _ (ne_eqb _ 47 (λ slash. lacks (tak
         rw shorter (ap (λ s. b ∷ s) (more (ap (λ n. get_or (b ∷ c ∷ text) n 0) (sym shorter) ∙ slash)))
 
 -- each leading `../` of a tail pops
-pub climbed_up : (base above tail rest : List ℕ) → tail ≡ codes "../" ++ rest → popped base ≡ Some above → climbed base tail ≡ climbed above rest
-unfolding climbed
+pub climbed_up : (base above tail rest : List ℕ) → tail ≡ codes "../" ++ rest → virtual_parent base ≡ Some above → climb base tail ≡ climb above rest
+unfolding climb
 climbed_up base above tail rest e p = rw (e, p) refl
 
-pub climbed_top : (base tail rest : List ℕ) → tail ≡ codes "../" ++ rest → popped base ≡ None → climbed base tail ≡ None
-unfolding climbed
+pub climbed_top : (base tail rest : List ℕ) → tail ≡ codes "../" ++ rest → virtual_parent base ≡ None → climb base tail ≡ None
+unfolding climb
 climbed_top base tail rest e p = rw (e, p) refl
 
 -- three bytes that are not `../`
-pub climbed_end : (base tail : List ℕ) → ((rest : List ℕ) → tail ≡ codes "../" ++ rest → ⊥) → climbed base tail ≡ Some (base, tail)
-unfolding climbed
+pub climbed_end : (base tail : List ℕ) → ((rest : List ℕ) → tail ≡ codes "../" ++ rest → ⊥) → climb base tail ≡ Some (base, tail)
+unfolding climb
 climbed_end base [] lacks = refl
 climbed_end base (a ∷ []) lacks = refl
 climbed_end base (a ∷ b ∷ []) lacks = refl

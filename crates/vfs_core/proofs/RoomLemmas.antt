@@ -6,35 +6,35 @@ use Rattle.std.specs.Option.{is_some}
 use Rattle.std.proofs.lemmas.Grind.{common_steps}
 use Rattle.std.proofs.lemmas.Map.Made.{is_some-lookup}
 use Rattle.vfs_core.specs.declared.file_state.FileState.{FileState}
-use Rattle.vfs_core.specs.Marks.{with_place}
-use Rattle.vfs_core.specs.VfsPath.{Place, place_eq}
+use Rattle.vfs_core.specs.Marks.{with_path}
+use Rattle.vfs_core.specs.VfsPath.{PathContent, vfs_path_eq}
 
 -- as many paths as entries
-length-paths : (entries : List (Place × FileState)) → length (keys_of entries) ≡ length entries
+length-paths : (entries : List (PathContent × FileState)) → length (keys_of entries) ≡ length entries
 length-paths entries = grind (arith, common_steps)
 
 -- a path that is known makes no more
-pub room_known : (entries : List (Place × FileState)) (place : Place) (state : FileState)
-    → lookup (place_eq place) entries ≡ Some state → length entries ≤ 0x7fff_ffff
-    → length (with_place place (keys_of entries)) ≤ 0x7fff_ffff
-room_known entries place state h fits =
-    let known : list_any (place_eq place) (keys_of entries) ≡ true =
-    sym (is_some-lookup (place_eq place) entries) ∙ ap is_some h in
+pub room_known : (entries : List (PathContent × FileState)) (path : PathContent) (state : FileState)
+    → lookup (vfs_path_eq path) entries ≡ Some state → length entries ≤ 0x7fff_ffff
+    → length (with_path path (keys_of entries)) ≤ 0x7fff_ffff
+room_known entries path state h fits =
+    let known : list_any (vfs_path_eq path) (keys_of entries) ≡ true =
+    sym (is_some-lookup (vfs_path_eq path) entries) ∙ ap is_some h in
     rw known (omega (arith, length-paths entries))
 
 -- the same by whether the first path is the one
-absent-split : (place : Place) (state : FileState) (entries : List (Place × FileState)) (is_first : Bool)
-    → (if is_first then Some state else lookup (place_eq place) entries) ≡ None
-    → (lookup (place_eq place) entries ≡ None → position_or_len (place_eq place) (keys_of entries) ≡ length entries)
-    → cond (not is_first) (1 + position_or_len (place_eq place) (keys_of entries)) 0 ≡ length entries + 1
-absent-split place state entries true h more = cc
-absent-split place state entries false h more = omega (arith, more h)
+absent-split : (path : PathContent) (state : FileState) (entries : List (PathContent × FileState)) (is_first : Bool)
+    → (if is_first then Some state else lookup (vfs_path_eq path) entries) ≡ None
+    → (lookup (vfs_path_eq path) entries ≡ None → position_or_len (vfs_path_eq path) (keys_of entries) ≡ length entries)
+    → cond (not is_first) (1 + position_or_len (vfs_path_eq path) (keys_of entries)) 0 ≡ length entries + 1
+absent-split path state entries true h more = cc
+absent-split path state entries false h more = omega (arith, more h)
 
 -- a path that is not known comes after all
-pub first_absent : (entries : List (Place × FileState)) (place : Place)
-    → lookup (place_eq place) entries ≡ None
-    → position_or_len (place_eq place) (keys_of entries) ≡ length entries
-first_absent [] place h = refl
-first_absent (entry ∷ entries) place h =
-    let more = absent-split place entry.1 entries (place_eq place entry.0) h (first_absent entries place) in
+pub first_absent : (entries : List (PathContent × FileState)) (path : PathContent)
+    → lookup (vfs_path_eq path) entries ≡ None
+    → position_or_len (vfs_path_eq path) (keys_of entries) ≡ length entries
+first_absent [] path h = refl
+first_absent (entry ∷ entries) path h =
+    let more = absent-split path entry.1 entries (vfs_path_eq path entry.0) h (first_absent entries path) in
     omega (arith, more)

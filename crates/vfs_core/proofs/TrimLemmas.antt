@@ -1,21 +1,25 @@
 -- The parts of a virtual path: its components, what stands behind them, and what is left without slashes at the ends.
-use Rattle.std.proofs.Common.{◌≡◌, ℕ, zero, suc, ◌+◌, ◌<◌, ◌≤◌, ◌==◌, Bool, true, false, not, cond, ◌&&◌, List, [], ◌∷◌, ◌++◌, length, take, Option, Some, None, Bor, is_some, refl, sym, ap, ◌∙◌, arith, length-drop, reverse, true≢false, if◌then◌else◌}
-use Rattle.std.proofs.lemmas.Bool.{cond-true, cond-false, false_from_ne_true}
+use Rattle.std.proofs.Common.{◌≡◌, ℕ, zero, suc, ◌+◌, ◌<◌, ◌≤◌, ◌≢◌, ◌==◌, Bool, true, false, not, cond, ◌&&◌, List, [], ◌∷◌, ◌++◌, length, get_or, take, Option, Some, None, Bor, is_some, refl, sym, ap, ◌∙◌, arith, length-drop, reverse, true≢false, if◌then◌else◌}
+use Rattle.std.proofs.lemmas.Bool.{cond-true, cond-false, false_from_ne_true, ne_eqb}
 use Rattle.std.proofs.lemmas.Slice.Eq.{bytes_eq-Decides}
 use Rattle.std.specs.Cmp.Lexicographic.{pointwise}
 use Rattle.std.specs.Option.{option_copied}
 use Rattle.std.specs.Prelude.{bytes_eq}
 use Rattle.std.proofs.lemmas.List.{reverse-append, reverse-reverse}
-use Rattle.std.proofs.lemmas.List.Elements.{All-from_recursion}
+use Rattle.std.proofs.lemmas.List.Elements.{All-from_get_or, All-from_recursion, recursion_from_All}
 use Rattle.std.proofs.lemmas.List.Splits.{join_with_byte-slice_split, length-slice_split, slice_split_first, slice_split_none}
 use Rattle.std.proofs.lemmas.Str.Pattern.{NoCharPasses-char}
 use Rattle.std.specs.List.{after_first, before_first, filter, join_with_byte, onto_first, position_or_len, slice_split}
 use Rattle.std.specs.Str.{NoCharPasses}
 use Rattle.base_text.specs.Paths.{components, is_component, is_prefix, is_slash}
 use Rattle.base_text.specs.Rows.{IsCutAtLast, Lacks}
-use Rattle.vfs_core.specs.RealPath.{begins}
-use Rattle.vfs_core.specs.VirtualPath.{back_trimmed, from_component, front_trimmed, parts_behind, text_behind, virtual_rest, TakesComponent}
-use Rattle.vfs_core.proofs.PartLemmas.{Lacks-from_reads}
+use Rattle.vfs_core.specs.RealPath.{is_text_prefix}
+use Rattle.vfs_core.specs.VirtualPath.{trim_back, from_component, trim_front, parts_behind, text_behind, virtual_rest, TakesComponent}
+
+-- a text in which a search finds no `at` lacks it
+Lacks-from_reads : (at : ℕ) (text : List ℕ) → ((k : ℕ) → k < length text → get_or text k 0 ≢ at) → Lacks at text
+Lacks-from_reads at text h =
+    recursion_from_All (λ b. (b == at) ≡ false) text (All-from_get_or (λ b. (b == at) ≡ false) text 0 (λ k l. ne_eqb _ at (h k l)))
 
 -- a text in which a search finds no slash lacks it
 pub lacks_slash : (text : List ℕ) → NoCharPasses (λ d. d == 47) text → Lacks 47 text
@@ -124,25 +128,25 @@ takes_none text rest still lacks passed =
 
 -- the front of a text, by its first part
 pub front_past : (text part more : List ℕ) → IsFirstCut text part more → is_component part ≡ false
-    → front_trimmed text ≡ front_trimmed more
-unfolding front_trimmed
+    → trim_front text ≡ trim_front more
+unfolding trim_front
 front_past text part more cut passed =
     ap (λ parts. join_with_byte 47 (from_component parts)) (parts_at_cut text part more cut) ∙ ap (join_with_byte 47) (cond-false _ _ _ passed)
 
-pub front_here : (text part more : List ℕ) → IsFirstCut text part more → is_component part ≡ true → front_trimmed text ≡ text
-unfolding front_trimmed
+pub front_here : (text part more : List ℕ) → IsFirstCut text part more → is_component part ≡ true → trim_front text ≡ text
+unfolding trim_front
 front_here text part more cut counts =
     let e = parts_at_cut text part more cut in
     ap (λ parts. join_with_byte 47 (from_component parts)) e ∙ ap (join_with_byte 47) (cond-true _ _ _ counts ∙ sym e)
     ∙ join_with_byte-slice_split 47 text
 
-pub front_alone : (text : List ℕ) → Lacks 47 text → is_component text ≡ true → front_trimmed text ≡ text
-unfolding front_trimmed
+pub front_alone : (text : List ℕ) → Lacks 47 text → is_component text ≡ true → trim_front text ≡ text
+unfolding trim_front
 front_alone text lacks counts =
     ap (λ parts. join_with_byte 47 (from_component parts)) (parts_alone text lacks) ∙ ap (join_with_byte 47) (cond-true _ _ _ counts)
 
-pub front_none : (text : List ℕ) → Lacks 47 text → is_component text ≡ false → front_trimmed text ≡ []
-unfolding front_trimmed
+pub front_none : (text : List ℕ) → Lacks 47 text → is_component text ≡ false → trim_front text ≡ []
+unfolding trim_front
 front_none text lacks passed =
     ap (λ parts. join_with_byte 47 (from_component parts)) (parts_alone text lacks) ∙ ap (join_with_byte 47) (cond-false _ _ _ passed)
 
@@ -176,14 +180,14 @@ back_parts text more part cut =
     ∙ reverse-append (slice_split is_slash more) (part ∷ [])
 
 pub back_past : (text more part : List ℕ) → IsCutAtLast 47 text more part → is_component part ≡ false
-    → back_trimmed text ≡ back_trimmed more
-unfolding back_trimmed
+    → trim_back text ≡ trim_back more
+unfolding trim_back
 back_past text more part cut passed =
     ap (λ parts. join_with_byte 47 (reverse (from_component parts))) (back_parts text more part cut)
     ∙ ap (λ parts. join_with_byte 47 (reverse parts)) (cond-false _ _ _ passed)
 
-pub back_here : (text more part : List ℕ) → IsCutAtLast 47 text more part → is_component part ≡ true → back_trimmed text ≡ text
-unfolding back_trimmed
+pub back_here : (text more part : List ℕ) → IsCutAtLast 47 text more part → is_component part ≡ true → trim_back text ≡ text
+unfolding trim_back
 back_here text more part cut counts =
     let e = back_parts text more part cut in
     ap (λ parts. join_with_byte 47 (reverse (from_component parts))) e
@@ -191,14 +195,14 @@ back_here text more part cut counts =
     ∙ ap (join_with_byte 47) (reverse-reverse (slice_split is_slash text))
     ∙ join_with_byte-slice_split 47 text
 
-pub back_alone : (text : List ℕ) → Lacks 47 text → is_component text ≡ true → back_trimmed text ≡ text
-unfolding back_trimmed
+pub back_alone : (text : List ℕ) → Lacks 47 text → is_component text ≡ true → trim_back text ≡ text
+unfolding trim_back
 back_alone text lacks counts =
     ap (λ parts. join_with_byte 47 (reverse (from_component (reverse parts)))) (parts_alone text lacks)
     ∙ ap (λ parts. join_with_byte 47 (reverse parts)) (cond-true _ _ _ counts)
 
-pub back_none : (text : List ℕ) → Lacks 47 text → is_component text ≡ false → back_trimmed text ≡ []
-unfolding back_trimmed
+pub back_none : (text : List ℕ) → Lacks 47 text → is_component text ≡ false → trim_back text ≡ []
+unfolding trim_back
 back_none text lacks passed =
     ap (λ parts. join_with_byte 47 (reverse (from_component (reverse parts)))) (parts_alone text lacks)
     ∙ ap (λ parts. join_with_byte 47 (reverse parts)) (cond-false _ _ _ passed)
@@ -223,17 +227,17 @@ unfolding is_prefix
 prefix_other part first front whole e = ap (λ t. t && pointwise bytes_eq front (take (length front) whole)) e
 
 -- the same of texts
-pub begins_all : (wanted rest : List ℕ) → components wanted ≡ [] → begins wanted rest ≡ true
+pub begins_all : (wanted rest : List ℕ) → components wanted ≡ [] → is_text_prefix wanted rest ≡ true
 begins_all wanted rest none = ap (λ f. is_prefix f (components rest)) none ∙ prefix_all (components rest)
 
 pub begins_short : (wanted rest part more : List ℕ) → TakesComponent wanted part more → components rest ≡ []
-    → begins wanted rest ≡ false
+    → is_text_prefix wanted rest ≡ false
 begins_short wanted rest part more takes none =
     ap (λ f. is_prefix f (components rest)) takes.parts ∙ ap (is_prefix (part ∷ components more)) none
     ∙ prefix_short part (components more)
 
 pub begins_other : (wanted rest part more first behind : List ℕ) → TakesComponent wanted part more → TakesComponent rest first behind
-    → not (bytes_eq first part) ≡ true → begins wanted rest ≡ false
+    → not (bytes_eq first part) ≡ true → is_text_prefix wanted rest ≡ false
 begins_other wanted rest part more first behind takes found differs =
     let apart : bytes_eq part first ≡ false = false_from_ne_true (bytes_eq part first)
     (λ (e : bytes_eq part first ≡ true).
@@ -252,7 +256,7 @@ same_name first part h = (bytes_eq-Decides first part).0 (by (bytes_eq first par
 
 -- one more component of both
 pub begins_more : (wanted rest part more first behind : List ℕ) → TakesComponent wanted part more → TakesComponent rest first behind
-    → first ≡ part → begins wanted rest ≡ begins more behind
+    → first ≡ part → is_text_prefix wanted rest ≡ is_text_prefix more behind
 begins_more wanted rest part more first behind takes found same =
     ap (λ f. is_prefix f (components rest)) takes.parts
     ∙ ap (is_prefix (part ∷ components more)) (found.parts ∙ ap (λ p. p ∷ components behind) same)
@@ -264,27 +268,27 @@ behind_more wanted rest part more first behind takes found =
     sym (found.behind (length (components more))) ∙ ap (text_behind rest) (sym (ap length takes.parts))
 
 -- what is left, where the front does not begin the text and where it does
-pub rest_none : (front whole : List ℕ) → begins front whole ≡ false → virtual_rest front whole ≡ None
+pub rest_none : (front whole : List ℕ) → is_text_prefix front whole ≡ false → virtual_rest front whole ≡ None
 unfolding virtual_rest
 rest_none front whole no_front = cond-false _ _ _ no_front
 
-pub rest_some : (front whole wanted rest : List ℕ) → begins front whole ≡ true → components wanted ≡ []
+pub rest_some : (front whole wanted rest : List ℕ) → is_text_prefix front whole ≡ true → components wanted ≡ []
     → text_behind rest (length (components wanted)) ≡ text_behind whole (length (components front))
-    → virtual_rest front whole ≡ Some (back_trimmed (front_trimmed rest))
+    → virtual_rest front whole ≡ Some (trim_back (trim_front rest))
 unfolding virtual_rest
 rest_some front whole wanted rest is none behind =
     let left : text_behind whole (length (components front)) ≡ rest =
     sym behind ∙ ap (λ parts. text_behind rest (length parts)) none ∙ join_with_byte-slice_split 47 rest in
-    cond-true _ _ _ is ∙ ap (λ t. Some (back_trimmed (front_trimmed t))) left
+    cond-true _ _ _ is ∙ ap (λ t. Some (trim_back (trim_front t))) left
 
 -- something is left exactly where the front begins the text
 found-split : (t : Bool) (rest : List ℕ) → is_some (if t then Some rest else None) ≡ t
 found-split true rest = refl
 found-split false rest = refl
 
-pub found_rest : (front whole : List ℕ) → is_some (virtual_rest front whole) ≡ begins front whole
+pub found_rest : (front whole : List ℕ) → is_some (virtual_rest front whole) ≡ is_text_prefix front whole
 unfolding virtual_rest
-found_rest front whole = found-split (begins front whole) _
+found_rest front whole = found-split (is_text_prefix front whole) _
 
 -- a borrowed text is there where the text is
 pub found_copied : (rest : Option (Bor (List ℕ))) → is_some (option_copied rest) ≡ is_some rest

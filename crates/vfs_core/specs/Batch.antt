@@ -1,10 +1,11 @@
 -- What a batch holds after some calls: one change for each file, in order of first change.
 -- From the documentation of the virtual file system's changes.
-use Rattle.std.specs.Prelude.{◌≡◌, ℕ, Bool, true, false, ◌&&◌, not, List, [], ◌∷◌, ◌++◌, Option, Some, None, nat_eq, map, if◌then◌else◌}
+use Rattle.std.specs.Prelude.{◌≡◌, ℕ, Bool, true, false, ◌&&◌, not, List, [], ◌∷◌, Option, Some, None, nat_eq, map, if◌then◌else◌}
 use Rattle.std.specs.List.{filter, list_any}
 use Rattle.std.specs.Map.{keys_of, lookup}
 use Rattle.std.specs.Option.{option_map}
 use Rattle.indexmap.specs.IndexMap.{insert_entry}
+use Rattle.vfs_core.specs.Distinct.{with_item}
 use Rattle.vfs_core.specs.declared.changed_file.Change.{Change}
 use Rattle.vfs_core.specs.declared.changed_file.Change.TheVariants.{Create, Modify, Delete}
 use Rattle.vfs_core.specs.declared.changed_file.ChangeKind.{ChangeKind}
@@ -46,8 +47,8 @@ abbrev pub exists_after : Change → Bool
 exists_after change = not (is_deletion change)
 
 -- what some calls did to one file, newest first
-abbrev pub done_to : ℕ → List ChangedFile → List Change
-done_to file calls = map (λ call. call.change) (filter (λ call. nat_eq file call.file_id) calls)
+abbrev pub changes_of : ℕ → List ChangedFile → List Change
+changes_of file calls = map (λ call. call.change) (filter (λ call. nat_eq file call.file_id) calls)
 
 -- whether the first of these made the file
 abbrev pub began_with_creation : List Change → Bool
@@ -60,34 +61,30 @@ abbrev pub is_new : List Change → Bool
 is_new changes = began_with_creation changes && not (list_any is_deletion changes)
 
 -- these contents of a file that is new, or of one that was there
-abbrev pub holding : Bool → List ℕ → ℕ → Change
-holding true bytes hash = Create bytes hash
-holding false bytes hash = Modify bytes hash
+abbrev pub create_or_modify : Bool → List ℕ → ℕ → Change
+create_or_modify true bytes hash = Create bytes hash
+create_or_modify false bytes hash = Modify bytes hash
 
 -- one change in place of all, newest first: a deletion where the last was one, else the last contents
-abbrev pub in_one : List Change → Option Change
-in_one [] = None
-in_one (Delete ∷ changes) = Some Delete
-in_one (Create bytes hash ∷ changes) = Some (holding (is_new (Create bytes hash ∷ changes)) bytes hash)
-in_one (Modify bytes hash ∷ changes) = Some (holding (is_new (Modify bytes hash ∷ changes)) bytes hash)
-
--- files, with one more where it is not among them
-abbrev pub with_file : ℕ → List ℕ → List ℕ
-with_file file files = if list_any (nat_eq file) files then files else files ++ file ∷ []
+abbrev pub net_change : List Change → Option Change
+net_change [] = None
+net_change (Delete ∷ changes) = Some Delete
+net_change (Create bytes hash ∷ changes) = Some (create_or_modify (is_new (Create bytes hash ∷ changes)) bytes hash)
+net_change (Modify bytes hash ∷ changes) = Some (create_or_modify (is_new (Modify bytes hash ∷ changes)) bytes hash)
 
 -- the files that calls changed, in order of first change; the calls stand newest first
-abbrev pub changed_files : List ChangedFile → List ℕ
-changed_files [] = []
-changed_files (call ∷ calls) = with_file call.file_id (changed_files calls)
+abbrev pub files_of_calls : List ChangedFile → List ℕ
+files_of_calls [] = []
+files_of_calls (call ∷ calls) = with_item nat_eq call.file_id (files_of_calls calls)
 
 -- a file with its change
-abbrev pub changed : ℕ → Change → ChangedFile
-changed file change = record { file_id = file; change = change }
+abbrev pub changed_file : ℕ → Change → ChangedFile
+changed_file file change = record { file_id = file; change = change }
 
 -- the batch of calls that answered true, newest first: each changed file has one change, in order of first change
 pub record IsBatch (batch : List (ℕ × ChangedFile)) (calls : List ChangedFile) : Type 0 where
-  pub order : keys_of batch ≡ changed_files calls
-  pub changes : (file : ℕ) → lookup (nat_eq file) batch ≡ option_map (changed file) (in_one (done_to file calls))
+  pub order : keys_of batch ≡ files_of_calls calls
+  pub changes : (file : ℕ) → lookup (nat_eq file) batch ≡ option_map (changed_file file) (net_change (changes_of file calls))
 
 -- calls, with one more where it changed its file
 abbrev pub with_call : Option ChangedFile → List ChangedFile → List ChangedFile
@@ -112,10 +109,10 @@ abbrev pub kind_in : List (ℕ × ChangedFile) → ℕ → Option ChangeKind
 kind_in batch file = option_map (λ call. kind_of_change call.change) (lookup (nat_eq file) batch)
 
 -- a batch, with one more change of a file
-abbrev pub noted : List (ℕ × ChangedFile) → ℕ → Change → List (ℕ × ChangedFile)
-noted batch file change = insert_entry nat_eq batch file (changed file (merged_change (kind_in batch file) change))
+abbrev pub with_change : List (ℕ × ChangedFile) → ℕ → Change → List (ℕ × ChangedFile)
+with_change batch file change = insert_entry nat_eq batch file (changed_file file (merged_change (kind_in batch file) change))
 
 -- a batch, with one more call where it changed its file
-abbrev pub with_noted : Option ChangedFile → List (ℕ × ChangedFile) → List (ℕ × ChangedFile)
-with_noted None batch = batch
-with_noted (Some call) batch = noted batch call.file_id call.change
+abbrev pub with_changed_file : Option ChangedFile → List (ℕ × ChangedFile) → List (ℕ × ChangedFile)
+with_changed_file None batch = batch
+with_changed_file (Some call) batch = with_change batch call.file_id call.change

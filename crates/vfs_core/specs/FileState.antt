@@ -47,10 +47,10 @@ is_existing Deleted = false
 is_existing Excluded = false
 
 -- how a look-up shows a file: not at all where it is deleted
-abbrev pub shown : FileState → Option FileExcluded
-shown (Exists hash) = Some No
-shown Deleted = None
-shown Excluded = Some Yes
+abbrev pub visibility : FileState → Option FileExcluded
+visibility (Exists hash) = Some No
+visibility Deleted = None
+visibility Excluded = Some Yes
 
 -- the state of a file whose text that counts is known
 abbrev pub state_of : Option (List ℕ) → FileState

@@ -1,12 +1,13 @@
 pub mod Batch
+pub mod Calls
+pub mod Distinct
 pub mod FileState
 pub mod Files
 pub mod Hash
 pub mod Marks
-pub mod PlaceOrder
+pub mod VfsPathOrder
 pub mod RealPath
-pub mod RelPath
+pub mod Texts
 pub mod VfsError
 pub mod VfsPath
 pub mod VirtualPath
-pub mod Texts

@@ -3,7 +3,7 @@ use Rattle.std.specs.Prelude.{◌≡◌, ℕ, Bool, List, Option}
 use Rattle.std.specs.Borrow.{Bor}
 use Rattle.std.specs.Option.{option_copied, option_map}
 use Rattle.base_text.specs.FileName.{extension_of, stem_of}
-use Rattle.base_text.specs.Paths.{components, file_name, is_prefix, joined, normal, parent_text, path_text, resolved, text_below, IsClean}
+use Rattle.base_text.specs.Paths.{components, file_name, is_prefix, joined, normal, path_text, resolved, text_below, IsClean}
 
 -- the text is that of its components, and resolving them changes nothing
 pub record IsNormal (text : List ℕ) : Type 0 where
@@ -11,24 +11,20 @@ pub record IsNormal (text : List ℕ) : Type 0 where
   pub resolved : normal text ≡ components text
 
 -- the text of a real path joined with a tail: no `..` of either is left
-abbrev pub real_tail : List ℕ → List ℕ → List ℕ
-real_tail text tail = path_text (resolved (joined text tail))
+abbrev pub real_joined_text : List ℕ → List ℕ → List ℕ
+real_joined_text text tail = path_text (resolved (joined text tail))
 
--- the text of the path above a real one
-abbrev pub real_parent : List ℕ → Option (List ℕ)
-real_parent text = parent_text text
-
--- the components of a front come first in a text
-abbrev pub begins : List ℕ → List ℕ → Bool
-begins front text = is_prefix (components front) (components text)
+-- whether the components of a front come first in a text
+abbrev pub is_text_prefix : List ℕ → List ℕ → Bool
+is_text_prefix front text = is_prefix (components front) (components text)
 
 -- what stands behind the components of a front in a real path
-abbrev pub rest_below : List ℕ → List ℕ → Option (List ℕ)
-rest_below front text = text_below (components front) (components text)
+abbrev pub real_rest : List ℕ → List ℕ → Option (List ℕ)
+real_rest front text = text_below (components front) (components text)
 
 -- the file name of a real path as a stem and an extension, if it has one
-abbrev pub named : List ℕ → Option (List ℕ × Option (List ℕ))
-named text = option_map (λ name. (stem_of name, extension_of name)) (file_name text)
+abbrev pub stem_and_extension : List ℕ → Option (List ℕ × Option (List ℕ))
+stem_and_extension text = option_map (λ name. (stem_of name, extension_of name)) (file_name text)
 
 -- the texts of a borrowed stem and extension
 abbrev pub name_texts : Bor (List ℕ) × Option (Bor (List ℕ)) → List ℕ × Option (List ℕ)

@@ -9,7 +9,7 @@ use Rattle.vfs_core.specs.declared.marks.Mark.{Mark}
 use Rattle.vfs_core.specs.declared.marks.MarkKind.TheVariants.{Out}
 use Rattle.vfs_core.specs.Files.{Files, Follows, kind_of, number_of}
 use Rattle.vfs_core.specs.Marks.{live_text}
-use Rattle.vfs_core.specs.VfsPath.{Place}
+use Rattle.vfs_core.specs.VfsPath.{PathContent}
 
 -- the contents that a change leaves
 abbrev pub contents_left : Change → Option (List ℕ)
@@ -28,18 +28,18 @@ contents_after batch known file = contents_by (lookup (nat_eq file) batch) (know
 
 -- the batch brings what was known before it to the texts that live after marks
 pub record BringsTo (files : Files) (known : ℕ → Option (List ℕ)) (marks : List Mark) : Type 0 where
-  pub each : (place : Place) (file : ℕ) (text : List ℕ)
-      → number_of files place ≡ Some file → live_text marks place ≡ Some text
+  pub each : (path : PathContent) (file : ℕ) (text : List ℕ)
+      → number_of files path ≡ Some file → live_text marks path ≡ Some text
       → contents_after files.batch known file ≡ Some text
 
 -- contents that come for a path are in the batch, where they change its file
-abbrev pub BringsMark : Files → Files → Place → Option (List ℕ) → Type 0
+abbrev pub BringsMark : Files → Files → PathContent → Option (List ℕ) → Type 0
 BringsMark old new path contents = (known : ℕ → Option (List ℕ)) (marks : List Mark)
     → Follows old marks → BringsTo old known marks
     → BringsTo new known (record { path = path; kind = kind_of contents } ∷ marks)
 
 -- a path that is left out needs no contents
-abbrev pub BringsOut : Files → Files → Place → Type 0
+abbrev pub BringsOut : Files → Files → PathContent → Type 0
 BringsOut old new path = (known : ℕ → Option (List ℕ)) (marks : List Mark)
     → BringsTo old known marks → BringsTo new known (record { path = path; kind = Out } ∷ marks)
 

@@ -57,7 +57,7 @@ impl Change {
     }
 
     /// One change in place of an earlier one, of which the kind is left, and this.
-    pub(crate) fn merged(self, earlier: Option<ChangeKind>) -> Change
+    pub(crate) fn merge(self, earlier: Option<ChangeKind>) -> Change
         ensures { result ≡ merged_change earlier self }
     {
         match (earlier, self) {

@@ -21,12 +21,13 @@ pub enum FileState {
 }
 
 impl FileState {
-    ghost use Rattle.vfs_core.specs.FileState.{change_made, is_existing, shown, state_after, state_left};
+    ghost use Rattle.vfs_core.specs.FileState.{change_made, is_existing, visibility, state_after, state_left};
 
     /// The change that these contents make of the file, or a deletion where there are none.
     pub(crate) fn change(self, contents: Option<Vec<u8>>) -> Option<Change>
         ensures change { result ≡ change_made self (option_map (λ v. v.items) contents) }
-        ensures state { state_left self result ≡ state_after self (option_map (λ v. v.items) contents) }
+        ensures state { state_left self result
+            ≡ state_after self (option_map (λ v. v.items) contents) }
     {
         match (self, contents) {
             (FileState::Excluded, _) => None,
@@ -41,8 +42,8 @@ impl FileState {
     }
 
     /// How a look-up shows a file of this state, if at all.
-    pub(crate) fn shown(&self) -> Option<FileExcluded>
-        ensures { result ≡ shown self.now }
+    pub(crate) fn visibility(&self) -> Option<FileExcluded>
+        ensures { result ≡ visibility self.now }
     {
         match self {
             FileState::Exists(_) => Some(FileExcluded::No),
@@ -61,7 +62,8 @@ impl FileState {
 /// The change from contents of a hash to others. Contents of equal hash are none.
 fn modification(before: u64, bytes: Vec<u8>) -> Option<Change>
     ensures change { result ≡ change_made (Exists before) (Some bytes.items) }
-    ensures state { state_left (Exists before) result ≡ state_after (Exists before) (Some bytes.items) }
+    ensures state { state_left (Exists before) result
+        ≡ state_after (Exists before) (Some bytes.items) }
 {
     let hash = content_hash(bytes.as_slice());
     if hash == before {

@@ -5,11 +5,9 @@ pub mod anchored_path;
 pub mod changed_file;
 pub mod file_state;
 pub mod hash;
+pub mod laws;
 pub mod marks;
 mod real_path;
-pub mod rel_path;
-#[cfg(test)]
-mod tests;
 pub mod vfs;
 pub mod vfs_iter;
 pub mod vfs_path;
@@ -17,12 +15,11 @@ mod virtual_parts;
 mod virtual_path;
 
 pub use anchored_path::{AnchoredPath, AnchoredPathBuf};
-pub use base_text::FileId;
+pub use base_text::{FileId, RelPath};
 pub use changed_file::{Change, ChangeKind, ChangedFile};
 pub use file_state::{FileExcluded, FileState};
 pub use hash::content_hash;
 pub use marks::{Mark, MarkKind};
-pub use rel_path::RelPath;
 pub use vfs::{Vfs, VfsError};
 pub use vfs_iter::VfsIter;
 pub use vfs_path::VfsPath;

@@ -1,17 +1,16 @@
 //! Marks: what was said of files. They are the plain account by which the file system is judged.
 
-ghost use Rattle.std.specs.Prelude.{◌≡◌, [], List, None, map};
+ghost use Rattle.std.specs.Prelude.{◌≡◌};
 ghost use Rattle.std.specs.Option.{option_copied};
-ghost use Rattle.vfs_core.specs.Marks.{is_out, kept_next, kept_text, leaves_out, live_files, live_places, live_text, merged, same_hash, LivesNext};
-ghost use Rattle.vfs_core.specs.VfsPath.{Place};
-ghost use Rattle.vfs_core.specs.declared.marks.Mark.{Mark};
+ghost use Rattle.vfs_core.specs.Marks.{is_out, kept_text, kept_text_after, leaves_out, live_text, merged_text, same_hash};
 
 use crate::hash::content_hash;
 use crate::vfs_path::VfsPath;
-use base_text::Text;
+use base_text::{Text, TryClone};
+use std::alloc::{AllocError, Global};
 
 /// What a mark says of its file.
-#[derive(Debug, Drop)]
+#[derive(Debug, Drop, PartialEq, Eq)]
 pub enum MarkKind {
     /// The file has this text.
     Text(Text),
@@ -22,10 +21,31 @@ pub enum MarkKind {
 }
 
 /// One thing that was said of a file.
-#[derive(Debug, Drop)]
+#[derive(Debug, Drop, PartialEq, Eq)]
 pub struct Mark {
     pub path: VfsPath,
     pub kind: MarkKind,
+}
+
+impl TryClone for MarkKind {
+    fn try_clone(&self, alloc: Global) -> Result<Self, AllocError> {
+        match self {
+            MarkKind::Text(text) => {
+                let copy = text.try_clone(alloc)?;
+                Ok(MarkKind::Text(copy))
+            }
+            MarkKind::Gone => Ok(MarkKind::Gone),
+            MarkKind::Out => Ok(MarkKind::Out),
+        }
+    }
+}
+
+impl TryClone for Mark {
+    fn try_clone(&self, alloc: Global) -> Result<Self, AllocError> {
+        let path = self.path.try_clone(alloc)?;
+        let kind = self.kind.try_clone(alloc)?;
+        Ok(Mark { path, kind })
+    }
 }
 
 /// The text of a path after some marks, which stand newest first, or None where it is not live.
@@ -66,7 +86,7 @@ fn kept_text<'a>(marks: &'a [Mark], path: &VfsPath) -> Option<&'a Text>
         [mark, older @ ..] => {
             let before = kept_text(older, path);
             if *path == mark.path {
-                kept_next(&mark.kind, before)
+                kept_text_after(&mark.kind, before)
             } else {
                 before
             }
@@ -74,21 +94,21 @@ fn kept_text<'a>(marks: &'a [Mark], path: &VfsPath) -> Option<&'a Text>
     }
 }
 
-fn kept_next<'a>(kind: &'a MarkKind, before: Option<&'a Text>) -> Option<&'a Text>
-    ensures { option_copied result ≡ kept_next kind.now (option_copied before.entry) }
+fn kept_text_after<'a>(kind: &'a MarkKind, before: Option<&'a Text>) -> Option<&'a Text>
+    ensures { option_copied result ≡ kept_text_after kind.now (option_copied before.entry) }
 {
     match kind {
         MarkKind::Gone => None,
         MarkKind::Out => before,
-        MarkKind::Text(text) => Some(merged(text, before)),
+        MarkKind::Text(text) => Some(merged_text(text, before)),
     }
 }
 
-fn merged<'a>(text: &'a Text, before: Option<&'a Text>) -> &'a Text
-    ensures { result.now ≡ merged text.now (option_copied before.entry) }
+fn merged_text<'a>(text: &'a Text, before: Option<&'a Text>) -> &'a Text
+    ensures { result.now ≡ merged_text text.now (option_copied before.entry) }
 {
     match before {
-        Some(kept) if same_hash(text, kept) => kept,
+        Some(earlier) if same_hash(text, earlier) => earlier,
         _ => text,
     }
 }
@@ -98,11 +118,3 @@ fn same_hash(text: &Text, other: &Text) -> bool
 {
     content_hash(text.as_str().as_bytes()) == content_hash(other.as_str().as_bytes())
 }
-
-#[tactic(auto, using(crate::proofs::MarkLemmas::live_text_mark, crate::proofs::MarkLemmas::live_text_none, crate::proofs::MarkLemmas::live_files_places))]
-/// The laws by which marks are followed one at a time. It does nothing when it runs.
-pub fn follow_marks()
-    ensures none { (place : Place) → live_text [] place ≡ None }
-    ensures next { (mark : Mark) (marks : List Mark) (place : Place) → LivesNext mark marks place }
-    ensures files { (marks : List Mark) → map (λ file. file.0) (live_files marks) ≡ live_places marks }
-{}

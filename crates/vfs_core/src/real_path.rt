@@ -5,8 +5,8 @@ ghost use Rattle.std.specs.Option.{option_copied, option_map};
 ghost use Rattle.std.specs.Cmp.Lexicographic.{slice_cmp};
 ghost use Rattle.std.specs.Ordering.{nat_cmp, ordering_then};
 ghost use Rattle.base_text.specs.AbsPath.{abs_text, rel_text};
-ghost use Rattle.base_text.specs.Paths.{components, normal, path_text, without_last};
-ghost use Rattle.vfs_core.specs.RealPath.{begins, name_texts, named, real_parent, real_tail, rest_below};
+ghost use Rattle.base_text.specs.Paths.{components, normal, parent_text, path_text, without_last};
+ghost use Rattle.vfs_core.specs.RealPath.{is_text_prefix, name_texts, stem_and_extension, real_joined_text, real_rest};
 ghost use Rattle.vfs_core.specs.RealPath.{IsNormal};
 
 use base_text::{AbsPath, AbsPathBuf, RelPath, TryClone};
@@ -62,7 +62,7 @@ impl RealPath {
 
     /// The path with a tail behind it, normalized. An absolute tail stands alone.
     pub(crate) fn join(&self, alloc: Global, path: &str) -> Result<RealPath, AllocError>
-        ensures { IfOk result (λ made. made ≡ real_tail self.now path.now) }
+        ensures { IfOk result (λ made. made ≡ real_joined_text self.now path.now) }
     {
         let path = self.path.as_path().absolutize(alloc, path)?;
         Ok(RealPath { path })
@@ -79,7 +79,7 @@ impl RealPath {
 
     /// The path without its last component.
     pub(crate) fn parent(&self, alloc: Global) -> Result<Option<RealPath>, AllocError>
-        ensures { IfOk result (λ above. above ≡ real_parent self.now) }
+        ensures { IfOk result (λ above. above ≡ parent_text self.now) }
     {
         match self.path.as_path().parent() {
             None => Ok(None),
@@ -92,7 +92,7 @@ impl RealPath {
 
     /// The text of the path without its last component.
     pub(crate) fn parent_text(&self) -> Option<&str>
-        ensures { option_copied result ≡ real_parent self.now }
+        ensures { option_copied result ≡ parent_text self.now }
     {
         match self.path.as_path().parent() {
             None => None,
@@ -102,7 +102,7 @@ impl RealPath {
 
     /// Whether the first components are those of `other`.
     pub(crate) fn starts_with(&self, other: &RealPath) -> bool
-        ensures { result ≡ begins other.now self.now }
+        ensures { result ≡ is_text_prefix other.now self.now }
     {
         self.path.as_path().starts_with(other.path.as_path())
     }
@@ -118,14 +118,14 @@ impl RealPath {
 
     /// What is left behind the components of `other`, where they come first.
     pub(crate) fn strip_prefix(&self, other: &RealPath) -> Option<RelPath<'_>>
-        ensures { option_map rel_text result ≡ rest_below other.now self.now }
+        ensures { option_map rel_text result ≡ real_rest other.now self.now }
     {
         self.path.as_path().strip_prefix(other.path.as_path())
     }
 
     /// The last component as a stem and an extension. A dot that comes first begins no extension.
     pub(crate) fn name_and_extension(&self) -> Option<(&str, Option<&str>)>
-        ensures { option_map name_texts result ≡ named self.now }
+        ensures { option_map name_texts result ≡ stem_and_extension self.now }
     {
         let path = self.path.as_path();
         let stem = path.file_stem()?;

@@ -1,17 +1,18 @@
 //! The file system: each path has a number for good, and a state. The limit bounds how many paths may come.
 
-ghost use Rattle.std.specs.Prelude.{◌≡◌, ◌≤◌, ◌<◌, ◌↔◌, ℕ, List, Option, [], IfErr, IfOk, IfSome, IsTrue, OnErr, OnOk, Some, length};
+ghost use Rattle.std.specs.Prelude.{◌≡◌, ◌≤◌, ◌<◌, ◌↔◌, ℕ, List, Option, [], Some, length};
+ghost use Rattle.std.specs.Prelude.{IfErr, IfOk, IfSome, IsTrue, OnErr, OnOk};
 ghost use Rattle.std.specs.Map.Iter.{ShowsInOrder};
 ghost use Rattle.std.specs.Result.{IsErrOf};
 ghost use Rattle.indexmap.specs.IndexMap.{spare};
-ghost use Rattle.vfs_core.specs.Batch.{noted};
-ghost use Rattle.vfs_core.specs.Files.{bytes_of, changes, existing, existing_at, looked_up, no_files, number_for, number_of};
-ghost use Rattle.vfs_core.specs.Files.{numbered_path, place_at, places, set_contents, state_at, with_state};
-ghost use Rattle.vfs_core.specs.Files.{Excludes, Follows, Gathers, GivesBatch, HasRoomFor, IsFullFor, KeepsCalls, KeepsMarks};
-ghost use Rattle.vfs_core.specs.Files.{KeepsNumbers, ListsLive, SetsState, TakesCall, TakesMark, TakesOut};
-ghost use Rattle.vfs_core.specs.Texts.{BringsMark, BringsOut, BringsTaken, BringsTo, KeepsBringing, KeepsPassing};
+ghost use Rattle.vfs_core.specs.Batch.{with_change};
+ghost use Rattle.vfs_core.specs.Files.{bytes_of, existence_at, existing_files, is_change_at, lookup_result, no_files};
+ghost use Rattle.vfs_core.specs.Files.{number_for, number_of, numbered_path, path_at, paths_of, state_at, with_contents, with_state};
+ghost use Rattle.vfs_core.specs.Calls.{LeavesOut, SetsContents, TakesBatch};
+ghost use Rattle.vfs_core.specs.Files.{Follows, Gathers, GivesBatch, HasRoomFor, IsFullFor, KeepsCalls, KeepsMarks};
+ghost use Rattle.vfs_core.specs.Files.{KeepsNumbers, ListsLive};
+ghost use Rattle.vfs_core.specs.Texts.{BringsTo, KeepsBringing};
 ghost use Rattle.vfs_core.specs.declared.file_state.FileState.TheVariants.{Excluded};
-ghost use Rattle.vfs_core.specs.Marks.{with_place};
 
 use crate::changed_file::{Change, ChangedFile};
 use crate::file_state::{FileExcluded, FileState};
@@ -25,7 +26,7 @@ use std::marker::Model;
 use std::{fmt, mem};
 
 /// Why a path was not taken.
-#[derive(Debug, Drop, PartialEq, Eq)]
+#[derive(Clone, Copy, Debug, PartialEq, Eq)]
 pub enum VfsError {
     /// The path is new, and the limit is reached.
     TooMany,
@@ -84,7 +85,11 @@ impl Model for Vfs {
 
     ghost Value = { Files };
 
-    ghost view = { λ a. record { limit = a.limit; entries = a.entries.entries; batch = a.batch.entries } };
+    ghost view = { λ a. record {
+      limit = a.limit;
+      entries = a.entries.entries;
+      batch = a.batch.entries;
+    } };
 
     ghost invariant = { λ a. IsWellMade a.limit a.entries.entries };
 }
@@ -118,28 +123,18 @@ impl Vfs {
         self.limit = limit;
     }
 
-    #[tactic(auto, using(crate::proofs::FileLemmas::keys_insert_entry, crate::proofs::FileLemmas::Follows_mark, crate::proofs::FileLemmas::KeepsNumbers_with))]
-    /// Notes a file's new contents, or its deletion, and says whether that is a change.
+    #[tactic(auto, using(crate::proofs::FileLemmas::keys_insert_entry, crate::proofs::FileLemmas::KeepsNumbers_with))]
+    /// Sets a file's contents, or deletes it where there are none. Returns whether that is a change.
     pub fn set_file_contents(
         &mut self,
         path: VfsPath,
         contents: Option<Vec<u8>>,
     ) -> Result<bool, VfsError>
-        // What becomes of the files.
-        ensures changed { IfOk result (λ yes. yes ≡ changes self.old path (bytes_of contents)) }
-        ensures files { OnOk result (self.new ≡ set_contents self.old path (bytes_of contents)) }
-        ensures every_path { OnOk result (SetsState self.old self.new path (bytes_of contents)) }
-        ensures paths { OnOk result (places self.new ≡ with_place path (places self.old)) }
+        ensures changed { IfOk result (λ answer. answer
+            ≡ is_change_at self.old path (bytes_of contents)) }
+        ensures files { OnOk result (self.new ≡ with_contents self.old path (bytes_of contents)) }
+        ensures effects { OnOk result (SetsContents self.old self.new path (bytes_of contents)) }
         ensures stable { KeepsNumbers self.old self.new }
-
-        // The marks and the calls that are followed.
-        ensures follows { OnOk result (TakesMark self.old self.new path (bytes_of contents)) }
-        ensures gathers { OnOk result (TakesCall self.old self.new path (bytes_of contents)) }
-
-        // The contents that the batch holds.
-        ensures brings { OnOk result (BringsMark self.old self.new path (bytes_of contents)) }
-        ensures passing { OnOk result (KeepsPassing self.old self.new (bytes_of contents)) }
-
         ensures too_many { IsErrOf result VfsError.TooMany ↔ IsFullFor self.old path }
         ensures err { OnErr result (self.new ≡ self.old) }
     {
@@ -152,26 +147,19 @@ impl Vfs {
             Some(change) => {
                 self.batch.reserve(1)?;
                 self.entries.insert(path, change.state())?;
-                note(&mut self.batch, id, change);
+                add_change(&mut self.batch, id, change);
                 Ok(true)
             }
         }
     }
 
-    #[tactic(auto, using(crate::proofs::FileLemmas::keys_insert_entry, crate::proofs::FileLemmas::Follows_out))]
+    #[tactic(auto, using(crate::proofs::FileLemmas::keys_insert_entry))]
     /// Leaves a file out for good. A change of it that was not taken yet stays.
     pub fn insert_excluded_file(&mut self, path: VfsPath) -> Result<(), VfsError>
-        // What becomes of the files.
         ensures files { OnOk result (self.new ≡ with_state self.old path Excluded) }
-        ensures every_path { OnOk result (Excludes self.old self.new path) }
-        ensures paths { OnOk result (places self.new ≡ with_place path (places self.old)) }
+        ensures effects { OnOk result (LeavesOut self.old self.new path) }
         ensures stable { KeepsNumbers self.old self.new }
-
-        // The marks and the calls that are followed.
-        ensures follows { OnOk result (TakesOut self.old self.new path) }
         ensures gathers { KeepsCalls self.old self.new }
-        ensures brings { OnOk result (BringsOut self.old self.new path) }
-
         ensures too_many { IsErrOf result VfsError.TooMany ↔ IsFullFor self.old path }
         ensures err { OnErr result (self.new ≡ self.old) }
     {
@@ -204,28 +192,33 @@ impl Vfs {
         ensures taken { result.entries ≡ self.old.batch }
         ensures emptied { self.new ≡ record self.old { batch = [] } }
         ensures batch { GivesBatch self.old result.entries }
-        ensures gathers { Gathers self.new [] }
-        ensures brings { BringsTaken self.old self.new }
-        ensures stable { KeepsNumbers self.old self.new }
-        ensures follows { KeepsMarks self.old self.new }
+        ensures effects { TakesBatch self.old self.new }
     {
         mem::replace(&mut self.batch, IndexMap::new(self.alloc))
+    }
+
+    /// The number of a path that was mentioned, also of one that is deleted or left out now.
+    pub fn number_of(&self, path: &VfsPath) -> Option<FileId>
+        ensures { result ≡ number_of self.now path.now }
+    {
+        let (index, _, _) = self.entries.get_full(path)?;
+        Some(FileId::from_raw(index as u32))
     }
 
     #[tactic(auto, using(crate::proofs::NumberLemmas::path_of_number))]
     /// The number of a path that exists, or that is left out. A deleted file has none to show.
     pub fn file_id(&self, path: &VfsPath) -> Option<(FileId, FileExcluded)>
-        ensures found { result ≡ looked_up self.now path.now }
-        ensures path { IfSome result (λ file. place_at self.now file.0 ≡ Some path.now) }
+        ensures found { result ≡ lookup_result self.now path.now }
+        ensures path { IfSome result (λ file. path_at self.now file.0 ≡ Some path.now) }
     {
         let (index, _, state) = self.entries.get_full(path)?;
-        let excluded = state.shown()?;
+        let excluded = state.visibility()?;
         Some((FileId::from_raw(index as u32), excluded))
     }
 
     /// Whether a path has this number.
     pub fn has(&self, id: FileId) -> bool
-        ensures { IsTrue result ↔ (id < length (places self.now)) }
+        ensures { IsTrue result ↔ (id < length (paths_of self.now)) }
     {
         (id.index() as usize) < self.entries.len()
     }
@@ -233,8 +226,8 @@ impl Vfs {
     #[tactic(auto, using(crate::proofs::NumberLemmas::number_of_path))]
     /// The path of a number, for good.
     pub fn file_path(&self, id: FileId) -> &VfsPath
-        requires { id < length (places self.now) }
-        ensures path { place_at self.now id ≡ Some result.now }
+        requires { id < length (paths_of self.now) }
+        ensures path { path_at self.now id ≡ Some result.now }
         ensures number { number_of self.now result.now ≡ Some id }
     {
         let (path, _) = self.entries.get_index(id.index() as usize).unwrap();
@@ -243,8 +236,8 @@ impl Vfs {
 
     /// Whether the file of a number exists now.
     pub fn exists(&self, id: FileId) -> bool
-        requires { id < length (places self.now) }
-        ensures { existing_at self.now id ≡ Some result }
+        requires { id < length (paths_of self.now) }
+        ensures { existence_at self.now id ≡ Some result }
     {
         let (_, state) = self.entries.get_index(id.index() as usize).unwrap();
         state.is_existing()
@@ -252,7 +245,7 @@ impl Vfs {
 
     /// The existing files, by number.
     pub fn iter(&self) -> VfsIter<'_>
-        ensures rest { result ≡ existing self.now }
+        ensures rest { result ≡ existing_files self.now }
         ensures live { ListsLive self.now result }
         ensures runs { ShowsInOrder numbered_path }
     {
@@ -260,10 +253,10 @@ impl Vfs {
     }
 }
 
-/// Puts a change into a batch that has room, in place of an earlier change of the file and with what is left of it.
-fn note(batch: &mut IndexMap<FileId, ChangedFile>, id: FileId, change: Change)
+/// Puts a change into a batch that has room, merged with an earlier change of the file.
+fn add_change(batch: &mut IndexMap<FileId, ChangedFile>, id: FileId, change: Change)
     requires { 0 < spare batch.old }
-    ensures { batch.new.entries ≡ noted batch.old.entries id change }
+    ensures { batch.new.entries ≡ with_change batch.old.entries id change }
 {
     let earlier = match batch.get(&id) {
         None => None,
@@ -271,7 +264,7 @@ fn note(batch: &mut IndexMap<FileId, ChangedFile>, id: FileId, change: Change)
     };
     let changed = ChangedFile {
         file_id: id,
-        change: change.merged(earlier),
+        change: change.merge(earlier),
     };
     match batch.insert(id, changed) {
         Ok(_) => {}

@@ -3,7 +3,7 @@
 ghost use Rattle.std.specs.Prelude.{◌≡◌, ◌+◌, ◌≤◌, length};
 ghost use Rattle.std.specs.Iterator.{at_most};
 ghost use Rattle.std.specs.Map.Iter.{TakesFirst};
-ghost use Rattle.vfs_core.specs.Files.{existing_from, numbered_path};
+ghost use Rattle.vfs_core.specs.Files.{existing_files_from, numbered_path};
 
 use crate::file_state::FileState;
 use crate::vfs_path::VfsPath;
@@ -20,12 +20,12 @@ pub struct VfsIter<'a> {
 
 impl<'a> Model for VfsIter<'a> {
     ghost use Rattle.std.specs.Prelude.{◌+◌, ◌≤◌, ℕ, List, length};
-    ghost use Rattle.vfs_core.specs.Files.{existing_from};
-    ghost use Rattle.vfs_core.specs.VfsPath.{Place};
+    ghost use Rattle.vfs_core.specs.Files.{existing_files_from};
+    ghost use Rattle.vfs_core.specs.VfsPath.{PathContent};
 
-    ghost Value = { List (ℕ × Place) };
+    ghost Value = { List (ℕ × PathContent) };
 
-    ghost view = { λ a. existing_from a.next a.entries };
+    ghost view = { λ a. existing_files_from a.next a.entries };
 
     ghost invariant = { λ a. a.next + length a.entries ≤ 0x7fff_ffff };
 }
@@ -33,7 +33,7 @@ impl<'a> Model for VfsIter<'a> {
 impl<'a> VfsIter<'a> {
     pub(crate) fn new(entries: Iter<'a, VfsPath, FileState>) -> Self
         requires { length entries ≤ 0x7fff_ffff }
-        ensures { result ≡ existing_from 0 entries.entry }
+        ensures { result ≡ existing_files_from 0 entries.entry }
     {
         VfsIter { entries, next: 0 }
     }

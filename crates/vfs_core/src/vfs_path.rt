@@ -10,34 +10,32 @@ mod repr;
 mod traits;
 
 use crate::real_path::RealPath;
-use crate::rel_path::RelPath;
 use crate::vfs_path::repr::VfsPathRepr;
 use crate::virtual_path::VirtualPath;
-use base_text::{AbsPath, AbsPathBuf, PathError};
+use base_text::{AbsPath, AbsPathBuf, PathError, RelPath};
 use std::alloc::{AllocError, Global};
 use std::marker::Model;
 
-/// A path of the file system. Contracts see its place.
+/// A path of the file system. Contracts see its content.
 #[derive(Debug, Drop)]
 pub struct VfsPath {
     repr: VfsPathRepr,
 }
 
 impl Model for VfsPath {
-    ghost use Rattle.vfs_core.specs.VfsPath.{place_of, Place};
+    ghost use Rattle.vfs_core.specs.VfsPath.{path_content, PathContent};
 
-    ghost Value = { Place };
+    ghost Value = { PathContent };
 
-    ghost view = { λ a. place_of a.repr };
+    ghost view = { λ a. path_content a.repr };
 }
 
 impl VfsPath {
-    ghost use Rattle.base_text.specs.AbsPath.{abs_text};
-    ghost use Rattle.vfs_core.specs.RelPath.{rest_text};
-    ghost use Rattle.vfs_core.specs.RealPath.{name_texts, named, IsNormal};
-    ghost use Rattle.vfs_core.specs.VfsPath.{begins_with, parts_above, real, real_above, rest_behind, text_above, virtual, virtual_above};
+    ghost use Rattle.base_text.specs.AbsPath.{abs_text, rel_text};
+    ghost use Rattle.vfs_core.specs.RealPath.{name_texts, real_rest, stem_and_extension, IsNormal};
+    ghost use Rattle.vfs_core.specs.VfsPath.{is_path_prefix, parts_above, real, real_above, text_above, virtual, virtual_above};
     ghost use Rattle.vfs_core.specs.VfsPath.{AreOfTwoKinds, AreReal, AreVirtual, IsReal, IsVirtual, JoinsReal, JoinsVirtual};
-    ghost use Rattle.vfs_core.specs.VirtualPath.{popped, virtual_named, virtual_rest};
+    ghost use Rattle.vfs_core.specs.VirtualPath.{virtual_parent, virtual_stem_and_extension, virtual_rest};
 
     /// The virtual path of a text, which stays as it is.
     pub fn new_virtual_path(path: String) -> Self
@@ -97,7 +95,8 @@ impl VfsPath {
 
     /// The path itself, where it is real.
     pub fn as_path(&self) -> Option<AbsPath<'_>>
-        ensures { option_map abs_text result ≡ (if self.now.is_virtual then None else Some self.now.text) }
+        ensures { option_map abs_text result
+            ≡ (if self.now.is_virtual then None else Some self.now.text) }
     {
         match &self.repr {
             VfsPathRepr::Real(path) => Some(path.as_path()),
@@ -151,8 +150,8 @@ impl VfsPath {
         ensures components { IsReal self.old → components self.new.text ≡ parts_above self.old }
         ensures at_root { IsReal self.old → IsFalse result ↔ (self.old.text ≡ codes "/") }
         ensures virtual_path { IsVirtual self.old
-            → self.new ≡ virtual (unwrap_or (popped self.old.text) self.old.text) }
-        ensures cut { IsVirtual self.old → result ≡ is_some (popped self.old.text) }
+            → self.new ≡ virtual (unwrap_or (virtual_parent self.old.text) self.old.text) }
+        ensures cut { IsVirtual self.old → result ≡ is_some (virtual_parent self.old.text) }
     {
         match &mut self.repr {
             VfsPathRepr::Real(path) => path.pop(),
@@ -163,7 +162,8 @@ impl VfsPath {
     /// What `pop` leaves, where it drops something.
     pub fn parent(&self, alloc: Global) -> Result<Option<VfsPath>, AllocError>
         ensures real { IsReal self.now → IfOk result (λ above. above ≡ real_above self.now) }
-        ensures virtual_path { IsVirtual self.now → IfOk result (λ above. above ≡ virtual_above self.now) }
+        ensures virtual_path { IsVirtual self.now
+            → IfOk result (λ above. above ≡ virtual_above self.now) }
     {
         match &self.repr {
             VfsPathRepr::Real(path) => {
@@ -189,7 +189,7 @@ impl VfsPath {
 
     /// Whether `other` is of one kind with the path, and the first components are those of `other`.
     pub fn starts_with(&self, other: &VfsPath) -> bool
-        ensures { result ≡ begins_with self.now other.now }
+        ensures { result ≡ is_path_prefix other.now self.now }
     {
         match (&self.repr, &other.repr) {
             (VfsPathRepr::Real(path), VfsPathRepr::Real(front)) => path.starts_with(front),
@@ -201,16 +201,13 @@ impl VfsPath {
     /// What is left behind the components of `other`, where it is of one kind with the path, and they come first.
     pub fn strip_prefix(&self, other: &VfsPath) -> Option<RelPath<'_>>
         ensures real { AreReal self.now other.now
-            → option_map rest_text result ≡ rest_behind self.now other.now }
+            → option_map rel_text result ≡ real_rest other.now.text self.now.text }
         ensures virtual_path { AreVirtual self.now other.now
-            → option_map rest_text result ≡ virtual_rest other.now.text self.now.text }
+            → option_map rel_text result ≡ virtual_rest other.now.text self.now.text }
         ensures of_two_kinds { AreOfTwoKinds self.now other.now → result ≡ None }
     {
         match (&self.repr, &other.repr) {
-            (VfsPathRepr::Real(path), VfsPathRepr::Real(front)) => {
-                let rest = path.strip_prefix(front)?;
-                Some(RelPath::new(rest.as_str()))
-            }
+            (VfsPathRepr::Real(path), VfsPathRepr::Real(front)) => path.strip_prefix(front),
             (VfsPathRepr::Virtual(path), VfsPathRepr::Virtual(front)) => {
                 let rest = path.strip_prefix(front)?;
                 Some(RelPath::new(rest))
@@ -222,9 +219,10 @@ impl VfsPath {
     /// The last name as a stem and an extension. A dot that comes first begins no extension.
     /// In a virtual path one slash at the end plays no part, and an empty name is none.
     pub fn name_and_extension(&self) -> Option<(&str, Option<&str>)>
-        ensures real { IsReal self.now → option_map name_texts result ≡ named self.now.text }
+        ensures real { IsReal self.now
+            → option_map name_texts result ≡ stem_and_extension self.now.text }
         ensures virtual_path { IsVirtual self.now
-            → option_map name_texts result ≡ virtual_named self.now.text }
+            → option_map name_texts result ≡ virtual_stem_and_extension self.now.text }
     {
         match &self.repr {
             VfsPathRepr::Real(path) => path.name_and_extension(),

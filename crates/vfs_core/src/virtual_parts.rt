@@ -3,33 +3,25 @@
 ghost use Rattle.std.specs.Prelude.{◌≡◌, ◌<◌, [], MatchOption};
 ghost use Rattle.std.specs.Option.{option_copied, option_map};
 ghost use Rattle.base_text.specs.FileName.{extension_of, stem_of};
-ghost use Rattle.base_text.specs.Paths.{components, is_component};
-ghost use Rattle.base_text.specs.Rows.{IsCutAtLast, Lacks};
+ghost use Rattle.base_text.specs.Paths.{components};
 ghost use Rattle.vfs_core.specs.RealPath.{name_texts};
-ghost use Rattle.vfs_core.specs.VirtualPath.{back_trimmed, both_texts, climbed, front_trimmed, last_name, popped};
-ghost use Rattle.vfs_core.specs.VirtualPath.{unslashed, virtual_named, virtual_rest, without_dots};
+ghost use Rattle.vfs_core.specs.VirtualPath.{trim_back, both_texts, climb, trim_front, last_name, virtual_parent};
+ghost use Rattle.vfs_core.specs.VirtualPath.{without_end_slash, virtual_stem_and_extension, virtual_rest, without_dots};
 ghost use Rattle.vfs_core.specs.VirtualPath.{TakesComponent};
 
-/// What stands before and behind the last `at` of a text.
-pub(crate) fn split_last(text: &str, at: char) -> Option<(&str, &str)>
-    requires { at < 128 }
-    ensures { MatchOption result (Lacks at text.now)
-        (λ halves. IsCutAtLast at text.now halves.0.now halves.1.now) }
-{
-    text.rsplit_once(at)
-}
+use base_text::paths::{is_component, split_last};
 
 /// What stands before the last slash.
 pub(crate) fn parent_of(text: &str) -> Option<&str>
-    ensures { option_copied result ≡ popped text.now }
+    ensures { option_copied result ≡ virtual_parent text.now }
 {
     let (front, _) = split_last(text, '/')?;
     Some(front)
 }
 
 /// Takes each leading `../` off a tail, and as many last names off a base, where it has them.
-pub(crate) fn climbed<'a, 'b>(base: &'a str, tail: &'b str) -> Option<(&'a str, &'b str)>
-    ensures { option_map both_texts result ≡ climbed base.now tail.now }
+pub(crate) fn climb<'a, 'b>(base: &'a str, tail: &'b str) -> Option<(&'a str, &'b str)>
+    ensures { option_map both_texts result ≡ climb base.now tail.now }
 {
     let mut above = base;
     let mut rest = tail;
@@ -52,8 +44,8 @@ pub(crate) fn without_dots(tail: &str) -> &str
 }
 
 /// The text without one slash at its end.
-fn unslashed(text: &str) -> &str
-    ensures { result.now ≡ unslashed text.now }
+fn without_end_slash(text: &str) -> &str
+    ensures { result.now ≡ without_end_slash text.now }
 {
     match text.strip_suffix('/') {
         Some(front) => front,
@@ -73,31 +65,24 @@ fn last_name(text: &str) -> &str
 
 /// The last name as a stem and an extension, where it is not empty. One slash at the end plays no part.
 pub(crate) fn name_and_extension(text: &str) -> Option<(&str, Option<&str>)>
-    ensures { option_map name_texts result ≡ virtual_named text.now }
+    ensures { option_map name_texts result ≡ virtual_stem_and_extension text.now }
 {
-    let name = last_name(unslashed(text));
+    let name = last_name(without_end_slash(text));
     if name.is_empty() {
         None
     } else {
-        Some(named(name))
+        Some(stem_and_extension(name))
     }
 }
 
 /// A name as a stem and an extension, which follows the last dot unless that dot comes first.
-fn named(name: &str) -> (&str, Option<&str>)
+fn stem_and_extension(name: &str) -> (&str, Option<&str>)
     ensures { name_texts result ≡ (stem_of name.now, extension_of name.now) }
 {
     match split_last(name, '.') {
         Some((stem, extension)) if !stem.is_empty() => (stem, Some(extension)),
         _ => (name, None),
     }
-}
-
-/// Whether a part between slashes is a component.
-fn is_component(part: &str) -> bool
-    ensures { result ≡ is_component part.now }
-{
-    !part.is_empty() && part != "."
 }
 
 /// The first component of a text, and what stands behind the slash that ends it.
@@ -133,12 +118,12 @@ pub(crate) fn rest_below<'a>(front: &str, whole: &'a str) -> Option<&'a str>
         wanted = more;
         rest = behind;
     }
-    Some(back_trimmed(front_trimmed(rest)))
+    Some(trim_back(trim_front(rest)))
 }
 
 /// The text without the slashes and dots before its first component.
-fn front_trimmed(text: &str) -> &str
-    ensures { result.now ≡ front_trimmed text.now }
+fn trim_front(text: &str) -> &str
+    ensures { result.now ≡ trim_front text.now }
 {
     let mut rest = text;
     while let Some((part, more)) = rest.split_once('/') {
@@ -151,8 +136,8 @@ fn front_trimmed(text: &str) -> &str
 }
 
 /// The text without the slashes and dots behind its last component.
-fn back_trimmed(text: &str) -> &str
-    ensures { result.now ≡ back_trimmed text.now }
+fn trim_back(text: &str) -> &str
+    ensures { result.now ≡ trim_back text.now }
 {
     let mut rest = text;
     while let Some((more, part)) = split_last(rest, '/') {

@@ -4,13 +4,12 @@ ghost use Rattle.std.specs.Prelude.{◌≡◌, IfOk, is_some, string_bytes, unwr
 ghost use Rattle.std.specs.Option.{option_copied, option_map};
 ghost use Rattle.std.specs.Cmp.Lexicographic.{slice_cmp};
 ghost use Rattle.std.specs.Ordering.{nat_cmp};
-ghost use Rattle.vfs_core.specs.RealPath.{begins, name_texts};
-ghost use Rattle.vfs_core.specs.VirtualPath.{popped, virtual_joined, virtual_named, virtual_rest};
+ghost use Rattle.vfs_core.specs.RealPath.{is_text_prefix, name_texts};
+ghost use Rattle.vfs_core.specs.VirtualPath.{virtual_parent, virtual_joined, virtual_stem_and_extension, virtual_rest};
 
-use crate::virtual_parts::{
-    climbed, name_and_extension, parent_of, rest_below, split_last, without_dots,
-};
+use crate::virtual_parts::{climb, name_and_extension, parent_of, rest_below, without_dots};
 use base_text::TryClone;
+use base_text::paths::split_last;
 use std::alloc::{AllocError, Global};
 use std::cmp::Ordering;
 use std::marker::Model;
@@ -46,7 +45,7 @@ impl VirtualPath {
     pub(crate) fn join(&self, alloc: Global, path: &str) -> Result<Option<VirtualPath>, AllocError>
         ensures { IfOk result (λ made. made ≡ virtual_joined self.now path.now) }
     {
-        match climbed(self.text.as_str(), path) {
+        match climb(self.text.as_str(), path) {
             None => Ok(None),
             Some((base, tail)) => {
                 let mut text = String::from_str(alloc, base)?;
@@ -59,8 +58,8 @@ impl VirtualPath {
 
     /// Cuts the text at its last slash. Answers whether there was one.
     pub(crate) fn pop(&mut self) -> bool
-        ensures path { self.new ≡ unwrap_or (popped self.old) self.old }
-        ensures cut { result ≡ is_some (popped self.old) }
+        ensures path { self.new ≡ unwrap_or (virtual_parent self.old) self.old }
+        ensures cut { result ≡ is_some (virtual_parent self.old) }
     {
         match split_last(self.text.as_str(), '/') {
             None => false,
@@ -74,7 +73,7 @@ impl VirtualPath {
 
     /// The path before the last slash.
     pub(crate) fn parent(&self, alloc: Global) -> Result<Option<VirtualPath>, AllocError>
-        ensures { IfOk result (λ above. above ≡ popped self.now) }
+        ensures { IfOk result (λ above. above ≡ virtual_parent self.now) }
     {
         let Some(above) = parent_of(self.text.as_str()) else {
             return Ok(None);
@@ -85,14 +84,14 @@ impl VirtualPath {
 
     /// What stands before the last slash.
     pub(crate) fn parent_text(&self) -> Option<&str>
-        ensures { option_copied result ≡ popped self.now }
+        ensures { option_copied result ≡ virtual_parent self.now }
     {
         parent_of(self.text.as_str())
     }
 
     /// Whether the first components are those of `other`.
     pub(crate) fn starts_with(&self, other: &VirtualPath) -> bool
-        ensures { result ≡ begins other.now self.now }
+        ensures { result ≡ is_text_prefix other.now self.now }
     {
         rest_below(other.text.as_str(), self.text.as_str()).is_some()
     }
@@ -113,7 +112,7 @@ impl VirtualPath {
 
     /// The last name as a stem and an extension. A dot that comes first begins no extension.
     pub(crate) fn name_and_extension(&self) -> Option<(&str, Option<&str>)>
-        ensures { option_map name_texts result ≡ virtual_named self.now }
+        ensures { option_map name_texts result ≡ virtual_stem_and_extension self.now }
     {
         name_and_extension(self.text.as_str())
     }

@@ -1,5 +1,7 @@
-pub mod BesideLemmas
-pub mod CopyLemmas
+pub mod FitLemmas
 pub mod PartitionLemmas
 pub mod PlaceLemmas
+pub mod ProbeLemmas
 pub mod RootLemmas
+pub mod RootMapLemmas
+pub mod SiblingLemmas

@@ -6,22 +6,22 @@ use Rattle.std.proofs.lemmas.Bool.{cond-false, cond-true}
 use Rattle.std.proofs.lemmas.List.Elements.{All-push, filter-append}
 use Rattle.std.proofs.lemmas.List.Sums.{fold-append}
 use Rattle.std.specs.List.{All, slice_index_or}
-use Rattle.vfs_core.specs.VfsPath.{Place}
-use Rattle.vfs_sets.specs.FileSet.{Files, empty_set, set_of, with_file}
+use Rattle.vfs_core.specs.VfsPath.{PathContent}
+use Rattle.vfs_sets.specs.FileSet.{FileSetContent, empty_set, set_of, with_file}
 use Rattle.vfs_sets.specs.Partition.{files_in, AreEmpty, HasPut, IsPartition}
-use Rattle.vfs_sets.specs.Place.{place_of}
+use Rattle.vfs_sets.specs.Placement.{place_of}
 
 -- one more set without files
-pub empty_more : (sets new : List Files) (count : ℕ) → AreEmpty sets count
+pub empty_more : (sets new : List FileSetContent) (count : ℕ) → AreEmpty sets count
     → new ≡ sets ++ empty_set ∷ [] → AreEmpty new (count + 1)
 empty_more sets new count empty e = record {
   length_is = omega (arith, ap length e, length-append sets (empty_set ∷ []), empty.length_is);
-  each = subst (λ (s : List Files). All (λ set. set ≡ empty_set) s) (sym e)
+  each = subst (λ (s : List FileSetContent). All (λ set. set ≡ empty_set) s) (sym e)
       (All-push (λ set. set ≡ empty_set) sets empty_set empty.each refl);
 }
 
 -- no files, no set with any
-pub partition_none : (roots : List (List Place)) (sets : List Files) (count : ℕ) → count ≡ length roots + 1 → AreEmpty sets count
+pub partition_none : (roots : List (List PathContent)) (sets : List FileSetContent) (count : ℕ) → count ≡ length roots + 1 → AreEmpty sets count
     → IsPartition roots [] sets
 partition_none roots sets count e empty = record {
   count = empty.length_is ∙ e;
@@ -29,7 +29,7 @@ partition_none roots sets count e empty = record {
 }
 
 -- a set's files with one more: the same by whether that is its place
-more-split : (roots : List (List Place)) (number : ℕ) (files : List (ℕ × Place)) (file : ℕ × Place) (is_own : Bool)
+more-split : (roots : List (List PathContent)) (number : ℕ) (files : List (ℕ × PathContent)) (file : ℕ × PathContent) (is_own : Bool)
     → (place_of roots file.1 == number) ≡ is_own
     → set_of (files_in roots number (files ++ file ∷ []))
     ≡ (if is_own then with_file (set_of (files_in roots number files)) file.0 file.1 else set_of (files_in roots number files))
@@ -43,8 +43,8 @@ more-split roots number files file false own =
     ∙ append-nil (files_in roots number files))
 
 -- a set after a file was put: the same by whether that is its place
-put-split : (roots : List (List Place)) (files : List (ℕ × Place)) (old new : List Files) (file : ℕ × Place) (number : ℕ)
-    (none : Files) (is_own : Bool) → (place_of roots file.1 == number) ≡ is_own
+put-split : (roots : List (List PathContent)) (files : List (ℕ × PathContent)) (old new : List FileSetContent) (file : ℕ × PathContent) (number : ℕ)
+    (none : FileSetContent) (is_own : Bool) → (place_of roots file.1 == number) ≡ is_own
     → HasPut old new (place_of roots file.1) file.0 file.1
     → slice_index_or old number none ≡ set_of (files_in roots number files)
     → slice_index_or new number none
@@ -53,14 +53,14 @@ put-split roots files old new file number none true own put before =
     let here : place_of roots file.1 ≡ number = eqb-true (place_of roots file.1) number own in
     ap (λ n. slice_index_or new n none) (sym here) ∙ put.own none
     ∙ ap (λ n. with_file (slice_index_or old n none) file.0 file.1) here
-    ∙ ap (λ (set : Files). with_file set file.0 file.1) before
+    ∙ ap (λ (set : FileSetContent). with_file set file.0 file.1) before
 put-split roots files old new file number none false own put before =
     put.others number none (λ (e : number ≡ place_of roots file.1).
     true≢false (sym (eq-eqb (place_of roots file.1) number (sym e)) ∙ own))
     ∙ before
 
 -- one more file
-pub partition_more : (roots : List (List Place)) (files : List (ℕ × Place)) (old new : List Files) (file : ℕ × Place)
+pub partition_more : (roots : List (List PathContent)) (files : List (ℕ × PathContent)) (old new : List FileSetContent) (file : ℕ × PathContent)
     → IsPartition roots files old → HasPut old new (place_of roots file.1) file.0 file.1
     → IsPartition roots (files ++ file ∷ []) new
 partition_more roots files old new file before put = record {

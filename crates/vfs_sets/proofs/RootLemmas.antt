@@ -13,13 +13,13 @@ use Rattle.std.specs.Map.{keys_of, lookup}
 use Rattle.std.specs.Map.Iter.{TakesFirst}
 use Rattle.std.specs.Ordering.{nat_cmp}
 use Rattle.std.specs.Str.{bytes_eq}
-use Rattle.vfs_core.specs.VfsPath.{Place}
-use Rattle.vfs_sets.specs.Place.{encoding}
-use Rattle.vfs_sets.specs.Roots.{AreRoots, NotesRoots, has_root, noted}
+use Rattle.vfs_core.specs.VfsPath.{PathContent}
+use Rattle.vfs_sets.specs.Placement.{encoding}
+use Rattle.vfs_sets.specs.Roots.{AreRoots, PutsRoots, has_root, number_beside}
 use Rattle.vfs_sets.proofs.PlaceLemmas.{drop_end}
 
 -- a look-up by order is one by the bytes
-noted_is : (bytes : List ℕ) (pairs : List (List ℕ × ℕ)) → lookup (is_at (slice_cmp nat_cmp bytes)) pairs ≡ noted bytes pairs
+noted_is : (bytes : List ℕ) (pairs : List (List ℕ × ℕ)) → lookup (is_at (slice_cmp nat_cmp bytes)) pairs ≡ number_beside bytes pairs
 noted_is bytes [] = refl
 noted_is bytes (pair ∷ pairs) =
     ap (λ (b : Bool). cond b (Some pair.1) (lookup (is_at (slice_cmp nat_cmp bytes)) pairs)) (is_eq-slice_cmp bytes pair.0)
@@ -27,7 +27,7 @@ noted_is bytes (pair ∷ pairs) =
 
 -- what stands beside each encoding after a number was put beside one
 noted_after : (old new : BTreeMap (List ℕ) ℕ) (own : List ℕ) (number : ℕ) → Updates (slice_cmp nat_cmp) old new own (Some number)
-    → (bytes : List ℕ) → noted bytes new.entries ≡ cond (bytes_eq bytes own) (Some number) (noted bytes old.entries)
+    → (bytes : List ℕ) → number_beside bytes new.entries ≡ cond (bytes_eq bytes own) (Some number) (number_beside bytes old.entries)
 noted_after old new own number updates bytes =
     sym (noted_is bytes new.entries) ∙ updates.0 bytes
     ∙ ap (λ (b : Bool). cond b (Some number) (lookup (is_at (slice_cmp nat_cmp bytes)) old.entries))
@@ -35,12 +35,12 @@ noted_after old new own number updates bytes =
     ∙ ap (λ (n : Option ℕ). cond (bytes_eq bytes own) (Some number) n) (noted_is bytes old.entries)
 
 -- where roots are still to be noted: with those, each encoding has what it has after all
-pub record NotesRest (old now : List (List ℕ × ℕ)) (roots : List Place) (number index : ℕ) : Type 0 where
-  pub each : (bytes : List ℕ) → cond (has_root bytes (drop index roots)) (Some number) (noted bytes now)
-      ≡ cond (has_root bytes roots) (Some number) (noted bytes old)
+pub record NotesRest (old now : List (List ℕ × ℕ)) (roots : List PathContent) (number index : ℕ) : Type 0 where
+  pub each : (bytes : List ℕ) → cond (has_root bytes (drop index roots)) (Some number) (number_beside bytes now)
+      ≡ cond (has_root bytes roots) (Some number) (number_beside bytes old)
 
 -- before the first root
-pub rest_all : (old : List (List ℕ × ℕ)) (roots : List Place) (number : ℕ) → NotesRest old old roots number 0
+pub rest_all : (old : List (List ℕ × ℕ)) (roots : List PathContent) (number : ℕ) → NotesRest old old roots number 0
 rest_all old roots number = record { each = λ bytes. refl }
 
 -- a number that one of two notes
@@ -52,7 +52,7 @@ either false true number other = refl
 either false false number other = refl
 
 -- after one root more
-pub rest_more : (old : List (List ℕ × ℕ)) (before after : BTreeMap (List ℕ) ℕ) (roots : List Place) (root : Place)
+pub rest_more : (old : List (List ℕ × ℕ)) (before after : BTreeMap (List ℕ) ℕ) (roots : List PathContent) (root : PathContent)
     → (own : List ℕ) (number index : ℕ)
     → NotesRest old before.entries roots number index → index < length roots → root ≡ get_or roots index root
     → own ≡ encoding root
@@ -66,45 +66,45 @@ rest_more old before after roots root own number index rest inside is own_is upd
       each = λ bytes.
           ap (λ (n : Option ℕ). cond (has_root bytes (drop (index + 1) roots)) (Some number) n)
           (noted_after before after own number updates bytes
-          ∙ ap (λ (o : List ℕ). cond (bytes_eq bytes o) (Some number) (noted bytes before.entries)) own_is)
+          ∙ ap (λ (o : List ℕ). cond (bytes_eq bytes o) (Some number) (number_beside bytes before.entries)) own_is)
           ∙ either (bytes_eq bytes (encoding root)) (has_root bytes (drop (index + 1) roots)) (Some number)
-          (noted bytes before.entries)
-          ∙ ap (λ (rs : List Place). cond (has_root bytes rs) (Some number) (noted bytes before.entries)) (sym cut)
+          (number_beside bytes before.entries)
+          ∙ ap (λ (rs : List PathContent). cond (has_root bytes rs) (Some number) (number_beside bytes before.entries)) (sym cut)
           ∙ rest.each bytes;
     }
 
 -- after the last root
-pub rest_none : (old now : List (List ℕ × ℕ)) (roots : List Place) (number index : ℕ) → NotesRest old now roots number index
-    → index ≡ length roots → NotesRoots old now roots number
+pub rest_none : (old now : List (List ℕ × ℕ)) (roots : List PathContent) (number index : ℕ) → NotesRest old now roots number index
+    → index ≡ length roots → PutsRoots old now roots number
 rest_none old now roots number index rest e = record {
   each = λ bytes.
-      sym (ap (λ (rs : List Place). cond (has_root bytes rs) (Some number) (noted bytes now))
+      sym (ap (λ (rs : List PathContent). cond (has_root bytes rs) (Some number) (number_beside bytes now))
       (ap (λ n. drop n roots) e ∙ drop_end roots))
       ∙ rest.each bytes;
 }
 
 -- where the sets from a number on are noted
-pub record NotesBehind (sets : List (List Place)) (pairs : List (List ℕ × ℕ)) (number : ℕ) : Type 0 where
+pub record NotesBehind (sets : List (List PathContent)) (pairs : List (List ℕ × ℕ)) (number : ℕ) : Type 0 where
   pub within : number ≤ length sets
-  pub each : (bytes : List ℕ) → noted bytes pairs ≡ position_from (has_root bytes) number (drop number sets)
+  pub each : (bytes : List ℕ) → number_beside bytes pairs ≡ position_from (has_root bytes) number (drop number sets)
 
 -- before the last set
-pub behind_none : (sets : List (List Place)) (pairs : List (List ℕ × ℕ)) → pairs ≡ [] → NotesBehind sets pairs (length sets)
+pub behind_none : (sets : List (List PathContent)) (pairs : List (List ℕ × ℕ)) → pairs ≡ [] → NotesBehind sets pairs (length sets)
 behind_none sets pairs none = record {
   within = omega arith;
   each = λ bytes.
-      ap (λ (ps : List (List ℕ × ℕ)). noted bytes ps) none
-      ∙ sym (ap (λ (s : List (List Place)). position_from (has_root bytes) (length sets) s) (drop_end sets));
+      ap (λ (ps : List (List ℕ × ℕ)). number_beside bytes ps) none
+      ∙ sym (ap (λ (s : List (List PathContent)). position_from (has_root bytes) (length sets) s) (drop_end sets));
 }
 
 -- after one set more
-pub behind_more : (sets : List (List Place)) (old new : List (List ℕ × ℕ)) (roots : List Place) (before number : ℕ)
-    → NotesBehind sets old before → number + 1 ≡ before → roots ≡ get_or sets number roots → NotesRoots old new roots number
+pub behind_more : (sets : List (List PathContent)) (old new : List (List ℕ × ℕ)) (roots : List PathContent) (before number : ℕ)
+    → NotesBehind sets old before → number + 1 ≡ before → roots ≡ get_or sets number roots → PutsRoots old new roots number
     → NotesBehind sets new number
 behind_more sets old new roots before number behind next is notes =
     let inside : number < length sets = omega (arith, behind.within) in
     let cut : drop number sets ≡ roots ∷ drop before sets =
-    drop-cons sets number roots inside ∙ ap (λ (r : List Place). r ∷ drop (suc number) sets) (sym is)
+    drop-cons sets number roots inside ∙ ap (λ (r : List PathContent). r ∷ drop (suc number) sets) (sym is)
     ∙ ap (λ n. roots ∷ drop n sets) (sym (add-one number) ∙ next) in
     record {
       within = omega (arith, behind.within);
@@ -112,11 +112,11 @@ behind_more sets old new roots before number behind next is notes =
           notes.each bytes
           ∙ ap (λ (n : Option ℕ). cond (has_root bytes roots) (Some number) n)
           (behind.each bytes ∙ ap (λ n. position_from (has_root bytes) n (drop before sets)) (sym next))
-          ∙ ap (λ (s : List (List Place)). position_from (has_root bytes) number s) (sym cut);
+          ∙ ap (λ (s : List (List PathContent)). position_from (has_root bytes) number s) (sym cut);
     }
 
 -- after the first set
-pub behind_all : (sets : List (List Place)) (pairs : List (List ℕ × ℕ)) (number : ℕ) → NotesBehind sets pairs number → number ≡ 0
+pub behind_all : (sets : List (List PathContent)) (pairs : List (List ℕ × ℕ)) (number : ℕ) → NotesBehind sets pairs number → number ≡ 0
     → IsStrictlySortedBy (slice_cmp nat_cmp) (keys_of pairs) → AreRoots sets pairs
 behind_all sets pairs number behind none ordered = record {
   ascending = ordered;
@@ -131,7 +131,7 @@ gives_all {X} left entries e =
     (YieldsList-from_shown (TakesFirst (λ (x : X). x)) (λ x. x) (λ s. s) (λ s t h. ap length h.0) (λ s x t h. h) left)
 
 -- what was listed is what stood there
-pub roots_listed : {Z E : Type 0} (sets : List (List Place)) (entries : List (List ℕ × ℕ))
+pub roots_listed : {Z E : Type 0} (sets : List (List PathContent)) (entries : List (List ℕ × ℕ))
     → (listed : Result (Vec (List ℕ × ℕ) Z) E)
     → AreRoots sets entries → IfOk listed (λ w. vec_items w ≡ entries) → IfOk listed (λ w. AreRoots sets w.items)
 roots_listed sets entries (Ok w) all is = subst (AreRoots sets) (sym is) all

@@ -1,4 +1,6 @@
 pub mod FileSet
 pub mod Partition
-pub mod Place
+pub mod Placement
+pub mod Probes
+pub mod RootMaps
 pub mod Roots

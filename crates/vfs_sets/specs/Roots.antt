@@ -7,27 +7,27 @@ use Rattle.std.specs.List.Sorted.{IsStrictlySortedBy}
 use Rattle.std.specs.Map.{keys_of, lookup}
 use Rattle.std.specs.Ordering.{nat_cmp}
 use Rattle.std.specs.Str.{bytes_eq}
-use Rattle.vfs_core.specs.VfsPath.{Place}
-use Rattle.vfs_sets.specs.Place.{encoding}
+use Rattle.vfs_core.specs.VfsPath.{PathContent}
+use Rattle.vfs_sets.specs.Placement.{encoding}
 
 -- whether one of the roots has an encoding
-abbrev pub has_root : List ℕ → List Place → Bool
+abbrev pub has_root : List ℕ → List PathContent → Bool
 has_root bytes roots = list_any (λ root. bytes_eq bytes (encoding root)) roots
 
 -- the first set with a root of an encoding, or none
-abbrev pub first_with : List ℕ → List (List Place) → Option ℕ
+abbrev pub first_with : List ℕ → List (List PathContent) → Option ℕ
 first_with bytes sets = position_from (has_root bytes) 0 sets
 
 -- the number that stands beside an encoding, or none
-abbrev pub noted : List ℕ → List (List ℕ × ℕ) → Option ℕ
-noted bytes pairs = lookup (bytes_eq bytes) pairs
+abbrev pub number_beside : List ℕ → List (List ℕ × ℕ) → Option ℕ
+number_beside bytes pairs = lookup (bytes_eq bytes) pairs
 
 -- encodings that ascend by their bytes, each beside the first set with a root of it, and no other encodings
-pub record AreRoots (sets : List (List Place)) (pairs : List (List ℕ × ℕ)) : Type 0 where
+pub record AreRoots (sets : List (List PathContent)) (pairs : List (List ℕ × ℕ)) : Type 0 where
   pub ascending : IsStrictlySortedBy (slice_cmp nat_cmp) (keys_of pairs)
-  pub each : (bytes : List ℕ) → noted bytes pairs ≡ first_with bytes sets
+  pub each : (bytes : List ℕ) → number_beside bytes pairs ≡ first_with bytes sets
 
 -- a set's number stands beside the encoding of each of its roots, and beside each other encoding what stood there
-pub record NotesRoots (old new : List (List ℕ × ℕ)) (roots : List Place) (number : ℕ) : Type 0 where
+pub record PutsRoots (old new : List (List ℕ × ℕ)) (roots : List PathContent) (number : ℕ) : Type 0 where
   pub each : (bytes : List ℕ)
-      → noted bytes new ≡ (if has_root bytes roots then Some number else noted bytes old)
+      → number_beside bytes new ≡ (if has_root bytes roots then Some number else number_beside bytes old)

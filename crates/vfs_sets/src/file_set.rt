@@ -4,11 +4,10 @@ ghost use Rattle.std.specs.Prelude.{◌≡◌, IfOk, OnErr, OnOk, length};
 ghost use Rattle.std.specs.Map.{keys_of};
 ghost use Rattle.std.specs.Map.Iter.{ShowsInOrder};
 ghost use Rattle.std.specs.Option.{option_copied};
-ghost use Rattle.vfs_sets.specs.FileSet.{beside, empty_set, file_at, number_shown, path_of, resolved, with_file};
+ghost use Rattle.vfs_sets.specs.FileSet.{sibling_path, empty_set, file_at, number_shown, path_of, resolved_file, with_file};
 
-use crate::copies::{copied_files, copied_paths};
 use crate::file_set_iter::FileSetIter;
-use base_text::TryClone;
+use base_text::{TryClone, copy_entries};
 use indexmap::IndexMap;
 use std::alloc::{AllocError, Global};
 use std::marker::Model;
@@ -23,9 +22,9 @@ pub struct FileSet {
 }
 
 impl Model for FileSet {
-    ghost use Rattle.vfs_sets.specs.FileSet.{Files};
+    ghost use Rattle.vfs_sets.specs.FileSet.{FileSetContent};
 
-    ghost Value = { Files };
+    ghost Value = { FileSetContent };
 
     ghost view = { λ a. record { files = a.files.entries; paths = a.paths.entries } };
 }
@@ -87,7 +86,8 @@ impl FileSet {
         alloc: Global,
         path: AnchoredPath<'_>,
     ) -> Result<Option<FileId>, AllocError>
-        ensures { IfOk result (λ file. file ≡ resolved self.now path.entry.anchor path.entry.path.now) }
+        ensures { IfOk result (λ file. file
+            ≡ resolved_file self.now path.entry.anchor path.entry.path.now) }
     {
         self.resolve(alloc, path.anchor, path.path)
     }
@@ -98,15 +98,15 @@ impl FileSet {
         anchor: FileId,
         tail: &str,
     ) -> Result<Option<FileId>, AllocError>
-        ensures { IfOk result (λ file. file ≡ resolved self.now anchor tail.now) }
+        ensures { IfOk result (λ file. file ≡ resolved_file self.now anchor tail.now) }
     {
         match self.paths.get(&anchor) {
             None => Ok(None),
             Some(base) => {
-                let joined = beside(alloc, base, tail)?;
+                let joined = sibling_path(alloc, base, tail)?;
                 match joined {
                     None => Ok(None),
-                    Some(place) => Ok(self.files.get(&place).copied()),
+                    Some(path) => Ok(self.files.get(&path).copied()),
                 }
             }
         }
@@ -123,8 +123,8 @@ impl FileSet {
 
 impl TryClone for FileSet {
     fn try_clone(&self, alloc: Global) -> Result<Self, AllocError> {
-        let files = copied_files(alloc, &self.files)?;
-        let paths = copied_paths(alloc, &self.paths)?;
+        let files = copy_entries(alloc, &self.files)?;
+        let paths = copy_entries(alloc, &self.paths)?;
         Ok(FileSet {
             alloc,
             files,
@@ -154,8 +154,8 @@ impl Eq for FileSet {
 }
 
 /// What stands beside a path: its directory joined with a tail.
-fn beside(alloc: Global, path: &VfsPath, tail: &str) -> Result<Option<VfsPath>, AllocError>
-    ensures { IfOk result (λ made. made ≡ beside path.now tail.now) }
+fn sibling_path(alloc: Global, path: &VfsPath, tail: &str) -> Result<Option<VfsPath>, AllocError>
+    ensures { IfOk result (λ made. made ≡ sibling_path path.now tail.now) }
 {
     let mut base = path.try_clone(alloc)?;
     let _ = base.pop();

@@ -1,31 +1,35 @@
 //! The roots of each set, by which files are placed. Files that fit no root fall into one last set.
 
-ghost use Rattle.std.specs.Prelude.{◌≡◌, ◌<◌, ◌∷◌, ◌++◌, [], IfOk, OnErr, OnOk, length};
-ghost use Rattle.vfs_core.specs.Files.{existing};
+ghost use Rattle.std.specs.Prelude.{◌≡◌, ◌<◌, ◌≤◌, ◌∷◌, ◌++◌, [], IfNone, IfOk, IfSome, OnErr, OnOk, length};
+ghost use Rattle.vfs_core.specs.Files.{existing_files};
 ghost use Rattle.vfs_sets.specs.Partition.{AreEmpty, HasPut, IsPartition};
-ghost use Rattle.vfs_sets.specs.Place.{class_of};
+ghost use Rattle.vfs_sets.specs.Placement.{class_of, place_of, FitsNoRoot, IsPlaceOf};
+ghost use Rattle.vfs_sets.specs.Probes.{CountsPlacing, CountsProbes};
+ghost use Rattle.vfs_sets.specs.RootMaps.{MapsRoots};
 ghost use Rattle.vfs_sets.specs.Roots.{AreRoots};
 
-use crate::copies::copied_sets;
 use crate::file_set::FileSet;
-use crate::place::place_of;
+use crate::place::placed_text;
+use crate::root_map::{map_roots, number_of_longest_prefix};
 use crate::roots::roots;
-use base_text::{Items, TryClone};
+use base_text::{Counter, Items, Ledger, Steps, TryClone, copy_items};
 use std::alloc::{AllocError, Global};
+use std::collections::BTreeMap;
 use std::marker::Model;
 use vfs_core::{FileId, Vfs, VfsPath};
 
 /// Gathers the roots of sets, which are numbered in the order in which they come.
 #[derive(Drop)]
 pub struct FileSetConfigBuilder {
+    alloc: Global,
     sets: Vec<Items<VfsPath>>,
 }
 
 impl Model for FileSetConfigBuilder {
     ghost use Rattle.std.specs.Prelude.{List};
-    ghost use Rattle.vfs_core.specs.VfsPath.{Place};
+    ghost use Rattle.vfs_core.specs.VfsPath.{PathContent};
 
-    ghost Value = { List (List Place) };
+    ghost Value = { List (List PathContent) };
 
     ghost view = { λ a. a.sets.items };
 }
@@ -35,6 +39,7 @@ impl FileSetConfigBuilder {
         ensures { result ≡ [] }
     {
         FileSetConfigBuilder {
+            alloc,
             sets: Vec::new(alloc),
         }
     }
@@ -59,30 +64,35 @@ impl FileSetConfigBuilder {
     pub fn build(self) -> Result<FileSetConfig, AllocError>
         ensures { IfOk result (λ config. config ≡ self) }
     {
-        Ok(FileSetConfig { sets: self.sets })
+        FileSetConfig::of_sets(self.alloc, self.sets)
     }
 }
 
 impl TryClone for FileSetConfigBuilder {
     fn try_clone(&self, alloc: Global) -> Result<Self, AllocError> {
-        let sets = copied_sets(alloc, self.sets.as_slice())?;
-        Ok(FileSetConfigBuilder { sets })
+        let sets = copy_items(alloc, self.sets.as_slice())?;
+        Ok(FileSetConfigBuilder { alloc, sets })
     }
 }
 
-/// The roots of each set. Contracts see them.
+/// The roots of each set. Contracts see them. A map for each kind of root has the least set of each.
 #[derive(Drop)]
 pub struct FileSetConfig {
     sets: Vec<Items<VfsPath>>,
+    real_roots: BTreeMap<Vec<u8>, u64>,
+    virtual_roots: BTreeMap<Vec<u8>, u64>,
 }
 
 impl Model for FileSetConfig {
     ghost use Rattle.std.specs.Prelude.{List};
-    ghost use Rattle.vfs_core.specs.VfsPath.{Place};
+    ghost use Rattle.vfs_core.specs.VfsPath.{PathContent};
+    ghost use Rattle.vfs_sets.specs.RootMaps.{HasRootMaps};
 
-    ghost Value = { List (List Place) };
+    ghost Value = { List (List PathContent) };
 
     ghost view = { λ a. a.sets.items };
+
+    ghost invariant = { λ a. HasRootMaps a.sets.items a.real_roots.entries a.virtual_roots.entries };
 }
 
 impl FileSetConfig {
@@ -99,11 +109,54 @@ impl FileSetConfig {
         FileSetConfig::builder(alloc).build()
     }
 
+    fn of_sets(alloc: Global, sets: Vec<Items<VfsPath>>) -> Result<FileSetConfig, AllocError>
+        ensures { IfOk result (λ config. config ≡ sets.items) }
+    {
+        let real_roots = map_roots(alloc, sets.as_slice(), false)?;
+        let virtual_roots = map_roots(alloc, sets.as_slice(), true)?;
+        Ok(FileSetConfig {
+            sets,
+            real_roots,
+            virtual_roots,
+        })
+    }
+
+    /// The map of the roots of a kind.
+    fn roots_of_kind(&self, is_virtual: bool) -> &BTreeMap<Vec<u8>, u64>
+        ensures { MapsRoots is_virtual self.now result.now.entries }
+    {
+        if is_virtual {
+            &self.virtual_roots
+        } else {
+            &self.real_roots
+        }
+    }
+
+    /// The set that takes a path, or the number of sets for the last one. It looks up the prefixes of the text by which the
+    /// path is placed, the longest first, and each look-up is a step.
+    pub fn classify_counted<L: Ledger>(&self, path: &VfsPath, steps: &mut Steps<L>) -> usize
+        ensures place { result ≡ place_of self.now path.now }
+        ensures within { result ≤ length self.now }
+        ensures counts { CountsProbes self.now path.now
+            (L.count steps.old.ledger) (L.count steps.new.ledger) }
+    {
+        let roots = self.roots_of_kind(path.is_virtual());
+        match number_of_longest_prefix(roots, placed_text(path).as_bytes(), steps) {
+            Some(number) => number as usize,
+            None => self.sets.len(),
+        }
+    }
+
     /// The set that takes a path, where one of its roots fits.
     pub fn classify_path(&self, path: &VfsPath) -> Option<usize>
-        ensures { result ≡ class_of self.now path.now }
+        ensures class { result ≡ class_of self.now path.now }
+        ensures found { IfSome result (IsPlaceOf self.now path.now) }
+        ensures none { IfNone result (FitsNoRoot self.now path.now) }
     {
-        let place = place_of(self.sets.as_slice(), path);
+        let mut steps = Steps {
+            ledger: Counter::new(),
+        };
+        let place = self.classify_counted(path, &mut steps);
         if place == self.sets.len() {
             None
         } else {
@@ -113,11 +166,28 @@ impl FileSetConfig {
 
     /// The existing files, each in its set. The last set has those that fit no root.
     pub fn partition(&self, alloc: Global, vfs: &Vfs) -> Result<Vec<FileSet>, AllocError>
-        ensures { IfOk result (λ sets. IsPartition self.now (existing vfs.now) sets.items) }
+        ensures { IfOk result (λ sets. IsPartition self.now (existing_files vfs.now) sets.items) }
+    {
+        let mut steps = Steps {
+            ledger: Counter::new(),
+        };
+        self.partition_counted(alloc, vfs, &mut steps)
+    }
+
+    /// The same, with each look-up of a prefix as a step. The count after out of memory is not said.
+    pub fn partition_counted<L: Ledger>(
+        &self,
+        alloc: Global,
+        vfs: &Vfs,
+        steps: &mut Steps<L>,
+    ) -> Result<Vec<FileSet>, AllocError>
+        ensures sets { IfOk result (λ sets. IsPartition self.now (existing_files vfs.now) sets.items) }
+        ensures counts { OnOk result (CountsPlacing self.now (existing_files vfs.now)
+            (L.count steps.old.ledger) (L.count steps.new.ledger)) }
     {
         let mut sets = empty_sets(alloc, self.sets.len() + 1)?;
         for (id, path) in vfs.iter() {
-            let place = place_of(self.sets.as_slice(), path);
+            let place = self.classify_counted(path, steps);
             let path = path.try_clone(alloc)?;
             put(&mut sets, place, id, path)?;
         }
@@ -135,8 +205,8 @@ impl FileSetConfig {
 
 impl TryClone for FileSetConfig {
     fn try_clone(&self, alloc: Global) -> Result<Self, AllocError> {
-        let sets = copied_sets(alloc, self.sets.as_slice())?;
-        Ok(FileSetConfig { sets })
+        let sets = copy_items(alloc, self.sets.as_slice())?;
+        FileSetConfig::of_sets(alloc, sets)
     }
 }
 

@@ -1,14 +1,12 @@
 //! Sets of files, and how the files of a file system are parted into sets by the roots of each.
 #![tactic(auto)]
 
-mod copies;
 pub mod file_set;
 pub mod file_set_config;
 pub mod file_set_iter;
 mod place;
+mod root_map;
 mod roots;
-#[cfg(test)]
-mod tests;
 
 pub use file_set::FileSet;
 pub use file_set_config::{FileSetConfig, FileSetConfigBuilder};

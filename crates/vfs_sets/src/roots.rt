@@ -1,8 +1,8 @@
 //! The encodings of all roots in byte order, each with the least set that has a root of it.
 
 ghost use Rattle.std.specs.Prelude.{◌≡◌, IfOk, OnOk};
-ghost use Rattle.vfs_sets.specs.Place.{encoding};
-ghost use Rattle.vfs_sets.specs.Roots.{AreRoots, NotesRoots};
+ghost use Rattle.vfs_sets.specs.Placement.{encoding};
+ghost use Rattle.vfs_sets.specs.Roots.{AreRoots, PutsRoots};
 
 use base_text::Items;
 use std::alloc::{AllocError, Global};
@@ -19,34 +19,34 @@ fn encoding(alloc: Global, path: &VfsPath) -> Result<Items<u8>, AllocError>
     Ok(Items::new(bytes))
 }
 
-/// Notes a set's number beside the encoding of each of its roots, over what stood there.
-fn note_roots(
+/// Puts a set's number beside the encoding of each of its roots, over what stood there.
+fn put_roots(
     alloc: Global,
-    noted: &mut BTreeMap<Items<u8>, u64>,
+    numbers: &mut BTreeMap<Items<u8>, u64>,
     roots: &[VfsPath],
     number: u64,
 ) -> Result<(), AllocError>
-    ensures { OnOk result (NotesRoots noted.old.entries noted.new.entries roots.now number) }
+    ensures { OnOk result (PutsRoots numbers.old.entries numbers.new.entries roots.now number) }
 {
     for root in roots {
         let bytes = encoding(alloc, root)?;
-        noted.insert(bytes, number)?;
+        numbers.insert(bytes, number)?;
     }
     Ok(())
 }
 
-/// The encodings, each with the least set, since the sets are noted from the last to the first.
+/// The encodings, each with the least set, since the sets come from the last to the first.
 pub(crate) fn roots(
     alloc: Global,
     sets: &[Items<VfsPath>],
 ) -> Result<Vec<(Items<u8>, u64)>, AllocError>
     ensures { IfOk result (λ pairs. AreRoots sets.now pairs.items) }
 {
-    let mut noted = BTreeMap::new(alloc);
+    let mut numbers = BTreeMap::new(alloc);
     let mut number = sets.len();
     while number > 0 {
         number -= 1;
-        note_roots(alloc, &mut noted, sets[number].as_slice(), number as u64)?;
+        put_roots(alloc, &mut numbers, sets[number].as_slice(), number as u64)?;
     }
-    noted.into_iter().collect(alloc)
+    numbers.into_iter().collect(alloc)
 }

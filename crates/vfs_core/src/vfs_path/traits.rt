@@ -28,9 +28,9 @@ impl TryClone for VfsPath {
 impl PartialEq for VfsPath {
     ghost use Rattle.std.proofs.Common.{rules};
     ghost use Rattle.std.specs.Cmp.Rules.{comparing};
-    ghost use Rattle.vfs_core.specs.VfsPath.{place_eq};
+    ghost use Rattle.vfs_core.specs.VfsPath.{vfs_path_eq};
 
-    ghost eq = { place_eq };
+    ghost eq = { vfs_path_eq };
 
     ghost laws = { Prim.search (comparing, rules) };
 
@@ -48,12 +48,12 @@ impl Eq for VfsPath {
 
 impl PartialOrd for VfsPath {
     ghost use Rattle.std.specs.Ordering.{as_partial_cmp};
-    ghost use Rattle.vfs_core.specs.VfsPath.{place_cmp};
-    ghost use Rattle.vfs_core.specs.PlaceOrder.{place_po};
+    ghost use Rattle.vfs_core.specs.VfsPath.{vfs_path_cmp};
+    ghost use Rattle.vfs_core.specs.VfsPathOrder.{vfs_path_po};
 
-    ghost partial_cmp = { as_partial_cmp place_cmp };
+    ghost partial_cmp = { as_partial_cmp vfs_path_cmp };
 
-    ghost laws = { place_po };
+    ghost laws = { vfs_path_po };
 
     fn partial_cmp(&self, other: &Self) -> Option<Ordering> {
         Some(self.cmp(other))
@@ -62,16 +62,16 @@ impl PartialOrd for VfsPath {
 
 impl Ord for VfsPath {
     ghost use Rattle.std.specs.Prelude.{refl};
-    ghost use Rattle.vfs_core.specs.VfsPath.{place_cmp};
-    ghost use Rattle.vfs_core.specs.PlaceOrder.{place_cmp_total, place_ties};
+    ghost use Rattle.vfs_core.specs.VfsPath.{vfs_path_cmp};
+    ghost use Rattle.vfs_core.specs.VfsPathOrder.{vfs_path_cmp_total, vfs_path_ties};
 
-    ghost cmp = { place_cmp };
+    ghost cmp = { vfs_path_cmp };
 
-    ghost total = { place_cmp_total };
+    ghost total = { vfs_path_cmp_total };
 
     ghost matches_partial_cmp = { λ x y. refl };
 
-    ghost matches_eq = { place_ties };
+    ghost matches_eq = { vfs_path_ties };
 
     fn cmp(&self, other: &Self) -> Ordering {
         match (&self.repr, &other.repr) {
@@ -101,8 +101,11 @@ impl Hash for VfsPath {
 
 impl fmt::Display for VfsPath {
     ghost use Rattle.std.specs.Prelude.{Some};
+    ghost use Rattle.std.specs.Fmt.{padded};
 
     ghost output = { λ path. Some path.text };
+
+    ghost styled_output = { λ path spec. Some (padded spec path.text) };
 
     fn fmt<W: fmt::Write>(&self, f: &mut fmt::Formatter<W>) -> fmt::Result {
         f.pad(self.as_str())

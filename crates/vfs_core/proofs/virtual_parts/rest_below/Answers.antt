@@ -1,5 +1,5 @@
 use Rattle.std.proofs.Common.{◌∙◌, ap, rules, sym, Some}
-use Rattle.vfs_core.specs.VirtualPath.{back_trimmed}
+use Rattle.vfs_core.specs.VirtualPath.{trim_back}
 use Rattle.vfs_core.proofs.TrimLemmas.{begins_all, begins_more, begins_other, begins_short, behind_more, rest_none, rest_some, same_name}
 use Rattle.vfs_core.proofs.virtual_parts.rest_below.Goals as goal
 
@@ -25,6 +25,6 @@ loop-part-preserved c =
 pub returns : goal.returns
 returns c =
     let all = begins_all c.loop-part.wanted.now c.loop-part.rest.now c.in_default.ensures in
-    ap Some (c.back_trimmed.ensures ∙ ap back_trimmed c.front_trimmed.ensures)
+    ap Some (c.trim_back.ensures ∙ ap trim_back c.trim_front.ensures)
     ∙ sym (rest_some c.args.front.now c.args.whole.now c.loop-part.wanted.now c.loop-part.rest.now
     (sym c.loop-part.invariant.2 ∙ all) c.in_default.ensures c.loop-part.invariant.3)

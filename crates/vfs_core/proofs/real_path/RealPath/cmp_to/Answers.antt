@@ -1,4 +1,4 @@
-use Rattle.vfs_core.specs.PlaceOrder.{clean_cmp}
+use Rattle.vfs_core.specs.VfsPathOrder.{clean_cmp}
 use Rattle.vfs_core.proofs.real_path.RealPath.cmp_to.Goals as goal
 
 pub returns-clause-texts : goal.returns-clause-texts

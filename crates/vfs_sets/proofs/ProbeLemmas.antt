@@ -1,0 +1,296 @@
+-- The set that the longest prefix among the roots gives is the place of a path.
+use Rattle.std.proofs.Common.{◌≡◌, ℕ, zero, suc, ◌+◌, ◌<◌, ◌≤◌, Bool, true, false, ◌&&◌, ◌||◌, ◌-◌, List, [], ◌∷◌, ◌++◌, Option, Some, None}
+use Rattle.std.proofs.Common.{ap, arith, cond, Contains, get_or, length, nat_eq, nat_lt, refl, subst, sym, take, true≢false, ◌∙◌, Vec}
+use Rattle.std.proofs.lemmas.Bool.Decides.{nat_tests}
+use Rattle.std.proofs.lemmas.Grind.{common_steps}
+use Rattle.std.specs.Bool.{beq}
+use Rattle.std.specs.Cmp.Lexicographic.{bytes_decides, pointwise}
+use Rattle.std.specs.List.{list_any, position_from}
+use Rattle.std.specs.Str.{bytes_eq}
+use Rattle.outside.specs.Causes.{raised}
+use Rattle.vfs_core.specs.VfsPath.{PathContent}
+use Rattle.vfs_sets.specs.Placement.{FitsNoRoot, IsFit, IsPlaceOf, fits, place_of, placed_text}
+use Rattle.vfs_sets.specs.Probes.{CountsFiles, CountsPlacing, CountsProbes, IsLongestFit, most_probes, raised_by}
+use Rattle.vfs_sets.specs.RootMaps.{HasNoPrefix, IsOfLongestPrefix, MapsRoots, first_set_of, is_root_of, number_at}
+use Rattle.vfs_sets.proofs.FitLemmas.{fits_no_root, place_of_is, IsPlaceOf-one}
+use Rattle.vfs_sets.proofs.PlaceLemmas.{place_within}
+
+-- both of two tests that hold together
+and-left : (a b : Bool) → a && b ≡ true → a ≡ true
+and-left true b h = refl
+and-left false b h = absurd (true≢false (sym h))
+
+and-right : (a b : Bool) → a && b ≡ true → b ≡ true
+and-right true b h = h
+and-right false b h = absurd (true≢false (sym h))
+
+-- an item that passes, where one does
+any-split : (test : PathContent → Bool) (first : PathContent) (rest : List PathContent) (is_first : Bool) → test first ≡ is_first
+    → (list_any test rest ≡ true → (root : PathContent) × Contains rest root × (test root ≡ true))
+    → is_first || list_any test rest ≡ true → (root : PathContent) × Contains (first ∷ rest) root × (test root ≡ true)
+any-split test first rest true e more some = (first, (0, omega arith, refl), e)
+any-split test first rest false e more some =
+    let later = more some in (later.0, (suc later.1.0, omega (arith, later.1.1), later.1.2), later.2)
+
+any-item : (test : PathContent → Bool) (roots : List PathContent) → list_any test roots ≡ true
+    → (root : PathContent) × Contains roots root × (test root ≡ true)
+any-item test [] some = absurd (true≢false (sym some))
+any-item test (first ∷ rest) some = any-split test first rest (test first) refl (any-item test rest) some
+
+-- where an item passes, one does
+or-right : (a b : Bool) → b ≡ true → a || b ≡ true
+or-right true b h = refl
+or-right false b h = h
+
+or-left : (a b : Bool) → a ≡ true → a || b ≡ true
+or-left true b h = refl
+or-left false b h = absurd (true≢false (sym h))
+
+item-any : (test : PathContent → Bool) (roots : List PathContent) (root : PathContent) (k : ℕ) → k < length roots
+    → get_or roots k root ≡ root → test root ≡ true → list_any test roots ≡ true
+item-any test [] root k within at passes = absurd (omega arith)
+item-any test (first ∷ rest) root zero within at passes = or-left (test first) (list_any test rest) (ap test at ∙ passes)
+item-any test (first ∷ rest) root (suc k) within at passes =
+    or-right (test first) (list_any test rest) (item-any test rest root k (omega arith) at passes)
+
+-- a set with a root is one of the sets
+set-within : (sets : List (List PathContent)) (number k : ℕ) → k < length (get_or sets number []) → number < length sets
+set-within [] zero k within = absurd (omega (arith, within))
+set-within [] (suc number) k within = absurd (omega (arith, within))
+set-within (roots ∷ sets) zero k within = omega arith
+set-within (roots ∷ sets) (suc number) k within = let more = set-within sets number k within in omega (arith, more)
+
+-- the first set that passes: it passes, and it is the least
+abbrev IsFirst : (List PathContent → Bool) → ℕ → List (List PathContent) → ℕ → Type 0
+IsFirst has start sets number = (k : ℕ) × (number ≡ start + k) × (k < length sets) × (has (get_or sets k []) ≡ true)
+
+first-split : (has : List PathContent → Bool) (start : ℕ) (roots : List PathContent) (sets : List (List PathContent)) (number : ℕ)
+    (is_here : Bool) → has roots ≡ is_here
+    → (position_from has (start + 1) sets ≡ Some number → IsFirst has (start + 1) sets number)
+    → cond is_here (Some start) (position_from has (start + 1) sets) ≡ Some number → IsFirst has start (roots ∷ sets) number
+first-split has start roots sets number true e more at =
+    let same : start ≡ number = cc in (0, omega (arith, same), omega arith, e)
+first-split has start roots sets number false e more at =
+    let later = more at in (suc later.0, omega (arith, later.1), omega (arith, later.2), later.3)
+
+first-is : (has : List PathContent → Bool) (start : ℕ) (sets : List (List PathContent)) (number : ℕ)
+    → position_from has start sets ≡ Some number → IsFirst has start sets number
+first-is has start [] number at = cc
+first-is has start (roots ∷ sets) number at =
+    first-split has start roots sets number (has roots) refl (first-is has (start + 1) sets number) at
+
+-- where a set passes there is a first, and it is no greater
+abbrev HasFirst : (List PathContent → Bool) → ℕ → List (List PathContent) → ℕ → Type 0
+HasFirst has start sets j = (number : ℕ) × (position_from has start sets ≡ Some number) × (number ≤ start + j)
+
+least-here : (has : List PathContent → Bool) (start j : ℕ) (roots : List PathContent) (sets : List (List PathContent))
+    → has roots ≡ true → HasFirst has start (roots ∷ sets) j
+least-here has start j roots sets e = (start, rw e refl, omega arith)
+
+least-split : (has : List PathContent → Bool) (start j : ℕ) (roots : List PathContent) (sets : List (List PathContent))
+    (is_here : Bool) → has roots ≡ is_here → HasFirst has (start + 1) sets j
+    → (number : ℕ) × (cond is_here (Some start) (position_from has (start + 1) sets) ≡ Some number) × (number ≤ start + suc j)
+least-split has start j roots sets true e more = (start, refl, omega arith)
+least-split has start j roots sets false e more = (more.0, more.1, omega (arith, more.2))
+
+least-is : (has : List PathContent → Bool) (start : ℕ) (sets : List (List PathContent)) (j : ℕ) → j < length sets
+    → has (get_or sets j []) ≡ true → HasFirst has start sets j
+least-is has start [] j within passes = absurd (omega (arith, within))
+least-is has start (roots ∷ sets) zero within passes = least-here has start 0 roots sets passes
+least-is has start (roots ∷ sets) (suc j) within passes =
+    least-split has start j roots sets (has roots) refl (least-is has (start + 1) sets j (omega arith) passes)
+
+-- a root that fits is a prefix of the text by which the path is placed
+abbrev IsPrefix : PathContent → PathContent → Type 0
+IsPrefix root path = root.text ≡ take (length root.text) (placed_text path)
+
+fit-prefix : (root path : PathContent) → fits root path ≡ true → IsPrefix root path
+fit-prefix root path h =
+    (bytes_decides root.text (take (length root.text) (placed_text path))).0
+    (and-right (beq root.is_virtual path.is_virtual) (pointwise nat_eq root.text (take (length root.text) (placed_text path))) h)
+
+prefix-short : (root path : PathContent) → IsPrefix root path → length root.text ≤ length (placed_text path)
+prefix-short root path is =
+    let short : length root.text ≡ length (take (length root.text) (placed_text path)) = ap length is in
+    grind (arith, common_steps)
+
+-- a set with a root that fits is found at the length of the root
+fit-found : (sets : List (List PathContent)) (path : PathContent) (other : ℕ) (rival : PathContent) → IsFit sets path other rival
+    → HasFirst (list_any (is_root_of path.is_virtual (take (length rival.text) (placed_text path)))) 0 sets other
+fit-found sets path other rival fit =
+    let text = take (length rival.text) (placed_text path) in
+    let same : bytes_eq text rival.text ≡ true = (bytes_decides text rival.text).1 (sym (fit-prefix rival path fit.begins)) in
+    let kind : beq rival.is_virtual path.is_virtual ≡ true =
+    and-left (beq rival.is_virtual path.is_virtual) (pointwise nat_eq rival.text text) fit.begins in
+    let passes : is_root_of path.is_virtual text rival ≡ true = rw (kind, same) refl in
+    least-is (list_any (is_root_of path.is_virtual text)) 0 sets other (set-within sets other fit.own.0 fit.own.1)
+    (item-any (is_root_of path.is_virtual text) (get_or sets other []) rival fit.own.0 fit.own.1 fit.own.2 passes)
+
+-- nothing is found where nothing stands
+nothing : {R : Type 0} → (found : Option ℕ) (number : ℕ) → found ≡ None → found ≡ Some number → R
+nothing found number none some = cc
+
+one-number : (found : Option ℕ) (a b : ℕ) → found ≡ Some a → found ≡ Some b → a ≡ b
+one-number found a b first second = cc
+
+-- no longer root fits: the same by whether one is longer
+shorter-split : (long size : ℕ) (is_longer : Bool) → nat_lt size long ≡ is_longer → (size < long → ⊥) → long ≤ size
+shorter-split long size true h not_longer = absurd (not_longer (grind (arith, nat_tests)))
+shorter-split long size false h not_longer = grind (arith, nat_tests)
+
+-- the set of the longest prefix is the place
+pub probed_place : {Z : Type 0} (sets : List (List PathContent)) (path : PathContent) (entries : List (Vec ℕ Z × ℕ)) (number before now : ℕ)
+    → MapsRoots path.is_virtual sets entries → (longest : IsOfLongestPrefix entries (placed_text path) number before now)
+    → (place : IsPlaceOf sets path number) × (length place.root.text ≡ longest.size)
+probed_place {Z} sets path entries number before now maps longest =
+    let text = take longest.size (placed_text path) in
+    let has = list_any (is_root_of path.is_virtual text) in
+    let found : position_from has 0 sets ≡ Some number = sym (maps.each text) ∙ longest.has in
+    let first = first-is has 0 sets number found in
+    let set : number ≡ first.0 = omega (arith, first.1) in
+    let item = any-item (is_root_of path.is_virtual text) (get_or sets first.0 []) first.3 in
+    let root = item.0 in
+    let kind : beq root.is_virtual path.is_virtual ≡ true = and-left (beq root.is_virtual path.is_virtual) (bytes_eq text root.text) item.2 in
+    let is : text ≡ root.text = (bytes_decides text root.text).0 (and-right (beq root.is_virtual path.is_virtual) (bytes_eq text root.text) item.2) in
+    let cut : length text ≡ longest.size = let within = longest.within in grind (arith, common_steps) in
+    let size : length root.text ≡ longest.size = sym (ap length is) ∙ cut in
+    let prefix : root.text ≡ take (length root.text) (placed_text path) =
+    sym is ∙ ap (λ n. take n (placed_text path)) (sym size) in
+    let begins : fits root path ≡ true =
+    let same : pointwise nat_eq root.text (take (length root.text) (placed_text path)) ≡ true =
+    (bytes_decides root.text (take (length root.text) (placed_text path))).1 prefix in
+    rw (kind, same) refl in (
+      record {
+        root = root;
+        own = record { own = subst (λ n. Contains (get_or sets n []) root) (sym set) item.1; begins = begins };
+        longest = λ other rival fit.
+            let at = fit-found sets path other rival fit in
+            let short = prefix-short rival path (fit-prefix rival path fit.begins) in
+            let no_longer = shorter-split (length rival.text) longest.size (nat_lt longest.size (length rival.text)) refl (λ longer.
+            nothing (number_at (take (length rival.text) (placed_text path)) entries) at.0
+            (longest.none_longer (length rival.text) longer short)
+            (maps.each (take (length rival.text) (placed_text path)) ∙ at.1)) in
+            omega (arith, no_longer, size);
+        least = λ other rival fit same.
+            let at = fit-found sets path other rival fit in
+            let one : take (length rival.text) (placed_text path) ≡ text = ap (λ n. take n (placed_text path)) (same ∙ size) in
+            let again : position_from has 0 sets ≡ Some at.0 =
+            subst (λ (t : List ℕ). position_from (list_any (is_root_of path.is_virtual t)) 0 sets ≡ Some at.0) one at.1 in
+            let equal : number ≡ at.0 = one-number (position_from has 0 sets) number at.0 found again in
+            omega (arith, equal, at.2);
+      },
+      size,
+    )
+
+-- where no prefix has a number, no root fits
+pub probed_none : {Z : Type 0} (sets : List (List PathContent)) (path : PathContent) (entries : List (Vec ℕ Z × ℕ))
+    → (before now : ℕ) → MapsRoots path.is_virtual sets entries → HasNoPrefix entries (placed_text path) before now → FitsNoRoot sets path
+probed_none sets path entries before now maps none = λ other rival fit.
+    let at = fit-found sets path other rival fit in
+    let short = prefix-short rival path (fit-prefix rival path fit.begins) in
+    nothing (number_at (take (length rival.text) (placed_text path)) entries) at.0 (none.none (length rival.text) short)
+    (maps.each (take (length rival.text) (placed_text path)) ∙ at.1)
+
+-- the place is the one that is computed: the same by whether a set is computed
+place-split : (sets : List (List PathContent)) (path : PathContent) (number : ℕ) (is_set : Bool)
+    → nat_lt (place_of sets path) (length sets) ≡ is_set → IsPlaceOf sets path number → number ≡ place_of sets path
+place-split sets path number true h place =
+    IsPlaceOf-one sets path number (place_of sets path) place (place_of_is sets path (grind (arith, nat_tests)))
+place-split sets path number false h place =
+    let within = place_within sets path in
+    absurd (fits_no_root sets path (grind (arith, nat_tests)) number place.root place.own)
+
+pub IsPlaceOf-computed : (sets : List (List PathContent)) (path : PathContent) (number : ℕ) → IsPlaceOf sets path number
+    → number ≡ place_of sets path
+IsPlaceOf-computed sets path number = place-split sets path number (nat_lt (place_of sets path) (length sets)) refl
+
+none-split : (sets : List (List PathContent)) (path : PathContent) (is_set : Bool)
+    → nat_lt (place_of sets path) (length sets) ≡ is_set → FitsNoRoot sets path → length sets ≡ place_of sets path
+none-split sets path true h none =
+    let place = place_of_is sets path (grind (arith, nat_tests)) in absurd (none (place_of sets path) place.root place.own)
+none-split sets path false h none = let within = place_within sets path in grind (arith, nat_tests)
+
+pub FitsNoRoot-computed : (sets : List (List PathContent)) (path : PathContent) → FitsNoRoot sets path
+    → length sets ≡ place_of sets path
+FitsNoRoot-computed sets path = none-split sets path (nat_lt (place_of sets path) (length sets)) refl
+
+-- a count rises by one at most for each step
+raised_by-most : (steps count : ℕ) → raised_by steps count ≤ count + steps
+raised_by-most zero count = omega arith
+raised_by-most (suc steps) count =
+    let more = raised_by-most steps count in
+    let step : raised (raised_by steps count) ≤ raised_by steps count + 1 = raised-most (raised_by steps count) in
+    omega (arith, more, step)
+  where
+    raised-most : (n : ℕ) → raised n ≤ n + 1
+    raised-most n = omega arith
+
+-- the probes of a path that has a place, and of one that has none
+counts_found : (sets : List (List PathContent)) (path : PathContent) (number before now size : ℕ) (place : IsPlaceOf sets path number)
+    → length place.root.text ≡ size → now ≡ raised_by (length (placed_text path) + 1 - size) before → CountsProbes sets path before now
+counts_found sets path number before now size place same counts = record {
+  found = λ other root longest.
+      let up = place.longest other root longest.own in
+      let down = longest.longest number place.root place.own in
+      let equal : size ≡ length root.text = omega (arith, up, down, same) in
+      counts ∙ ap (λ n. raised_by (length (placed_text path) + 1 - n) before) equal;
+  none = λ fits_none. absurd (fits_none number place.root place.own);
+  at_most =
+      let most = raised_by-most (length (placed_text path) + 1 - size) before in
+      omega (arith, counts, most);
+}
+
+counts_none : (sets : List (List PathContent)) (path : PathContent) (before now : ℕ) → FitsNoRoot sets path
+    → now ≡ raised_by (length (placed_text path) + 1) before → CountsProbes sets path before now
+counts_none sets path before now fits_none counts = record {
+  found = λ other root longest. absurd (fits_none other root longest.own);
+  none = λ again. counts;
+  at_most = let most = raised_by-most (length (placed_text path) + 1) before in omega (arith, counts, most);
+}
+
+-- what a search of the map of the path's kind gives: the place, with each probe counted
+pub found_place : {Z : Type 0} (sets : List (List PathContent)) (path : PathContent) (kind : Bool) (text : List ℕ)
+    → (entries : List (Vec ℕ Z × ℕ)) (number before now : ℕ) → kind ≡ path.is_virtual → text ≡ placed_text path
+    → MapsRoots kind sets entries → IsOfLongestPrefix entries text number before now
+    → (number ≡ place_of sets path) × CountsProbes sets path before now
+found_place sets path kind text entries number before now same_kind same_text maps longest =
+    let at = subst (λ (t : List ℕ). IsOfLongestPrefix entries t number before now) same_text longest in
+    let probed = probed_place sets path entries number before now
+    (subst (λ (k : Bool). MapsRoots k sets entries) same_kind maps) at in
+    (IsPlaceOf-computed sets path number probed.0, counts_found sets path number before now at.size probed.0 probed.1 at.counts)
+
+pub found_none : {Z : Type 0} (sets : List (List PathContent)) (path : PathContent) (kind : Bool) (text : List ℕ)
+    → (entries : List (Vec ℕ Z × ℕ)) (before now : ℕ) → kind ≡ path.is_virtual → text ≡ placed_text path
+    → MapsRoots kind sets entries → HasNoPrefix entries text before now
+    → (length sets ≡ place_of sets path) × CountsProbes sets path before now
+found_none sets path kind text entries before now same_kind same_text maps none =
+    let at = subst (λ (t : List ℕ). HasNoPrefix entries t before now) same_text none in
+    let fits_none = probed_none sets path entries before now (subst (λ (k : Bool). MapsRoots k sets entries) same_kind maps) at in
+    (FitsNoRoot-computed sets path fits_none, counts_none sets path before now fits_none at.counts)
+
+-- one more file
+counts_more : (sets : List (List PathContent)) (files : List (ℕ × PathContent)) (file : ℕ × PathContent) (before now after : ℕ)
+    → CountsFiles sets files before now → CountsProbes sets file.1 now after → CountsFiles sets (files ++ file ∷ []) before after
+counts_more sets [] file before now after counts probes =
+    (after, subst (λ n. CountsProbes sets file.1 n after) (sym counts) probes, refl)
+counts_more sets (first ∷ files) file before now after counts probes =
+    (counts.0, counts.1, counts_more sets files file counts.0 now after counts.2 probes)
+
+-- at most so many probes are counted
+counts_most : (sets : List (List PathContent)) (files : List (ℕ × PathContent)) (before now : ℕ)
+    → CountsFiles sets files before now → now ≤ before + most_probes files
+counts_most sets [] before now counts = omega (arith, counts)
+counts_most sets (file ∷ files) before now counts =
+    let more = counts_most sets files counts.0 now counts.2 in
+    omega (arith, more, counts.1.at_most)
+
+-- no files, no probes
+pub placing_none : (sets : List (List PathContent)) (count : ℕ) → CountsPlacing sets [] count count
+placing_none sets count = record { each = refl; at_most = omega arith }
+
+-- one more file
+pub placing_more : (sets : List (List PathContent)) (files : List (ℕ × PathContent)) (file : ℕ × PathContent) (before now after : ℕ)
+    → CountsPlacing sets files before now → CountsProbes sets file.1 now after → CountsPlacing sets (files ++ file ∷ []) before after
+placing_more sets files file before now after counts probes =
+    let each = counts_more sets files file before now after counts.each probes in
+    record { each = each; at_most = counts_most sets (files ++ file ∷ []) before after each }

@@ -1,0 +1,193 @@
+-- Roots of a kind that are put beside a set's number, from the last set to the first.
+use Rattle.std.proofs.Common.{◌≡◌, ℕ, suc, ◌+◌, ◌<◌, ◌≤◌, Bool, true, false, cond, ◌&&◌, ◌||◌, List, [], ◌∷◌, Option, Some}
+use Rattle.std.proofs.Common.{Vec, get_or, drop, length, refl, sym, ◌∙◌, ap, arith, add-one, drop-cons, nat_le, subst, None, ◌-◌, if◌then◌else◌}
+use Rattle.std.proofs.lemmas.Bool.Decides.{nat_tests}
+use Rattle.std.proofs.lemmas.Map.Text.{is_eq-slice_cmp}
+use Rattle.std.specs.BTreeMap.{BTreeMap, Updates, is_at}
+use Rattle.std.specs.Bool.{beq}
+use Rattle.std.specs.Cmp.{eq_by_cmp_equiv}
+use Rattle.std.specs.Cmp.Lexicographic.{bytes_decides, nat_list_cmp_total, nat_list_eq_equiv, slice_cmp}
+use Rattle.std.specs.List.{list_any, position_from}
+use Rattle.std.specs.Map.{lookup, KeepsOthers}
+use Rattle.std.specs.Ordering.{eq_by_cmp, is_eq, nat_cmp}
+use Rattle.std.specs.Str.{bytes_eq}
+use Rattle.outside.specs.Causes.{raised}
+use Rattle.vfs_core.specs.VfsPath.{PathContent}
+use Rattle.vfs_sets.specs.Probes.{raised_by}
+use Rattle.vfs_sets.specs.RootMaps.{MapsRoots, PutsRoot, PutsRootsOf, is_root_of, number_at}
+use Rattle.vfs_sets.proofs.PlaceLemmas.{drop_end}
+
+-- a look-up by order is one by the bytes
+pub number_at_is : {Z : Type 0} (text : List ℕ) (entries : List (Vec ℕ Z × ℕ))
+    → lookup (is_at (λ (key : Vec ℕ Z). slice_cmp nat_cmp text key.items)) entries ≡ number_at text entries
+number_at_is text [] = refl
+number_at_is {Z} text (entry ∷ entries) =
+    ap (λ (b : Bool). cond b (Some entry.1) (lookup (is_at (λ (key : Vec ℕ Z). slice_cmp nat_cmp text key.items)) entries)) (is_eq-slice_cmp text entry.0.items)
+    ∙ ap (λ (n : Option ℕ). cond (bytes_eq text entry.0.items) (Some entry.1) n) (number_at_is text entries)
+
+-- a key that ties with one text does not tie with another
+apart-order : (own text key : List ℕ) → bytes_eq own text ≡ false → is_eq (slice_cmp nat_cmp own key) ≡ true
+    → is_eq (slice_cmp nat_cmp text key) ≡ false
+apart-order own text key differs ties =
+    let same : bytes_eq own key ≡ true = sym (is_eq-slice_cmp own key) ∙ ties in
+    is_eq-slice_cmp text key ∙ nat_list_eq_equiv.symm text key
+    ∙ sym (nat_list_eq_equiv.congr own key text same) ∙ differs
+
+-- other texts keep what stood beside them
+others-keep : {Z : Type 0} (own : Vec ℕ Z) (text : List ℕ) (old new : List (Vec ℕ Z × ℕ))
+    → KeepsOthers (eq_by_cmp (λ (x y : Vec ℕ Z). slice_cmp nat_cmp x.items y.items)) (is_at (λ (k : Vec ℕ Z). slice_cmp nat_cmp own.items k.items)) old new
+    → bytes_eq own.items text ≡ false
+    → lookup (is_at (λ (k : Vec ℕ Z). slice_cmp nat_cmp text k.items)) new ≡ lookup (is_at (λ (k : Vec ℕ Z). slice_cmp nat_cmp text k.items)) old
+unfolding KeepsOthers
+others-keep {Z} own text old new keeps differs =
+    keeps (is_at (λ (k : Vec ℕ Z). slice_cmp nat_cmp text k.items))
+    (λ x y. (eq_by_cmp_equiv nat_list_cmp_total).congr text x.items y.items) (λ k. apart-order own.items text k.items differs)
+
+-- what stands beside each text after a number was put beside one: the same by whether the text is that one
+put-split : {Z : Type 0} (old new : BTreeMap (Vec ℕ Z) ℕ) (own : Vec ℕ Z) (number : ℕ)
+    → Updates (λ x y. slice_cmp nat_cmp x.items y.items) old new own (Some number)
+    → (text : List ℕ) (is_own : Bool) → bytes_eq own.items text ≡ is_own
+    → number_at text new.entries ≡ cond is_own (Some number) (number_at text old.entries)
+put-split {Z} old new own number updates text true e =
+    sym (number_at_is text new.entries)
+    ∙ subst (λ (t : List ℕ). lookup (is_at (λ (k : Vec ℕ Z). slice_cmp nat_cmp t k.items)) new.entries ≡ Some number)
+    ((bytes_decides own.items text).0 e) updates.1
+put-split old new own number updates text false e =
+    sym (number_at_is text new.entries) ∙ others-keep own text old.entries new.entries updates.3 e ∙ number_at_is text old.entries
+
+put-after : {Z : Type 0} (old new : BTreeMap (Vec ℕ Z) ℕ) (own : Vec ℕ Z) (number : ℕ)
+    → Updates (λ x y. slice_cmp nat_cmp x.items y.items) old new own (Some number)
+    → (text : List ℕ) → number_at text new.entries ≡ cond (bytes_eq text own.items) (Some number) (number_at text old.entries)
+put-after old new own number updates text =
+    put-split old new own number updates text (bytes_eq own.items text) refl
+    ∙ ap (λ (b : Bool). cond b (Some number) (number_at text old.entries)) (nat_list_eq_equiv.symm own.items text)
+
+-- a root of the kind
+pub PutsRoot_own : {Z : Type 0} (old new : BTreeMap (Vec ℕ Z) ℕ) (own : Vec ℕ Z) (kind : Bool) (root : PathContent) (number : ℕ)
+    → beq root.is_virtual kind ≡ true → own.items ≡ root.text
+    → Updates (λ x y. slice_cmp nat_cmp x.items y.items) old new own (Some number)
+    → PutsRoot kind root number old.entries new.entries
+PutsRoot_own old new own kind root number same own_is updates = record {
+  each = λ text.
+      put-after old new own number updates text
+      ∙ ap (λ (t : List ℕ). cond (bytes_eq text t) (Some number) (number_at text old.entries)) own_is
+      ∙ sym (ap (λ (b : Bool). cond (b && bytes_eq text root.text) (Some number) (number_at text old.entries)) same);
+}
+
+-- a root of the other
+pub PutsRoot_other : {Z : Type 0} (old new : List (Vec ℕ Z × ℕ)) (kind : Bool) (root : PathContent) (number : ℕ)
+    → beq root.is_virtual kind ≡ false → new ≡ old → PutsRoot kind root number old new
+PutsRoot_other old new kind root number differs same = record {
+  each = λ text.
+      ap (number_at text) same
+      ∙ sym (ap (λ (b : Bool). cond (b && bytes_eq text root.text) (Some number) (number_at text old)) differs);
+}
+
+-- where roots are still to be put: with those, each text has what it has after all
+pub record PutsRest {Z : Type 0} (kind : Bool) (roots : List PathContent) (number index : ℕ) (old now : List (Vec ℕ Z × ℕ)) : Type 0 where
+  pub each : (text : List ℕ)
+      → cond (list_any (is_root_of kind text) (drop index roots)) (Some number) (number_at text now)
+      ≡ cond (list_any (is_root_of kind text) roots) (Some number) (number_at text old)
+
+-- before the first root
+pub puts_rest_all : {Z : Type 0} (kind : Bool) (roots : List PathContent) (number : ℕ) (old : List (Vec ℕ Z × ℕ))
+    → PutsRest kind roots number 0 old old
+puts_rest_all kind roots number old = record { each = λ text. refl }
+
+-- a number that one of two gives
+either : (here rest : Bool) (number other : Option ℕ)
+    → cond rest number (cond here number other) ≡ cond (here || rest) number other
+either true true number other = refl
+either true false number other = refl
+either false true number other = refl
+either false false number other = refl
+
+-- after one root more
+pub puts_rest_more : {Z : Type 0} (kind : Bool) (roots : List PathContent) (root : PathContent) (number index : ℕ)
+    → (old before after : List (Vec ℕ Z × ℕ)) → PutsRest kind roots number index old before → index < length roots
+    → root ≡ get_or roots index root → PutsRoot kind root number before after
+    → PutsRest kind roots number (index + 1) old after
+puts_rest_more kind roots root number index old before after rest inside is puts =
+    let cut : drop index roots ≡ root ∷ drop (index + 1) roots =
+    drop-cons roots index root inside ∙ ap (λ r. r ∷ drop (suc index) roots) (sym is)
+    ∙ ap (λ n. root ∷ drop n roots) (sym (add-one index)) in
+    record {
+      each = λ text.
+          ap (λ (n : Option ℕ). cond (list_any (is_root_of kind text) (drop (index + 1) roots)) (Some number) n) (puts.each text)
+          ∙ either (is_root_of kind text root) (list_any (is_root_of kind text) (drop (index + 1) roots)) (Some number)
+          (number_at text before)
+          ∙ ap (λ (rs : List PathContent). cond (list_any (is_root_of kind text) rs) (Some number) (number_at text before)) (sym cut)
+          ∙ rest.each text;
+    }
+
+-- after the last root
+pub puts_rest_none : {Z : Type 0} (kind : Bool) (roots : List PathContent) (number index : ℕ) (old now : List (Vec ℕ Z × ℕ))
+    → PutsRest kind roots number index old now → index ≡ length roots → PutsRootsOf kind roots number old now
+puts_rest_none kind roots number index old now rest e = record {
+  each = λ text.
+      sym (ap (λ (rs : List PathContent). cond (list_any (is_root_of kind text) rs) (Some number) (number_at text now))
+      (ap (λ n. drop n roots) e ∙ drop_end roots))
+      ∙ rest.each text;
+}
+
+-- where the sets from a number on are in the map
+pub record MapsBehind {Z : Type 0} (kind : Bool) (sets : List (List PathContent)) (number : ℕ) (entries : List (Vec ℕ Z × ℕ)) : Type 0 where
+  pub within : number ≤ length sets
+  pub each : (text : List ℕ)
+      → number_at text entries ≡ position_from (list_any (is_root_of kind text)) number (drop number sets)
+
+-- before the last set
+pub maps_behind_none : {Z : Type 0} (kind : Bool) (sets : List (List PathContent)) (entries : List (Vec ℕ Z × ℕ)) → entries ≡ []
+    → MapsBehind kind sets (length sets) entries
+maps_behind_none {Z} kind sets entries none = record {
+  within = omega arith;
+  each = λ text.
+      ap (λ (es : List (Vec ℕ Z × ℕ)). number_at text es) none
+      ∙ sym (ap (λ (s : List (List PathContent)). position_from (list_any (is_root_of kind text)) (length sets) s) (drop_end sets));
+}
+
+-- after one set more
+pub maps_behind_more : {Z : Type 0} (kind : Bool) (sets : List (List PathContent)) (roots : List PathContent) (before number : ℕ)
+    → (old new : List (Vec ℕ Z × ℕ)) → MapsBehind kind sets before old → number + 1 ≡ before
+    → roots ≡ get_or sets number roots → PutsRootsOf kind roots number old new → MapsBehind kind sets number new
+maps_behind_more kind sets roots before number old new behind next is puts =
+    let inside : number < length sets = omega (arith, behind.within) in
+    let cut : drop number sets ≡ roots ∷ drop before sets =
+    drop-cons sets number roots inside ∙ ap (λ (r : List PathContent). r ∷ drop (suc number) sets) (sym is)
+    ∙ ap (λ n. roots ∷ drop n sets) (sym (add-one number) ∙ next) in
+    record {
+      within = omega (arith, behind.within);
+      each = λ text.
+          puts.each text
+          ∙ ap (λ (n : Option ℕ). cond (list_any (is_root_of kind text) roots) (Some number) n)
+          (behind.each text ∙ ap (λ n. position_from (list_any (is_root_of kind text)) n (drop before sets)) (sym next))
+          ∙ ap (λ (s : List (List PathContent)). position_from (list_any (is_root_of kind text)) number s) (sym cut);
+    }
+
+-- after the first set
+pub maps_behind_all : {Z : Type 0} (kind : Bool) (sets : List (List PathContent)) (number : ℕ) (entries : List (Vec ℕ Z × ℕ))
+    → MapsBehind kind sets number entries → number ≡ 0 → MapsRoots kind sets entries
+maps_behind_all kind sets number entries behind none = record {
+  each = λ text. behind.each text ∙ ap (λ n. position_from (list_any (is_root_of kind text)) n (drop n sets)) none;
+}
+
+-- one prefix more has no number: the same by whether another is longer
+untried-split : (look : ℕ → Option ℕ) (untried size longer : ℕ) (is_tried : Bool) → nat_le untried longer ≡ is_tried
+    → ((n : ℕ) → untried ≤ n → n ≤ size → look n ≡ None) → look (untried - 1) ≡ None → 0 < untried
+    → untried - 1 ≤ longer → longer ≤ size → look longer ≡ None
+untried-split look untried size longer true h tried none some from short = tried longer (grind (arith, nat_tests)) short
+untried-split look untried size longer false h tried none some from short =
+    let same : untried - 1 ≡ longer = grind (arith, nat_tests) in subst (λ n. look n ≡ None) same none
+
+pub untried_next : (look : ℕ → Option ℕ) (untried size : ℕ)
+    → ((n : ℕ) → untried ≤ n → n ≤ size → look n ≡ None) → look (untried - 1) ≡ None → 0 < untried
+    → (longer : ℕ) → untried - 1 ≤ longer → longer ≤ size → look longer ≡ None
+untried_next look untried size tried none some longer =
+    untried-split look untried size longer (nat_le untried longer) refl tried none some
+
+-- one step more
+pub raised_next : (before total untried now after : ℕ) → 0 < untried → untried ≤ total
+    → now ≡ raised_by (total - untried) before → after ≡ raised now → after ≡ raised_by (total - (untried - 1)) before
+raised_next before total untried now after some within counts ticks =
+    let next : total - (untried - 1) ≡ suc (total - untried) = omega arith in
+    ticks ∙ ap raised counts ∙ sym (ap (λ n. raised_by n before) next)

@@ -1,0 +1,68 @@
+-- Which set takes a path: of the roots whose encoding begins that of the path's directory, the longest, and of these the least
+-- set.
+-- From the documentation of the file system's partition into sets.
+use Rattle.std.specs.Prelude.{◌≡◌, ◌≤◌, ℕ, ◌+◌, ◌&&◌, ◌==◌, Bool, List, [], ◌∷◌, Option, Some, None, Contains, IsTrue, length, max}
+use Rattle.std.specs.Prelude.{nat_eq, nat_le, nat_lt, slice_index_or, if◌then◌else◌}
+use Rattle.std.specs.Bool.{beq}
+use Rattle.std.specs.List.{starts_with}
+use Rattle.std.specs.Option.{unwrap_or}
+use Rattle.vfs_core.specs.VfsPath.{PathContent, text_above}
+
+-- the encoding of a path: its kind, then its text
+abbrev pub encoding : PathContent → List ℕ
+encoding path = (if path.is_virtual then 1 else 0) ∷ path.text
+
+-- the text by which a path is placed: that of the path above, or its own where there is none
+abbrev pub placed_text : PathContent → List ℕ
+placed_text path = unwrap_or (text_above path) path.text
+
+-- a root fits a path of its kind, where its bytes begin that text
+abbrev pub fits : PathContent → PathContent → Bool
+fits root path = beq root.is_virtual path.is_virtual && starts_with nat_eq (placed_text path) root.text
+
+-- a root of a set fits a path
+pub record IsFit (sets : List (List PathContent)) (path : PathContent) (number : ℕ) (root : PathContent) : Type 0 where
+  pub own : Contains (slice_index_or sets number []) root
+  pub begins : IsTrue (fits root path)
+
+-- the set that takes a path: a root of it fits, none that fits is longer, and no lesser set has one as long
+pub record IsPlaceOf (sets : List (List PathContent)) (path : PathContent) (number : ℕ) : Type 0 where
+  pub root : PathContent
+  pub own : IsFit sets path number root
+  pub longest : (other : ℕ) (rival : PathContent)
+      → IsFit sets path other rival → length rival.text ≤ length root.text
+  pub least : (other : ℕ) (rival : PathContent)
+      → IsFit sets path other rival → length rival.text ≡ length root.text → number ≤ other
+
+-- no root of any set fits a path
+abbrev pub FitsNoRoot : List (List PathContent) → PathContent → Type 0
+FitsNoRoot sets path = (number : ℕ) (root : PathContent) → IsFit sets path number root → ⊥
+
+-- What follows computes that set.
+
+-- one more than the length of a root that fits, and 0 for one that does not
+abbrev pub reach : PathContent → PathContent → ℕ
+reach root path = if fits root path then length root.text + 1 else 0
+
+-- the reach of the longest root that fits
+abbrev pub longest_reach : List PathContent → PathContent → ℕ
+longest_reach [] path = 0
+longest_reach (root ∷ roots) path = max (reach root path) (longest_reach roots path)
+
+-- the same of all sets
+abbrev pub longest_reach_of_all : List (List PathContent) → PathContent → ℕ
+longest_reach_of_all [] path = 0
+longest_reach_of_all (roots ∷ sets) path = max (longest_reach roots path) (longest_reach_of_all sets path)
+
+-- a set takes a path where a root of it fits and no set behind it has a longer one
+abbrev pub takes : List PathContent → List (List PathContent) → PathContent → Bool
+takes roots behind path = nat_lt 0 (longest_reach roots path) && nat_le (longest_reach_of_all behind path) (longest_reach roots path)
+
+-- the first set that takes a path, or the number of sets
+abbrev pub place_of : List (List PathContent) → PathContent → ℕ
+place_of [] path = 0
+place_of (roots ∷ sets) path = if takes roots sets path then 0 else place_of sets path + 1
+
+-- the set of a path, where a root fits
+abbrev pub class_of : List (List PathContent) → PathContent → Option ℕ
+class_of sets path = if place_of sets path == length sets then None else Some (place_of sets path)

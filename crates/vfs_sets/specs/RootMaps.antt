@@ -1,0 +1,55 @@
+-- The roots of one kind by their texts, each text with the least set that has a root of it, and the longest prefix of a text
+-- that stands among them.
+-- From the documentation of the file system's partition into sets.
+use Rattle.std.specs.Prelude.{◌≡◌, ◌<◌, ◌≤◌, ◌&&◌, ◌+◌, ◌-◌, ℕ, Bool, true, false, List, Option, None, Some, length, take, if◌then◌else◌}
+use Rattle.std.specs.Bool.{beq}
+use Rattle.std.specs.List.{list_any, position_from}
+use Rattle.std.specs.Map.{lookup}
+use Rattle.std.specs.Str.{bytes_eq}
+use Rattle.std.specs.declared.vec.Vec.{Vec}
+use Rattle.vfs_core.specs.VfsPath.{PathContent}
+use Rattle.vfs_sets.specs.Probes.{raised_by}
+
+-- whether a root is of a kind and has a text
+abbrev pub is_root_of : Bool → List ℕ → PathContent → Bool
+is_root_of kind text root = beq root.is_virtual kind && bytes_eq text root.text
+
+-- the first set with a root of a kind and a text, or none
+abbrev pub first_set_of : Bool → List ℕ → List (List PathContent) → Option ℕ
+first_set_of kind text sets = position_from (list_any (is_root_of kind text)) 0 sets
+
+-- the number that stands beside a text, or none
+abbrev pub number_at : {Z : Type 0} → List ℕ → List (Vec ℕ Z × ℕ) → Option ℕ
+number_at text entries = lookup (λ key. bytes_eq text key.items) entries
+
+-- beside each text stands the first set with a root of the kind and that text, where there is one
+pub record MapsRoots {Z : Type 0} (kind : Bool) (sets : List (List PathContent)) (entries : List (Vec ℕ Z × ℕ)) : Type 0 where
+  pub each : (text : List ℕ) → number_at text entries ≡ first_set_of kind text sets
+
+-- the real and the virtual roots have each a map
+pub record HasRootMaps {Z : Type 0} (sets : List (List PathContent)) (real_roots virtual_roots : List (Vec ℕ Z × ℕ)) : Type 0 where
+  pub real_are : MapsRoots false sets real_roots
+  pub virtual_are : MapsRoots true sets virtual_roots
+
+-- a set's number stands beside the text of a root, where that is of a kind, and beside each other text what stood there
+pub record PutsRoot {Z : Type 0} (kind : Bool) (root : PathContent) (number : ℕ) (old new : List (Vec ℕ Z × ℕ)) : Type 0 where
+  pub each : (text : List ℕ)
+      → number_at text new ≡ (if is_root_of kind text root then Some number else number_at text old)
+
+-- the same of the roots of a set
+pub record PutsRootsOf {Z : Type 0} (kind : Bool) (roots : List PathContent) (number : ℕ) (old new : List (Vec ℕ Z × ℕ)) : Type 0 where
+  pub each : (text : List ℕ)
+      → number_at text new ≡ (if list_any (is_root_of kind text) roots then Some number else number_at text old)
+
+-- a number stands beside the longest prefix of a text that has one, and each prefix down to that one was counted
+pub record IsOfLongestPrefix {Z : Type 0} (entries : List (Vec ℕ Z × ℕ)) (text : List ℕ) (number before now : ℕ) : Type 0 where
+  pub size : ℕ
+  pub counts : now ≡ raised_by (length text + 1 - size) before
+  pub within : size ≤ length text
+  pub has : number_at (take size text) entries ≡ Some number
+  pub none_longer : (longer : ℕ) → size < longer → longer ≤ length text → number_at (take longer text) entries ≡ None
+
+-- no prefix of a text has a number, and each was counted
+pub record HasNoPrefix {Z : Type 0} (entries : List (Vec ℕ Z × ℕ)) (text : List ℕ) (before now : ℕ) : Type 0 where
+  pub counts : now ≡ raised_by (length text + 1) before
+  pub none : (size : ℕ) → size ≤ length text → number_at (take size text) entries ≡ None

@@ -1,0 +1,90 @@
+//! The roots of sets by their texts, one map for each kind, and the search for the longest that begins a text.
+
+ghost use Rattle.std.specs.Prelude.{◌≡◌, IfOk, MatchOption, OnOk};
+ghost use Rattle.vfs_sets.specs.RootMaps.{HasNoPrefix, IsOfLongestPrefix, MapsRoots, PutsRoot, PutsRootsOf};
+
+use base_text::{Items, Ledger, Steps};
+use std::alloc::{AllocError, Global};
+use std::collections::BTreeMap;
+use vfs_core::VfsPath;
+
+/// The roots of a kind, each with the least set that has it. The sets come from the last to the first.
+pub(crate) fn map_roots(
+    alloc: Global,
+    sets: &[Items<VfsPath>],
+    is_virtual: bool,
+) -> Result<BTreeMap<Vec<u8>, u64>, AllocError>
+    ensures { IfOk result (λ map. MapsRoots is_virtual sets.now map.entries) }
+{
+    let mut map = BTreeMap::new(alloc);
+    let mut number = sets.len();
+    while number > 0 {
+        number -= 1;
+        put_roots_of(
+            alloc,
+            &mut map,
+            sets[number].as_slice(),
+            is_virtual,
+            number as u64,
+        )?;
+    }
+    Ok(map)
+}
+
+/// Puts a set's number beside each of its roots of a kind, over what stood there.
+fn put_roots_of(
+    alloc: Global,
+    map: &mut BTreeMap<Vec<u8>, u64>,
+    roots: &[VfsPath],
+    is_virtual: bool,
+    number: u64,
+) -> Result<(), AllocError>
+    ensures { OnOk result
+        (PutsRootsOf is_virtual roots.now number map.old.entries map.new.entries) }
+{
+    for root in roots {
+        put_root(alloc, map, root, is_virtual, number)?;
+    }
+    Ok(())
+}
+
+/// Puts a set's number beside a root, if that is of a kind.
+fn put_root(
+    alloc: Global,
+    map: &mut BTreeMap<Vec<u8>, u64>,
+    root: &VfsPath,
+    is_virtual: bool,
+    number: u64,
+) -> Result<(), AllocError>
+    ensures { OnOk result (PutsRoot is_virtual root.now number map.old.entries map.new.entries) }
+{
+    if root.is_virtual() == is_virtual {
+        let text = root.as_str().as_bytes().to_vec(alloc)?;
+        map.insert(text, number)?;
+    }
+    Ok(())
+}
+
+/// The number beside the longest prefix of a text that has one. The text itself comes first, the empty prefix last, and
+/// each look-up is a step.
+pub(crate) fn number_of_longest_prefix<L: Ledger>(
+    map: &BTreeMap<Vec<u8>, u64>,
+    text: &[u8],
+    steps: &mut Steps<L>,
+) -> Option<u64>
+    ensures { MatchOption result
+        (HasNoPrefix map.now.entries text.now
+        (L.count steps.old.ledger) (L.count steps.new.ledger))
+        (λ number. IsOfLongestPrefix map.now.entries text.now number
+        (L.count steps.old.ledger) (L.count steps.new.ledger)) }
+{
+    let mut untried = text.len() + 1;
+    while untried > 0 {
+        untried -= 1;
+        steps.ledger.tick();
+        if let Some(number) = map.get(&text[..untried]) {
+            return Some(*number);
+        }
+    }
+    None
+}
