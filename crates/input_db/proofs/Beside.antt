@@ -6,8 +6,8 @@ use Rattle.crate_graph.specs.Graph.{Graph}
 use Rattle.input_db.specs.Change.{IsChanged, SetsCrates, text_after}
 use Rattle.input_db.specs.Database.{Database}
 use Rattle.input_db.specs.Files.{Held, file_root_of, root_of, text_of}
-use Rattle.input_db.specs.Lowered.{Id}
-use Rattle.input_db.specs.Lowering.{KeepsFiles}
+use Rattle.input_db.specs.Identity.{Id}
+use Rattle.input_db.specs.SetInDb.{KeepsFiles}
 use Rattle.input_db.specs.declared.change.FileChange.{FileChange}
 
 -- what is no crate is as it was
@@ -20,7 +20,7 @@ keeps cmp None old new ids set = record {
   nonce = ap (λ (d : Database). d.nonce) set.1;
 }
 keeps cmp (Some graph) old new None set = absurd set
-keeps cmp (Some graph) old new (Some ids) set = set.beside
+keeps cmp (Some graph) old new (Some ids) set = set.set.beside
 
 -- a change is made, and then its crates are set
 pub IsChanged_set : (change : FileChange) (cmp : Id → Id → Ordering) (graph : Option Graph) (old there new : Database)

@@ -1,14 +1,15 @@
 mod Beside
 mod ChangedTexts
+mod ContentLaws
+mod Contents
 mod Copies
-mod Edges
 mod Entries
+mod Equality
 mod GivenRoots
 mod IdentityLaws
 mod InputLaws
 mod ItselfFirst
 mod KnownLemmas
-mod LoweringLemmas
 mod NewNumbers
 mod Numbers
 mod PlaceLemmas
@@ -16,5 +17,6 @@ mod PutLemmas
 mod Run
 mod RunLemmas
 mod RunSteps
-mod TableCopies
+mod SetAgain
+mod SetLemmas
 mod TableLemmas

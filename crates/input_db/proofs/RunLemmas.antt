@@ -17,51 +17,52 @@ use Rattle.crate_graph.specs.declared.crate_data.Dependency.{Dependency}
 use Rattle.crate_graph.specs.Builder.{workspace_of}
 use Rattle.crate_graph.specs.Graph.{edges, row_of, target_of}
 use Rattle.crate_graph.specs.Laws.{renamed_dependency}
-use Rattle.input_db.proofs.Edges.{crate_edge}
+use Rattle.crate_graph.proofs.ExtendLemmas.{crate_edge}
 use Rattle.input_db.specs.Database.{Database}
-use Rattle.input_db.specs.Lowered.{Id, Lowered, apart, data_of, finish, finish_crate, is_new, lowered, new_of, plain}
-use Rattle.input_db.specs.Lowered.{unfinished, with_finished}
-use Rattle.input_db.specs.Lowering.{crate_at}
+use Rattle.input_db.specs.Identity.{Id, full_identity, data_of, number_in, root_identity}
+use Rattle.input_db.specs.FinishSteps.{Progress, finish, finish_crate, is_first_of_root, progress_after}
+use Rattle.input_db.specs.FinishSteps.{initial_progress, with_put_crate}
+use Rattle.input_db.specs.SetInDb.{crate_at}
 use Rattle.input_db.specs.declared.durability.Durability.TheVariants.{Medium}
-use Rattle.input_db.proofs.Run.{IsRun, IsStable, before, news_of}
+use Rattle.input_db.proofs.Run.{IsRun, IsStable, before, final_numbers}
 
 -- the crate of a number is finished
-pub finish-at : (crates : List CrateBuilder) (l : Lowered) (n : ℕ) (krate : CrateBuilder) → slice_get crates n ≡ Some krate
+pub finish-at : (crates : List CrateBuilder) (l : Progress) (n : ℕ) (krate : CrateBuilder) → slice_get crates n ≡ Some krate
     → finish crates l n ≡ finish_crate l n krate
 unfolding finish
 finish-at crates l n krate is = ap (λ o. option_map_or (finish_crate l n) o l) is
 
-pub finish-long : (crates : List CrateBuilder) (l : Lowered) (n : ℕ) → length (finish crates l n).finished.news ≡ length l.finished.news
+pub finish-long : (crates : List CrateBuilder) (l : Progress) (n : ℕ) → length (finish crates l n).finished.numbers ≡ length l.finished.numbers
 unfolding finish
 finish-long crates l n =
-    elim (slice_get crates n) as (λ o. length (option_map_or (finish_crate l n) o l).finished.news ≡ length l.finished.news) [
-      | Some krate ↦ length-set l.finished.news n _
+    elim (slice_get crates n) as (λ o. length (option_map_or (finish_crate l n) o l).finished.numbers ≡ length l.finished.numbers) [
+      | Some krate ↦ length-set l.finished.numbers n _
       | None ↦ refl
     ]
 
 -- as many numbers as before
-pub all-long : (crates : List CrateBuilder) (l : Lowered) (ns : List ℕ)
-    → length (fold (finish crates) l ns).finished.news ≡ length l.finished.news
+pub all-long : (crates : List CrateBuilder) (l : Progress) (ns : List ℕ)
+    → length (fold (finish crates) l ns).finished.numbers ≡ length l.finished.numbers
 all-long crates l [] = refl
 all-long crates l (n ∷ ns) = all-long crates (finish crates l n) ns ∙ finish-long crates l n
 
 -- there is a number for each crate, at each place of the order
 pub long : (crates : List CrateBuilder) (old : Database) (order : List ℕ) (k : ℕ)
-    → length (before crates old order k).finished.news ≡ length crates
-long crates old order k = all-long crates (unfinished crates old) (take k order) ∙ length-replicate (length crates) 0
+    → length (before crates old order k).finished.numbers ≡ length crates
+long crates old order k = all-long crates (initial_progress crates old) (take k order) ∙ length-replicate (length crates) 0
 
 -- the number of another crate stays
-pub finish-other : (crates : List CrateBuilder) (l : Lowered) (n m : ℕ) → (m ≡ n → ⊥)
-    → get_or (finish crates l n).finished.news m 0 ≡ get_or l.finished.news m 0
+pub finish-other : (crates : List CrateBuilder) (l : Progress) (n m : ℕ) → (m ≡ n → ⊥)
+    → get_or (finish crates l n).finished.numbers m 0 ≡ get_or l.finished.numbers m 0
 unfolding finish
 finish-other crates l n m differ =
-    elim (slice_get crates n) as (λ o. get_or (option_map_or (finish_crate l n) o l).finished.news m 0 ≡ get_or l.finished.news m 0) [
-      | Some krate ↦ get_or-set_other l.finished.news n m _ 0 differ
+    elim (slice_get crates n) as (λ o. get_or (option_map_or (finish_crate l n) o l).finished.numbers m 0 ≡ get_or l.finished.numbers m 0) [
+      | Some krate ↦ get_or-set_other l.finished.numbers n m _ 0 differ
       | None ↦ refl
     ]
 
-others_stay : (crates : List CrateBuilder) (l : Lowered) (ns : List ℕ) (m : ℕ) → (Contains ns m → ⊥)
-    → get_or (fold (finish crates) l ns).finished.news m 0 ≡ get_or l.finished.news m 0
+others_stay : (crates : List CrateBuilder) (l : Progress) (ns : List ℕ) (m : ℕ) → (Contains ns m → ⊥)
+    → get_or (fold (finish crates) l ns).finished.numbers m 0 ≡ get_or l.finished.numbers m 0
 others_stay crates l [] m out = refl
 others_stay crates l (n ∷ ns) m out =
     others_stay crates (finish crates l n) ns m (λ c. out (Contains-append_right (n ∷ []) ns m c))
@@ -69,18 +70,18 @@ others_stay crates l (n ∷ ns) m out =
 
 -- what is finished in all is what is finished from a place on, over what is finished before
 finished_from : (crates : List CrateBuilder) (old : Database) (order : List ℕ) (k : ℕ)
-    → lowered crates old order ≡ fold (finish crates) (before crates old order k) (drop k order)
+    → progress_after crates old order ≡ fold (finish crates) (before crates old order k) (drop k order)
 finished_from crates old order k =
-    ap (fold (finish crates) (unfinished crates old)) (sym (take-append-drop k order))
-    ∙ fold-append (finish crates) (unfinished crates old) (take k order) (drop k order)
+    ap (fold (finish crates) (initial_progress crates old)) (sym (take-append-drop k order))
+    ∙ fold-append (finish crates) (initial_progress crates old) (take k order) (drop k order)
 
 -- one crate more is finished
 pub before_more : (crates : List CrateBuilder) (old : Database) (order : List ℕ) (k : ℕ) → k < length order
     → before crates old order (suc k) ≡ finish crates (before crates old order k) (get_or order k 0)
 before_more crates old order k within =
     let next : suc k ≡ k + 1 = omega arith in
-    ap (λ i. fold (finish crates) (unfinished crates old) (take i order)) next
-    ∙ fold_more (finish crates) (unfinished crates old) order k 0 within
+    ap (λ i. fold (finish crates) (initial_progress crates old) (take i order)) next
+    ∙ fold_more (finish crates) (initial_progress crates old) order k 0 within
 
 -- a crate of the order is finished at its place alone
 not_later : (order : List ℕ) → ((i j : ℕ) → i < j → j < length order → get_or order i 0 ≡ get_or order j 0 → ⊥)
@@ -97,7 +98,7 @@ module _ (crates : List CrateBuilder) (old : Database) (order : List ℕ) (behin
   pub stable : IsStable crates old order
   stable k later above to within =
       let n = get_or order k 0 in
-      sym (ap (λ l. get_or l.finished.news n 0) (finished_from crates old order later)
+      sym (ap (λ l. get_or l.finished.numbers n 0) (finished_from crates old order later)
       ∙ others_stay crates (before crates old order later) (drop later order) n (not_later order behind.once k later above))
 
 -- dependencies are renamed alike where the numbers of their targets are
@@ -124,16 +125,16 @@ data_with krate deps = record {
 }
 
 -- a crate is renamed alike where the numbers of those that it depends on are
-same_data : (new other : Id → ℕ) (krate : CrateBuilder) → ((id : Id) → Contains (row_of krate) id.raw → new id ≡ other id)
+pub same_data : (new other : Id → ℕ) (krate : CrateBuilder) → ((id : Id) → Contains (row_of krate) id.raw → new id ≡ other id)
     → data_of new krate ≡ data_of other krate
 same_data new other krate agree = ap (data_with krate) (same_dependencies new other krate.basic.dependencies agree)
 
 -- a crate is finished with data
-abbrev finished_with : Lowered → ℕ → CrateBuilder → CrateData ℕ → Lowered
+abbrev finished_with : Progress → ℕ → CrateBuilder → CrateData ℕ → Progress
 finished_with l n krate data_there =
-    with_finished l n krate
-    (if is_new l.finished.roots krate.basic.root_file_id then plain krate.basic.root_file_id
-    else apart krate.basic.root_file_id data_there krate.cfg_options)
+    with_put_crate l n krate
+    (if is_first_of_root l.finished.roots krate.basic.root_file_id then root_identity krate.basic.root_file_id
+    else full_identity krate.basic.root_file_id data_there krate.cfg_options)
     (record {
       crate_data = data_there;
       extra_data = krate.extra;
@@ -162,13 +163,13 @@ module _ (crates : List CrateBuilder) (old : Database) (order : List ℕ) (behin
   -- what a crate depends on has its number before it
   same_before : (k : ℕ) (krate : CrateBuilder) → k < length order → slice_get crates (get_or order k 0) ≡ Some krate
       → (id : Id) → Contains (row_of krate) id.raw
-      → new_of (before crates old order k).finished.news id ≡ new_of (news_of crates old order) id
+      → number_in (before crates old order k).finished.numbers id ≡ number_in (final_numbers crates old order) id
   same_before k krate within at id c =
       let target = behind.behind k id.raw within (crate_edge crates (get_or order k 0) id.raw krate at c) in
       let low : target.0 < k = target.1 in
-      ap (λ n. get_or (before crates old order k).finished.news n 0) (sym target.2)
+      ap (λ n. get_or (before crates old order k).finished.numbers n 0) (sym target.2)
       ∙ stable crates old order behind target.0 k low (omega arith) (omega arith)
-      ∙ ap (λ n. get_or (news_of crates old order) n 0) target.2
+      ∙ ap (λ n. get_or (final_numbers crates old order) n 0) target.2
 
   pub run : IsRun crates old order
   run k krate is =
@@ -177,5 +178,5 @@ module _ (crates : List CrateBuilder) (old : Database) (order : List ℕ) (behin
       let n = get_or order k 0 in
       before_more crates old order k place.0 ∙ finish-at crates l n krate place.1
       ∙ ap (finished_with l n krate)
-      (same_data (new_of l.finished.news) (new_of (news_of crates old order)) krate
+      (same_data (number_in l.finished.numbers) (number_in (final_numbers crates old order)) krate
       (same_before k krate place.0 place.1))

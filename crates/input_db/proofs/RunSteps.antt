@@ -12,12 +12,14 @@ use Rattle.std.proofs.lemmas.Option.{slice_get-get_or, slice_get_within}
 use Rattle.graph_base.specs.Finish.{IsBehindTargets}
 use Rattle.crate_graph.specs.Graph.{edges}
 use Rattle.crate_graph.specs.declared.builder.CrateBuilder.{CrateBuilder}
-use Rattle.input_db.proofs.Edges.{length-edges, slice_get_some}
+use Rattle.crate_graph.proofs.GraphLemmas.{length-edges, slice_get_some}
 use Rattle.input_db.specs.Database.{Database}
 use Rattle.input_db.specs.Identity.{Table, crate_for, with_entry}
-use Rattle.input_db.specs.Lowered.{Lowered, identity_of, input_of, is_new, lowered, new_of, with_member}
-use Rattle.input_db.specs.Lowering.{crate_at, given_at, identity_at, is_first_at, is_of_root}
-use Rattle.input_db.proofs.Run.{IsRun, IsStable, before, news_of}
+use Rattle.input_db.specs.Identity.{identity_of, input_of, number_in}
+use Rattle.input_db.specs.SetInDb.{with_member}
+use Rattle.input_db.specs.FinishSteps.{Progress, is_first_of_root, progress_after}
+use Rattle.input_db.specs.SetInDb.{crate_at, number_at, identity_at, is_first_at, is_of_root}
+use Rattle.input_db.proofs.Run.{IsRun, IsStable, before, final_numbers}
 
 -- what each step keeps holds in the end
 pub climbs : (P : ℕ → Type 0) (from top : ℕ) → from ≤ top → P from
@@ -64,8 +66,8 @@ table_before crates old order k = (before crates old order k).db.crates
 
 -- in the end all are finished
 pub at_end : (crates : List CrateBuilder) (old : Database) (order : List ℕ)
-    → before crates old order (length order) ≡ lowered crates old order
-at_end crates old order = ap (lowered crates old) (take_all (length order) order (omega arith))
+    → before crates old order (length order) ≡ progress_after crates old order
+at_end crates old order = ap (progress_after crates old) (take_all (length order) order (omega arith))
 
 -- a crate stands within the order
 pub place_within : (crates : List CrateBuilder) (order : List ℕ) (k : ℕ) (krate : CrateBuilder)
@@ -97,7 +99,7 @@ module _ (crates : List CrateBuilder) (order : List ℕ) (behind : IsBehindTarge
       (there.0, ap (option_and_then (slice_get crates)) (slice_get-get_or order k 0 within) ∙ there.1)
 
   module _ (old : Database) (run : IsRun crates old order) where
-    -- the root files of the crates before a place are those that were noted
+    -- the root files of the crates before a place are those of the progress
     pub roots_are : (file k : ℕ) → k ≤ length order
         → list_any (nat_eq file) (before crates old order k).finished.roots ≡ list_any (is_of_root crates file) (take k order)
     roots_are file zero within = refl
@@ -109,7 +111,7 @@ module _ (crates : List CrateBuilder) (order : List ℕ) (behind : IsBehindTarge
         let test : nat_eq file root ≡ is_of_root crates file (get_or order k 0) =
         sym (ap (λ o. unwrap_or (option_map (λ (krate : CrateBuilder). nat_eq file krate.basic.root_file_id) o) false)
         (crate_there crates order k c.0 c.1)) in
-        ap (λ (l : Lowered). list_any (nat_eq file) l.finished.roots) (run k c.0 c.1)
+        ap (λ (l : Progress). list_any (nat_eq file) l.finished.roots) (run k c.0 c.1)
         ∙ any-with_member file root roots
         ∙ ap (λ b. b || nat_eq file root) (roots_are file k (omega arith))
         ∙ ap (λ b. list_any (is_of_root crates file) (take k order) || b) test
@@ -118,7 +120,7 @@ module _ (crates : List CrateBuilder) (order : List ℕ) (behind : IsBehindTarge
 
     -- a crate's root file is new where no crate before it is of that
     pub first_is : (k : ℕ) (krate : CrateBuilder) → crate_at crates order k ≡ Some krate
-        → is_new (before crates old order k).finished.roots krate.basic.root_file_id ≡ is_first_at crates order k krate
+        → is_first_of_root (before crates old order k).finished.roots krate.basic.root_file_id ≡ is_first_at crates order k krate
     first_is k krate at =
         let within = place_within crates order k krate at in
         ap not (roots_are krate.basic.root_file_id k (omega arith))
@@ -126,38 +128,38 @@ module _ (crates : List CrateBuilder) (order : List ℕ) (behind : IsBehindTarge
     -- the table after a crate
     pub table_put : (k : ℕ) (krate : CrateBuilder) → crate_at crates order k ≡ Some krate
         → table_before crates old order (suc k)
-        ≡ with_entry (table_before crates old order k) (identity_at crates order (news_of crates old order) k krate)
-        (input_of (new_of (news_of crates old order)) krate)
+        ≡ with_entry (table_before crates old order k) (identity_at crates order (final_numbers crates old order) k krate)
+        (input_of (number_in (final_numbers crates old order)) krate)
     table_put k krate at =
-        ap (λ (l : Lowered). l.db.crates) (run k krate at)
-        ∙ ap (λ b. with_entry (table_before crates old order k) (identity_of b (new_of (news_of crates old order)) krate)
-        (input_of (new_of (news_of crates old order)) krate)) (first_is k krate at)
+        ap (λ (l : Progress). l.db.crates) (run k krate at)
+        ∙ ap (λ b. with_entry (table_before crates old order k) (identity_of b (number_in (final_numbers crates old order)) krate)
+        (input_of (number_in (final_numbers crates old order)) krate)) (first_is k krate at)
 
     -- each crate of the graph has a number all along
-    pub news_long : (k : ℕ) → k ≤ length order → length (before crates old order k).finished.news ≡ length crates
+    pub news_long : (k : ℕ) → k ≤ length order → length (before crates old order k).finished.numbers ≡ length crates
     news_long zero within = length-replicate (length crates) 0
     news_long (suc k) within =
         let c = crate_some k (omega arith) in
-        let u = identity_of (is_new (before crates old order k).finished.roots c.0.basic.root_file_id)
-        (new_of (news_of crates old order)) c.0 in
-        ap (λ (l : Lowered). length l.finished.news) (run k c.0 c.1)
-        ∙ length-set (before crates old order k).finished.news (slice_index_or order k 0)
+        let u = identity_of (is_first_of_root (before crates old order k).finished.roots c.0.basic.root_file_id)
+        (number_in (final_numbers crates old order)) c.0 in
+        ap (λ (l : Progress). length l.finished.numbers) (run k c.0 c.1)
+        ∙ length-set (before crates old order k).finished.numbers (slice_index_or order k 0)
         (crate_for (table_before crates old order k) u)
         ∙ news_long k (omega arith)
 
     -- the number of a crate in the end is that of its identity when it is finished
     pub given_is : IsStable crates old order → (k : ℕ) (krate : CrateBuilder) → crate_at crates order k ≡ Some krate
-        → given_at (news_of crates old order) order k
-        ≡ crate_for (table_before crates old order k) (identity_at crates order (news_of crates old order) k krate)
+        → number_at (final_numbers crates old order) order k
+        ≡ crate_for (table_before crates old order k) (identity_at crates order (final_numbers crates old order) k krate)
     given_is stable k krate at =
         let within = place_within crates order k krate at in
         let n = slice_index_or order k 0 in
-        let u = identity_of (is_new (before crates old order k).finished.roots krate.basic.root_file_id)
-        (new_of (news_of crates old order)) krate in
+        let u = identity_of (is_first_of_root (before crates old order k).finished.roots krate.basic.root_file_id)
+        (number_in (final_numbers crates old order)) krate in
         let long = news_long k (omega arith) in
-        let inside : n < length (before crates old order k).finished.news = omega (arith, number_within k within, long) in
+        let inside : n < length (before crates old order k).finished.numbers = omega (arith, number_within k within, long) in
         sym (stable k (suc k) (omega arith) (omega arith) within)
-        ∙ ap (λ (l : Lowered). slice_index_or l.finished.news n 0) (run k krate at)
-        ∙ get_or-set_same (before crates old order k).finished.news n (crate_for (table_before crates old order k) u) 0 inside
-        ∙ ap (λ b. crate_for (table_before crates old order k) (identity_of b (new_of (news_of crates old order)) krate))
+        ∙ ap (λ (l : Progress). slice_index_or l.finished.numbers n 0) (run k krate at)
+        ∙ get_or-set_same (before crates old order k).finished.numbers n (crate_for (table_before crates old order k) u) 0 inside
+        ∙ ap (λ b. crate_for (table_before crates old order k) (identity_of b (number_in (final_numbers crates old order)) krate))
         (first_is k krate at)

@@ -1,6 +1,6 @@
 -- The table of all crates: its edges lead to crates of the table, and it stays a table once an identity is given
 -- an input.
-use Rattle.std.proofs.Common.{◌≡◌, ℕ, zero, suc, ◌+◌, ◌<◌, ◌≤◌, ◌^◌, ◌⊎◌, inl, inr, Bool, true, false, cond, List, [], ◌∷◌}
+use Rattle.std.proofs.Common.{◌≡◌, ℕ, zero, suc, ◌+◌, ◌<◌, ◌^◌, ◌⊎◌, inl, inr, Bool, true, false, cond, List, [], ◌∷◌}
 use Rattle.std.proofs.Common.{Option, Some, None, length, get_or, slice_get, refl, sym, ap, ◌∙◌, subst, arith, true≢false, is_some}
 use Rattle.std.specs.List.{All}
 use Rattle.std.specs.Map.{keys_of, values_of}
@@ -9,9 +9,10 @@ use Rattle.std.proofs.lemmas.List.{get_or-map, length-map}
 use Rattle.std.proofs.lemmas.Option.{slice_get-map}
 use Rattle.graph_base.specs.Edges.{IsInRange, row}
 use Rattle.crate_graph.specs.declared.crate_data.Dependency.{Dependency}
-use Rattle.input_db.specs.Identity.{IsTable, Table, crate_edges, input_in, named_in, names_of, unique_eq, with_entry}
+use Rattle.input_db.specs.Identity.{HasCleanIdentity, HasCleanInput, IsTable, Table, crate_edges, input_in, named_in, names_of, unique_eq, with_entry}
 use Rattle.input_db.specs.declared.crate_input.CrateInput.{CrateInput}
 use Rattle.input_db.specs.declared.crate_input.UniqueCrateData.{UniqueCrateData}
+use Rattle.input_db.proofs.PlaceLemmas.{put_longer}
 
 not_there : {X : Type 0} {x : X} → None ≡ Some x → ⊥
 not_there e = true≢false (sym (ap is_some e))
@@ -38,7 +39,7 @@ in_range table is a b edge =
     let within : edge.0 < length (named_in from.0.crate_data) = subst (λ (ns : List ℕ). edge.0 < length ns) same edge.1 in
     let at : get_or (named_in from.0.crate_data) edge.0 b ≡ b =
     subst (λ (ns : List ℕ). get_or ns edge.0 b ≡ b) same edge.2 in
-    let below : get_or (named_in from.0.crate_data) edge.0 b < length table = is.known a from.0 from.1 edge.0 b within in
+    let below : get_or (named_in from.0.crate_data) edge.0 b < length table = is.present a from.0 from.1 edge.0 b within in
     let long : length (crate_edges table) ≡ length table = length-map table _ in
     omega arith
 
@@ -56,7 +57,7 @@ dependencies_fit table krate input is there k d within =
     let long : length (named_in input.crate_data) ≡ length input.crate_data.dependencies =
     length-map input.crate_data.dependencies _ in
     let below : get_or (named_in input.crate_data) k 0 < length table =
-    is.known krate input there k 0 (omega arith) in
+    is.present krate input there k 0 (omega arith) in
     omega (arith, is.few)
 
 -- an identity is where it was, or is the one that is given and comes last
@@ -105,19 +106,6 @@ input_after (entry ∷ table) unique input krate x is =
     input_split table (with_entry table unique input) entry input (unique_eq unique entry.0) krate x
     (λ k at. input_after table unique input k x at) is
 
-longer_split : (table rest : Table) (entry : UniqueCrateData × CrateInput) (input : CrateInput) (is_first : Bool)
-    → length table ≤ length rest
-    → suc (length table) ≤ length (cond is_first ((entry.0, input) ∷ table) (entry ∷ rest))
-longer_split table rest entry input true more = omega arith
-longer_split table rest entry input false more = omega arith
-
--- no crate goes
-pub longer : (table : Table) (unique : UniqueCrateData) (input : CrateInput)
-    → length table ≤ length (with_entry table unique input)
-longer [] unique input = omega arith
-longer (entry ∷ table) unique input =
-    longer_split table (with_entry table unique input) entry input (unique_eq unique entry.0) (longer table unique input)
-
 -- the numbers suffice where the identity has a crate, or one number more is left
 pub few_after : (before after : ℕ) (there : Bool) → after ≡ before + cond there 0 1 → before < 2 ^ 32
     → (there ≡ true) ⊎ (before < 0xffff_ffff) → after < 2 ^ 32
@@ -125,13 +113,14 @@ few_after before after true long few room = omega arith
 few_after before after false long few (inl there) = absurd (true≢false (sym there))
 few_after before after false long few (inr room) = omega arith
 
--- a table stays one once an identity is given an input that both name its crates alone
+-- a table stays one once an identity is given an input that both name its crates alone and have clean paths
 pub table_after : (table : Table) (unique : UniqueCrateData) (input : CrateInput) → IsTable table
     → All (λ named. named < length table) (names_of unique)
     → All (λ named. named < length table) (named_in input.crate_data)
+    → HasCleanIdentity unique → HasCleanInput input
     → length (with_entry table unique input) < 2 ^ 32
     → IsTable (with_entry table unique input)
-table_after table unique input is named_by_it named_in_it fits = record {
+table_after table unique input is named_by_it named_in_it clean_unique clean_input fits = record {
   few = fits;
   older = λ krate x at. elim (identity_after table unique input krate x at) [
     | inl old ↦ is.older krate x old
@@ -141,15 +130,23 @@ table_after table unique input is named_by_it named_in_it fits = record {
         let same = ap (λ (u : UniqueCrateData). get_or (names_of u) k d) new.1 in
         omega arith
   ];
-  known = λ krate x at. elim (input_after table unique input krate x at) [
+  present = λ krate x at. elim (input_after table unique input krate x at) [
     | inl old ↦ λ k d within.
-        let below : get_or (named_in x.crate_data) k d < length table = is.known krate x old k d within in
-        omega (arith, longer table unique input)
+        let below : get_or (named_in x.crate_data) k d < length table = is.present krate x old k d within in
+        omega (arith, put_longer unique_eq unique input table)
     | inr new ↦ λ k d within.
         let there : k < length (named_in input.crate_data) =
         subst (λ (i : CrateInput). k < length (named_in i.crate_data)) new within in
         let below : get_or (named_in input.crate_data) k d < length table = named_in_it k d there in
         let same = ap (λ (i : CrateInput). get_or (named_in i.crate_data) k d) new in
-        omega (arith, longer table unique input)
+        omega (arith, put_longer unique_eq unique input table)
+  ];
+  clean_identities = λ krate x at. elim (identity_after table unique input krate x at) [
+    | inl old ↦ is.clean_identities krate x old
+    | inr new ↦ subst HasCleanIdentity (sym new.1) clean_unique
+  ];
+  clean_inputs = λ krate x at. elim (input_after table unique input krate x at) [
+    | inl old ↦ is.clean_inputs krate x old
+    | inr new ↦ subst HasCleanInput (sym new) clean_input
   ];
 }

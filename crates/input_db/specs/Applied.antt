@@ -1,4 +1,4 @@
--- A change made step by step, but for its crates: the roots in order, each with its files, then the lists of
+-- A change made step by step, except for its crates: the roots in order, each with its files, then the lists of
 -- roots, then the texts in order.
 use Rattle.std.specs.Prelude.{ℕ, suc, List, [], ◌∷◌, Option, Some, None}
 use Rattle.std.specs.List.{fold}

@@ -12,8 +12,8 @@ use Rattle.crate_graph.specs.Graph.{Graph}
 use Rattle.input_db.specs.Database.{Database, library_numbers, local_numbers}
 use Rattle.input_db.specs.Files.{Held, durability_of_file, file_root_of, root_of, stored_place, stored_root}
 use Rattle.input_db.specs.Files.{stored_text, text_of}
-use Rattle.input_db.specs.Lowered.{Id}
-use Rattle.input_db.specs.Lowering.{IsSetInDb}
+use Rattle.input_db.specs.FinishSteps.{IsSetInSteps}
+use Rattle.input_db.specs.Identity.{Id}
 use Rattle.input_db.specs.SourceRoot.{has_file, root_durability}
 use Rattle.input_db.specs.declared.change.FileChange.{FileChange}
 use Rattle.input_db.specs.declared.inputs.FileText.{FileText}
@@ -35,13 +35,15 @@ is_in_some roots file = list_any (λ root. has_file root file) roots
 abbrev pub is_root : Held → List SourceRoot → ℕ → Bool
 is_root files roots number = is_some (root_of files number) || nat_lt number (length roots)
 
+-- whether a file has a source root already that is there or is given
+abbrev pub keeps_root : Held → List SourceRoot → ℕ → Bool
+keeps_root files roots file =
+    unwrap_or (option_map (λ place. is_root files roots place.source_root_id) (file_root_of files file)) false
+
 -- whether a file will have a source root that is there: it is in a root that is given, or has one already
 -- that is there or is given
 abbrev pub fits_file : Held → List SourceRoot → ℕ → Bool
-fits_file files roots file =
-    is_in_some roots file
-    || unwrap_or (option_map (λ place. is_root files roots place.source_root_id) (file_root_of files file))
-    false
+fits_file files roots file = is_in_some roots file || keeps_root files roots file
 
 -- whether each file that changed will have a source root that is there
 abbrev pub fits : Held → FileChange → Bool
@@ -83,7 +85,7 @@ place_given number (root ∷ roots) file =
     option_or (place_given (suc number) roots file)
     (if has_file root file then Some (stored_place number (root_durability root)) else None)
 
--- the place of a file: the one that is given, or the one that it had
+-- the place of a file: the one that is given, or its old one
 abbrev pub place_after : List SourceRoot → Held → ℕ → Option FileSourceRootInput
 place_after roots old file = option_or (place_given 0 roots file) (file_root_of old file)
 
@@ -93,7 +95,7 @@ text_given [] file = None
 text_given (changed ∷ rest) file =
     option_or (text_given rest file) (if file == changed.0 then Some (unwrap_or changed.1 []) else None)
 
--- the text of a file: the last that is given, as durable as the file's root has it, or the one that it had
+-- the text of a file: the last that is given, as durable as the file's root makes it, or its old one
 abbrev pub text_after : List (ℕ × Option (List ℕ)) → Held → Held → ℕ → Option FileText
 text_after changed old new file =
     option_or
@@ -113,4 +115,4 @@ pub record IsChanged (change : FileChange) (old new : Database) : Type 0 where
 abbrev pub SetsCrates : (Id → Id → Ordering) → Option Graph → Database → Database → Option (tree.BTreeMap Id ℕ) → Type 0
 SetsCrates cmp None old new ids = (ids ≡ None) × (new ≡ old)
 SetsCrates cmp (Some graph) old new None = ⊥
-SetsCrates cmp (Some graph) old new (Some ids) = IsSetInDb cmp graph.crates old new ids
+SetsCrates cmp (Some graph) old new (Some ids) = IsSetInSteps cmp graph.crates old new ids

@@ -2,7 +2,7 @@
 -- nonce, and its crates.
 use Rattle.std.specs.Prelude.{ℕ, List, [], Option, Some, None, if◌then◌else◌, refl}
 use Rattle.std.specs.Coded.{Coded, code_by, coded×, coded_list, coded_ℕ}
-use Rattle.base_text.specs.Causes.{raised}
+use Rattle.outside.specs.Causes.{raised}
 use Rattle.input_db.specs.Files.{Held, held_code, no_files}
 use Rattle.input_db.specs.Identity.{Table, input_eq, input_under, with_entry}
 use Rattle.input_db.specs.contracts.crate_input.CrateInput as input
@@ -24,7 +24,7 @@ pub record Database : Type 0 where
   pub local : LocalRoots
   -- the roots that are libraries, by number
   pub library : LibraryRoots
-  -- what tells the database from others
+  -- what distinguishes the database from others
   pub nonce : ℕ
   -- all crates that were ever given, each at its number
   pub crates : Table
@@ -94,8 +94,8 @@ writes_after writes None input = raised writes
 writes_after writes (Some old) input = if input_eq old input then writes else raised writes
 
 -- the database with an input for the crate of an identity
-abbrev pub with_crate : Database → UniqueCrateData → CrateInput → Database
-with_crate db unique input = record db {
+abbrev pub with_crate_input : Database → UniqueCrateData → CrateInput → Database
+with_crate_input db unique input = record db {
   crates = with_entry db.crates unique input;
   writes = writes_after db.writes (input_under db.crates unique) input;
 }

@@ -5,7 +5,7 @@ use Rattle.std.specs.Coded.{Coded, code_by, coded×, coded_ℕ}
 use Rattle.std.specs.FinMap as map
 use Rattle.std.specs.Option.{option_and_then, option_map, unwrap_or}
 use Rattle.std.specs.Ordering.{nat_cmp}
-use Rattle.vfs_sets.specs.FileSet.{resolved}
+use Rattle.vfs_sets.specs.FileSet.{resolved_file}
 use Rattle.input_db.specs.SourceRoot.{set_of_root, text_durability}
 use Rattle.input_db.specs.contracts.inputs.FileSourceRootInput as place
 use Rattle.input_db.specs.contracts.inputs.FileText as text
@@ -67,7 +67,7 @@ durability_of_file files file = unwrap_or (option_map text_durability (root_of_f
 -- the file beside another one, by the root of that one
 abbrev pub resolved_from : Held → ℕ → List ℕ → Option ℕ
 resolved_from files anchor tail =
-    option_and_then (λ root. resolved (set_of_root root) anchor tail) (root_of_file files anchor)
+    option_and_then (λ root. resolved_file (set_of_root root) anchor tail) (root_of_file files anchor)
 
 -- a text as it is stored
 abbrev pub stored_text : ℕ → List ℕ → Durability → FileText

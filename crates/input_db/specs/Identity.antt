@@ -1,23 +1,72 @@
--- What tells the crates of a database apart, and the table of all crates that it was ever given: each identity once,
--- with what the database holds of its crate. The place of an entry is the number of its crate.
-use Rattle.std.specs.Prelude.{◌≡◌, ℕ, ◌<◌, ◌≤◌, ◌^◌, Bool, List, [], Option, Some, None, length, map, position, slice_get}
+-- What tells the crates of a database from each other, and the table of all crates that it was ever given: each identity
+-- once, with what the database holds of its crate. The place of an entry is the number of its crate.
+-- From the way in which a language server's inputs are made of a crate graph: the first crate of a root file is known by that
+-- file alone, and each further one by its data and its conditional compilation as well.
+use Rattle.std.specs.Prelude.{◌≡◌, ℕ, ◌<◌, ◌≤◌, ◌^◌, Bool, List, [], Option, Some, None, if◌then◌else◌, length, map, position}
+use Rattle.std.specs.Prelude.{slice_get, slice_index_or}
 use Rattle.std.specs.List.{All, position_or_len}
 use Rattle.std.specs.Map.{keys_of, lookup}
 use Rattle.std.specs.Option.{option_map, option_map_or}
 use Rattle.indexmap.specs.IndexMap.{insert_entry}
+use Rattle.base_text.specs.Arena.{number_of}
+use Rattle.base_text.specs.Paths.{IsClean}
+use Rattle.base_text.specs.declared.arena.Idx.{Idx}
+use Rattle.base_text.specs.declared.cfg.CfgAtom.{CfgAtom}
+use Rattle.crate_graph.specs.Builder.{workspace_of}
+use Rattle.crate_graph.specs.Laws.{renamed_crate}
+use Rattle.crate_graph.specs.declared.builder.CrateBuilder.{CrateBuilder}
 use Rattle.crate_graph.specs.declared.crate_data.CrateData.{CrateData}
-use Rattle.input_db.specs.contracts.crate_input.UniqueCrateDataPartialEq.TheImpl as uniques
+use Rattle.crate_graph.specs.declared.crate_data.CrateTag.{CrateTag}
+use Rattle.input_db.specs.contracts.crate_input.UniqueCrateDataPartialEq.TheImpl as identities
 use Rattle.input_db.specs.contracts.crate_input.CrateInputPartialEq.TheImpl as inputs
 use Rattle.input_db.specs.declared.crate_input.CrateInput.{CrateInput}
 use Rattle.input_db.specs.declared.crate_input.UniqueCrateData.{UniqueCrateData}
+use Rattle.input_db.specs.declared.durability.Durability.TheVariants.{Medium}
 
--- whether two identities are equal: in all that they hold
+-- the `==` of identities: true exactly of the same root file with the same data and atoms, as the laws of this crate say
 abbrev pub unique_eq : UniqueCrateData → UniqueCrateData → Bool
-unique_eq = (uniques.eq-value).it
+unique_eq = (identities.eq-value).it
 
--- whether two inputs are equal: in all that they hold
+-- the `==` of inputs: true exactly where all that they hold is the same, as the laws of this crate say
 abbrev pub input_eq : CrateInput → CrateInput → Bool
 input_eq = (inputs.eq-value).it
+
+-- the number of a crate in its graph
+abbrev pub Id : Type 0
+Id = Idx CrateTag
+
+-- the number in the database of a crate of the graph, by the list of these numbers
+abbrev pub number_in : List ℕ → Id → ℕ
+number_in numbers id = slice_index_or numbers (number_of id) 0
+
+-- the data of a crate of the graph, its dependencies named by their numbers in the database
+abbrev pub data_of : (Id → ℕ) → CrateBuilder → CrateData ℕ
+data_of number krate = renamed_crate number krate.basic
+
+-- what the database is to hold of a crate of the graph
+abbrev pub input_of : (Id → ℕ) → CrateBuilder → CrateInput
+input_of number krate = record {
+  crate_data = data_of number krate;
+  extra_data = krate.extra;
+  workspace_data = workspace_of krate;
+  cfg_options = krate.cfg_options;
+  env = krate.env;
+  durability = Medium;
+}
+
+-- the identity of a root file alone
+abbrev pub root_identity : ℕ → UniqueCrateData
+root_identity file = record { root_file_id = file; disambiguator = None }
+
+-- the identity of a root file with crate data and atoms
+abbrev pub full_identity : ℕ → CrateData ℕ → List CfgAtom → UniqueCrateData
+full_identity file krate cfgs = record { root_file_id = file; disambiguator = Some (krate, cfgs) }
+
+-- the identity of a crate of the graph: its root file alone, where it is finished as the first of that
+abbrev pub identity_of : Bool → (Id → ℕ) → CrateBuilder → UniqueCrateData
+identity_of is_first number krate =
+    if is_first then root_identity krate.basic.root_file_id
+    else full_identity krate.basic.root_file_id (data_of number krate) krate.cfg_options
 
 -- each identity with what is held of its crate
 abbrev pub Table : Type 0
@@ -29,7 +78,16 @@ named_in krate = map (λ dep. dep.crate_id) krate.dependencies
 
 -- the crates that an identity names
 abbrev pub names_of : UniqueCrateData → List ℕ
-names_of unique = option_map_or (λ apart. named_in apart.0) unique.disambiguator []
+names_of unique = option_map_or (λ pair. named_in pair.0) unique.disambiguator []
+
+-- the crate data of an identity, where it has some, runs procedural macros in a clean path, as every `AbsPathBuf` is
+abbrev pub HasCleanIdentity : UniqueCrateData → Type 0
+HasCleanIdentity unique = (krate : CrateData ℕ) (cfgs : List CfgAtom) → unique.disambiguator ≡ Some (krate, cfgs)
+    → IsClean krate.proc_macro_cwd
+
+-- the crate data of an input runs procedural macros in a clean path
+abbrev pub HasCleanInput : CrateInput → Type 0
+HasCleanInput input = IsClean input.crate_data.proc_macro_cwd
 
 -- the identities, each at the place of its crate
 abbrev pub uniques_in : Table → List UniqueCrateData
@@ -59,13 +117,17 @@ with_entry table unique input = insert_entry unique_eq table unique input
 abbrev pub crate_edges : Table → List (List ℕ)
 crate_edges table = map (λ entry. named_in entry.1.crate_data) table
 
--- crates are numbered within 32 bits; an identity names older crates alone; an input names crates of the table
+-- crates are numbered within 32 bits; an identity names older crates alone; an input names crates of the table; the paths
+-- in both are clean
 pub record IsTable (table : Table) : Type 0 where
   pub few : length table < 2 ^ 32
   pub older : (krate : ℕ) (unique : UniqueCrateData) → slice_get (keys_of table) krate ≡ Some unique
       → All (λ named. named < krate) (names_of unique)
-  pub known : (krate : ℕ) (input : CrateInput) → input_in table krate ≡ Some input
+  pub present : (krate : ℕ) (input : CrateInput) → input_in table krate ≡ Some input
       → All (λ named. named < length table) (named_in input.crate_data)
+  pub clean_identities : (krate : ℕ) (unique : UniqueCrateData) → slice_get (keys_of table) krate ≡ Some unique
+      → HasCleanIdentity unique
+  pub clean_inputs : (krate : ℕ) (input : CrateInput) → input_in table krate ≡ Some input → HasCleanInput input
 
 -- an identity's crate is given an input: it is the one that the identity had, or greater than all before, and every other
 -- identity keeps its crate, and every other crate its input

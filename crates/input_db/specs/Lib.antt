@@ -4,7 +4,7 @@ pub mod Database
 pub mod EditionedFileId
 pub mod Files
 pub mod Identity
-pub mod Lowering
-pub mod Lowered
+pub mod SetInDb
+pub mod FinishSteps
 pub mod Queries
 pub mod SourceRoot

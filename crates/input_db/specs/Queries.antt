@@ -1,7 +1,7 @@
 -- Lists of crates that begin with a given one.
 use Rattle.std.specs.Prelude.{◌≡◌, ℕ, ◌<◌, List, filter, length, nat_eq, not, slice_index_or}
 
--- the numbers of a list but for one
+-- the numbers of a list except one
 abbrev pub others : ℕ → List ℕ → List ℕ
 others krate ns = filter (λ n. not (nat_eq n krate)) ns
 

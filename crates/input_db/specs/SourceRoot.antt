@@ -2,21 +2,21 @@
 use Rattle.std.specs.Prelude.{ℕ, Bool, true, false, List, nat_eq, if◌then◌else◌}
 use Rattle.std.specs.List.{list_any}
 use Rattle.std.specs.Map.{keys_of}
-use Rattle.vfs_sets.specs.FileSet.{Files}
+use Rattle.vfs_sets.specs.FileSet.{FileSetContent}
 use Rattle.input_db.specs.declared.durability.Durability.{Durability}
 use Rattle.input_db.specs.declared.durability.Durability.TheVariants.{Low, Medium, High}
 use Rattle.input_db.specs.declared.source_root.SourceRoot.{SourceRoot}
 
 -- a root that is worked on, of a set of files
-abbrev pub local_root : Files → SourceRoot
+abbrev pub local_root : FileSetContent → SourceRoot
 local_root files = record { is_library = false; file_set = files }
 
 -- a root that is a library, of a set of files
-abbrev pub library_root : Files → SourceRoot
+abbrev pub library_root : FileSetContent → SourceRoot
 library_root files = record { is_library = true; file_set = files }
 
 -- the set of files of a root
-abbrev pub set_of_root : SourceRoot → Files
+abbrev pub set_of_root : SourceRoot → FileSetContent
 set_of_root root = root.file_set
 
 -- the files of a root, in order of first insertion

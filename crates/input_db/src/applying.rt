@@ -3,7 +3,7 @@
 ghost use Rattle.std.specs.Prelude.{◌≡◌, ◌<◌, ◌^◌, IfOk, OnOk, length};
 ghost use Rattle.input_db.specs.Applied.{with_changed_files, with_given_root, with_members, with_roots};
 ghost use Rattle.input_db.specs.Applied.{with_roots_from};
-ghost use Rattle.input_db.specs.Change.{fits_file, is_in_some, numbers_of};
+ghost use Rattle.input_db.specs.Change.{fits_file, is_in_some, keeps_root, numbers_of};
 ghost use Rattle.input_db.specs.Database.{with_files};
 ghost use Rattle.input_db.specs.Files.{durability_of_file};
 ghost use Rattle.input_db.specs.SourceRoot.{files_in};
@@ -17,13 +17,18 @@ use base_text::{FileId, Items, Text};
 use std::alloc::{AllocError, Global};
 use std::collections::BTreeSet;
 
-/// Whether a file will have a source root that is there.
+/// Whether a file will have a source root that is there. Only a file that has none yet is looked for in
+/// the sets of the given roots.
 pub(crate) fn fits_file(files: &Files, roots: &[SourceRoot], file: FileId) -> bool
     ensures { result ≡ fits_file files.now roots.now file }
 {
-    if is_in_some(roots, file) {
-        return true;
-    }
+    keeps_root(files, roots, file) || is_in_some(roots, file)
+}
+
+// Whether a file has a source root already that is there or is given.
+fn keeps_root(files: &Files, roots: &[SourceRoot], file: FileId) -> bool
+    ensures { result ≡ keeps_root files.now roots.now file }
+{
     if !files.has_file_root(file) {
         return false;
     }

@@ -123,7 +123,7 @@ impl FileChange {
         Ok(ids)
     }
 
-    // Makes the change but for the crates, the graph of which is given back.
+    // Makes the change except for the crates, and returns their graph.
     fn make<D: SourceDatabase>(
         self,
         alloc: Global,
@@ -169,7 +169,7 @@ fn set_crates<D: SourceDatabase>(
 impl TryClone for FileChange {
     fn try_clone(&self, alloc: Global) -> Result<Self, AllocError> {
         let roots = self.roots.try_clone(alloc)?;
-        let files_changed = copied_files(alloc, self.files_changed.as_slice())?;
+        let files_changed = self.files_changed.try_clone(alloc)?;
         let crate_graph = self.crate_graph.try_clone(alloc)?;
         Ok(FileChange {
             alloc,
@@ -180,22 +180,7 @@ impl TryClone for FileChange {
     }
 }
 
-// The files that changed, each with its new text.
-fn copied_files(
-    alloc: Global,
-    files_changed: &[(FileId, Option<Text>)],
-) -> Result<Items<(FileId, Option<Text>)>, AllocError>
-    ensures { IfOk result (λ copies. copies ≡ files_changed.now) }
-{
-    let mut copies = Vec::new(alloc);
-    for (file_id, new_text) in files_changed {
-        let copy = new_text.try_clone(alloc)?;
-        copies.push((*file_id, copy))?;
-    }
-    Ok(Items::new(copies))
-}
-
-// Puts a file with its new text behind the others.
+// Appends a file with its new text.
 fn push_change(
     changed: &mut Vec<(FileId, Option<Text>)>,
     file_id: FileId,

@@ -2,9 +2,8 @@
 
 ghost use Rattle.std.specs.Prelude.{◌≡◌};
 
-use crate::boxed::Boxed;
 use crate::durability::Durability;
-use base_text::{CfgOptions, FileId, TryClone};
+use base_text::{Boxed, CfgOptions, FileId, TryClone};
 use crate_graph::{CrateData, CrateWorkspaceData, Dependency, Env, ExtraCrateData, Shared};
 use std::alloc::{AllocError, Global};
 use std::marker::Model;
@@ -51,7 +50,7 @@ impl TryClone for Crate {
 /// A crate of a database that another one names.
 pub type BuiltDependency = Dependency<Crate>;
 
-/// What tells a crate of a database apart from others of its root file.
+/// What distinguishes a crate of a database from others of its root file.
 pub type BuiltCrateData = CrateData<Crate>;
 
 /// What a database holds of a crate.
@@ -84,7 +83,7 @@ impl TryClone for CrateInput {
     }
 }
 
-/// What tells a crate from all others, at every time: its root file alone, or with it its data and
+/// What distinguishes a crate from all others, at every time: its root file alone, or with it its data and
 /// its conditional compilation. These are equal, ordered and hashed by what they hold.
 #[derive(Debug, Drop, PartialEq, Eq, PartialOrd, Ord, Hash)]
 pub struct UniqueCrateData {
@@ -95,15 +94,7 @@ pub struct UniqueCrateData {
 
 impl TryClone for UniqueCrateData {
     fn try_clone(&self, alloc: Global) -> Result<Self, AllocError> {
-        let disambiguator = match &self.disambiguator {
-            None => None,
-            Some(apart) => {
-                let (data, cfg_options) = apart.get();
-                let data = data.try_clone(alloc)?;
-                let cfg_options = cfg_options.try_clone(alloc)?;
-                Some(Boxed::new(alloc, (data, cfg_options))?)
-            }
-        };
+        let disambiguator = self.disambiguator.try_clone(alloc)?;
         Ok(UniqueCrateData {
             root_file_id: self.root_file_id,
             disambiguator,

@@ -1,15 +1,14 @@
 //! The table of all crates that a database was ever given: each identity has one crate, for good.
 
-ghost use Rattle.std.specs.Prelude.{◌≡◌, ◌↔◌, ◌<◌, ◌^◌, [], true, IfOk, IsTrue, OnErr, OnOk, Some, length, map};
-ghost use Rattle.std.specs.Cmp.{IsEquivalence};
+ghost use Rattle.std.specs.Prelude.{◌≡◌, ◌↔◌, ◌<◌, ◌^◌, [], IfOk, IsTrue, OnErr, OnOk, Some, length, map};
 ghost use Rattle.std.specs.List.{All, IsDistinct};
 ghost use Rattle.std.specs.Option.{option_copied};
 ghost use Rattle.graph_base.specs.Edges.{row};
-ghost use Rattle.input_db.specs.Identity.{IsTable, PutsCrate, crate_edges, crate_for, crate_in, input_in, input_under};
+ghost use Rattle.input_db.specs.Identity.{HasCleanIdentity, HasCleanInput, IsTable, PutsCrate, crate_edges, crate_for, crate_in, input_in, input_under};
 ghost use Rattle.input_db.specs.Identity.{named_in, names_of, unique_eq, uniques_in, with_entry};
 
 use crate::crate_input::{BuiltDependency, Crate, CrateInput, UniqueCrateData};
-use base_text::TryClone;
+use base_text::{TryClone, copy_entries};
 use graph_base::Graph;
 use indexmap::IndexMap;
 use std::alloc::{AllocError, Global};
@@ -45,7 +44,8 @@ impl CratesMap {
     }
 
     /// How many crates there are. No two have equal identities, and an identity names older crates
-    /// alone.
+    /// alone. The paths in identities and inputs are clean: so equal ones hold the same, by the laws of
+    /// `laws`.
     pub fn len(&self) -> usize
         ensures length { result ≡ length self.now }
         ensures distinct { IsDistinct unique_eq (uniques_in self.now) }
@@ -107,13 +107,25 @@ impl CratesMap {
         ensures alone { IfOk result (PutsCrate self.old self.new unique input) }
         ensures err { OnErr result (self.new ≡ self.old) }
     {
-        equality_owes::<UniqueCrateData>();
+        have_clean_paths(&unique, &input);
         if self.entries.len() >= GREATEST_LENGTH && self.get(&unique).is_none() {
             return Err(AllocError);
         }
         let (place, old) = self.entries.insert_full(unique, input)?;
         drop(old);
         Ok(Crate::at(place))
+    }
+}
+
+// The paths in an identity and in an input are clean, as every path is. It does nothing: a path's type
+// gives this fact only to code that reads the path's text.
+fn have_clean_paths(unique: &UniqueCrateData, input: &CrateInput)
+    ensures identity { HasCleanIdentity unique.now }
+    ensures input { HasCleanInput input.now }
+{
+    input.crate_data.proc_macro_cwd.as_str();
+    if let Some(pair) = &unique.disambiguator {
+        pair.get().0.proc_macro_cwd.as_str();
     }
 }
 
@@ -131,36 +143,11 @@ impl CratesMap {
     }
 }
 
-/// What the equality of any type owes.
-pub(crate) fn equality_owes<T: Eq>()
-    ensures same { (x : T) → T.eq x x ≡ true }
-    ensures back { (x y : T) → T.eq x y ≡ true → T.eq y x ≡ true }
-    ensures along { (x y z : T) → T.eq x y ≡ true → T.eq y z ≡ true → T.eq x z ≡ true }
-    ensures laws { IsEquivalence T.eq }
-{}
-
 impl TryClone for CratesMap {
     fn try_clone(&self, alloc: Global) -> Result<Self, AllocError> {
-        let entries = copied_entries(alloc, &self.entries)?;
+        let entries = copy_entries(alloc, &self.entries)?;
         Ok(CratesMap { entries })
     }
-}
-
-// Each identity with what is held of its crate, in the same order.
-fn copied_entries(
-    alloc: Global,
-    entries: &IndexMap<UniqueCrateData, CrateInput>,
-) -> Result<IndexMap<UniqueCrateData, CrateInput>, AllocError>
-    ensures { IfOk result (λ copy. copy.entries ≡ entries.now.entries) }
-{
-    equality_owes::<UniqueCrateData>();
-    let mut copy = IndexMap::new(alloc);
-    for (unique, input) in entries.iter() {
-        let key = unique.try_clone(alloc)?;
-        let value = input.try_clone(alloc)?;
-        drop(copy.insert(key, value)?);
-    }
-    Ok(copy)
 }
 
 // A search goes over crates by their numbers.

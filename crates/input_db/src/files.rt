@@ -6,11 +6,10 @@ ghost use Rattle.input_db.specs.Files.{no_files, root_of, text_of};
 ghost use Rattle.input_db.specs.Files.{stored_place, stored_root, stored_text};
 ghost use Rattle.input_db.specs.Files.{with_file_root, with_root, with_same_durability, with_text};
 
-use crate::by_number::ByNumber;
 use crate::durability::Durability;
 use crate::inputs::{FileSourceRootInput, FileText, SourceRootInput};
 use crate::source_root::{SourceRoot, SourceRootId};
-use base_text::{FileId, Text, TryClone};
+use base_text::{ByNumber, FileId, Text, TryClone};
 use std::alloc::{AllocError, Global};
 use std::marker::Model;
 
@@ -67,7 +66,7 @@ impl Files {
         self.file_roots.get(id.index()).is_some()
     }
 
-    /// The text of a file that has one: `has_text` tells.
+    /// The text of a file that has one, as `has_text` reports.
     pub fn file_text(&self, id: FileId) -> &FileText
         requires { IsSome (text_of self.now id) }
         ensures { text_of self.now id ≡ Some result.now }
@@ -75,7 +74,7 @@ impl Files {
         self.texts.get(id.index()).unwrap()
     }
 
-    /// A source root that is there: `has_root` tells.
+    /// A source root that is there, as `has_root` reports.
     pub fn source_root(&self, id: SourceRootId) -> &SourceRootInput
         requires { IsSome (root_of self.now id) }
         ensures { root_of self.now id ≡ Some result.now }
@@ -83,7 +82,7 @@ impl Files {
         self.roots.get(id.0).unwrap()
     }
 
-    /// The source root of a file that has one: `has_file_root` tells.
+    /// The source root of a file that has one, as `has_file_root` reports.
     pub fn file_source_root(&self, id: FileId) -> &FileSourceRootInput
         requires { IsSome (file_root_of self.now id) }
         ensures { file_root_of self.now id ≡ Some result.now }
@@ -122,7 +121,7 @@ impl Files {
             file_id: id,
             durability,
         };
-        self.texts.insert(id.index(), stored)?;
+        drop(self.texts.insert(id.index(), stored)?);
         Ok(())
     }
 
@@ -141,7 +140,7 @@ impl Files {
             source_root: root,
             durability,
         };
-        self.roots.insert(id.0, input)?;
+        drop(self.roots.insert(id.0, input)?);
         Ok(())
     }
 
@@ -160,7 +159,7 @@ impl Files {
             source_root_id: root,
             durability,
         };
-        self.file_roots.insert(id.index(), input)?;
+        drop(self.file_roots.insert(id.index(), input)?);
         Ok(())
     }
 }

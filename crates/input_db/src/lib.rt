@@ -3,8 +3,6 @@
 #![tactic(auto)]
 
 mod applying;
-pub mod boxed;
-mod by_number;
 pub mod change;
 pub mod crate_input;
 pub mod crates_map;
@@ -13,16 +11,15 @@ pub mod editioned_file_id;
 pub mod files;
 pub mod input_db;
 pub mod inputs;
+pub mod laws;
 pub mod lowering;
 pub mod nonce;
 pub mod queries;
 pub mod roots;
 pub mod source_database;
 pub mod source_root;
-#[cfg(test)]
-mod tests;
 
-pub use boxed::Boxed;
+pub use base_text::Boxed;
 pub use change::FileChange;
 pub use crate_input::{BuiltCrateData, BuiltDependency, Crate, CrateInput, UniqueCrateData};
 pub use crates_map::CratesMap;

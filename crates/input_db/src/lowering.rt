@@ -7,19 +7,19 @@ ghost use Rattle.base_text.specs.Arena.{number_of};
 ghost use Rattle.graph_base.specs.Finish.{IsBehindTargets};
 ghost use Rattle.crate_graph.specs.Graph.{edges, target_of};
 ghost use Rattle.input_db.specs.Identity.{named_in};
-ghost use Rattle.input_db.specs.Lowered.{Id, data_of, finish_crate, lowered, new_of, with_given};
-ghost use Rattle.input_db.specs.Lowering.{IsSetInDb};
+ghost use Rattle.input_db.specs.Identity.{Id, data_of, number_in};
+ghost use Rattle.input_db.specs.FinishSteps.{IsSetInSteps, finish_crate, progress_after, with_new_list};
+ghost use Rattle.input_db.specs.SetInDb.{IsSetInDb};
 
 mod finished;
 mod renamed;
 
-use crate::crate_input::{Crate, UniqueCrateData};
-use crate::crates_map::equality_owes;
+use crate::crate_input::Crate;
 use crate::durability::Durability;
-use crate::lowering::finished::Finished;
+use crate::lowering::finished::FinishedCrates;
 use crate::lowering::renamed::{input_of, unique_of};
 use crate::source_database::SourceDatabase;
-use crate_graph::{CrateBuilder, CrateBuilderId, CrateGraphBuilder, CrateTag};
+use crate_graph::{CrateBuilder, CrateBuilderId, CrateGraphBuilder};
 use std::alloc::{AllocError, Global};
 use std::collections::BTreeMap;
 
@@ -27,24 +27,25 @@ use std::collections::BTreeMap;
 pub type CratesIdMap = BTreeMap<CrateBuilderId, Crate>;
 
 /// Sets the crates of a graph in a database. They are finished depth first in the order of their numbers,
-/// each after its dependencies. The first of a root file is told by that alone, and each further one by
-/// its data, with dependencies as the database numbers them, and its conditional compilation. What is
-/// told alike is one crate, and holds what was finished last, with a durability of `Medium`. The list of
-/// crates is stored where it differs. Where memory is wanted the database is safe, and no more is said.
+/// each after its dependencies. The first of a root file is identified by that file alone, and each further
+/// one by its data, with dependencies as the database numbers them, and its conditional compilation. Crates
+/// of one identity are one crate, which holds what was finished last, with a durability of `Medium`. The
+/// list of crates is stored where it differs. When out of memory the database is safe, and no more is said.
 pub fn set_in_db<D: SourceDatabase>(
     alloc: Global,
     graph: CrateGraphBuilder,
     db: &mut D,
 ) -> Result<CratesIdMap, AllocError>
-    ensures { IfOk result (IsSetInDb ⟦<CrateBuilderId as Ord>⟧.cmp graph.crates
+    ensures set { IfOk result (IsSetInDb ⟦<CrateBuilderId as Ord>⟧.cmp graph.crates
+        (D.seen db.old) (D.seen db.new)) }
+    ensures steps { IfOk result (IsSetInSteps ⟦<CrateBuilderId as Ord>⟧.cmp graph.crates
         (D.seen db.old) (D.seen db.new)) }
 {
-    equality_owes::<UniqueCrateData>();
     let order = graph_base::finish_order(alloc, &graph)?;
     let finished = finish_all(alloc, &graph, &order, db)?;
-    let ids = ids_of_news(alloc, finished.news())?;
+    let ids = ids_of_numbers(alloc, finished.numbers())?;
     let given = finished.given(alloc)?;
-    list(db, given);
+    store_list(db, given);
     db.crates_map().len();
     Ok(ids)
 }
@@ -55,19 +56,19 @@ fn finish<D: SourceDatabase>(
     krate: &CrateBuilder,
     number: u32,
     db: &mut D,
-    finished: &mut Finished,
+    finished: &mut FinishedCrates,
 ) -> Result<(), AllocError>
-    requires number { number < length finished.old.news }
-    requires targets { All (λ dep. target_of dep < length finished.old.news)
+    requires number { number < length finished.old.numbers }
+    requires targets { All (λ dep. target_of dep < length finished.old.numbers)
         krate.now.basic.dependencies }
     requires known { All (λ named. named < length (D.seen db.old).crates)
-        (named_in (data_of (new_of finished.old.news) krate.now)) }
+        (named_in (data_of (number_in finished.old.numbers) krate.now)) }
     ensures { OnOk result (record { db = D.seen db.new; finished = finished.new }
         ≡ finish_crate (record { db = D.seen db.old; finished = finished.old }) number krate.now) }
 {
     let file = krate.basic.root_file_id;
-    let input = input_of(alloc, finished.news(), krate)?;
-    let unique = unique_of(alloc, finished.is_new(file), &input)?;
+    let input = input_of(alloc, finished.numbers(), krate)?;
+    let unique = unique_of(alloc, finished.is_first_of_root(file), &input)?;
     let given = db.put_crate(unique, input)?;
     finished.note(number, file, given)
 }
@@ -78,12 +79,12 @@ fn finish_all<D: SourceDatabase>(
     graph: &CrateGraphBuilder,
     order: &[u32],
     db: &mut D,
-) -> Result<Finished, AllocError>
+) -> Result<FinishedCrates, AllocError>
     requires { IsBehindTargets (edges graph.now.crates) order.now }
     ensures { IfOk result (λ finished. record { db = D.seen db.new; finished = finished }
-        ≡ lowered graph.now.crates (D.seen db.old) order.now) }
+        ≡ progress_after graph.now.crates (D.seen db.old) order.now) }
 {
-    let mut finished = Finished::new(alloc, graph.len())?;
+    let mut finished = FinishedCrates::new(alloc, graph.len())?;
     for number in order {
         let krate = &graph[CrateBuilderId::from_raw(*number)];
         finish(alloc, krate, *number, db, &mut finished)?;
@@ -92,9 +93,9 @@ fn finish_all<D: SourceDatabase>(
 }
 
 // Stores the list of crates where it differs.
-fn list<D: SourceDatabase>(db: &mut D, given: Vec<Crate>)
+fn store_list<D: SourceDatabase>(db: &mut D, given: Vec<Crate>)
     requires { All (λ krate. krate < length (D.seen db.old).crates) given.items }
-    ensures { D.seen db.new ≡ with_given (D.seen db.old) given.items }
+    ensures { D.seen db.new ≡ with_new_list (D.seen db.old) given.items }
 {
     if *db.all_crates_list() != *given.as_slice() {
         db.store_all_crates(given, Durability::Medium);
@@ -102,14 +103,13 @@ fn list<D: SourceDatabase>(db: &mut D, given: Vec<Crate>)
 }
 
 // The numbers in the database as a map.
-fn ids_of_news(alloc: Global, news: &[Crate]) -> Result<CratesIdMap, AllocError>
-    requires { length news.now < 2 ^ 32 }
+fn ids_of_numbers(alloc: Global, numbers: &[Crate]) -> Result<CratesIdMap, AllocError>
+    requires { length numbers.now < 2 ^ 32 }
     ensures { IfOk result (λ ids. (id : Id)
-        → tree.get ⟦<CrateBuilderId as Ord>⟧.cmp ids id ≡ slice_get news.now (number_of id)) }
+        → tree.get ⟦<CrateBuilderId as Ord>⟧.cmp ids id ≡ slice_get numbers.now (number_of id)) }
 {
-    base_text::arena::numbers_compare_as_numbers::<CrateTag>();
     let mut ids = BTreeMap::new(alloc);
-    for (number, new) in news.iter().enumerate() {
+    for (number, new) in numbers.iter().enumerate() {
         let id = CrateBuilderId::from_raw(number as u32);
         drop(ids.insert(id, *new)?);
     }

@@ -1,8 +1,8 @@
-//! What tells one database from another.
+//! What distinguishes one database from another.
 
 ghost use Rattle.std.specs.Prelude.{◌≡◌, ◌-◌, ◌^◌};
-ghost use Rattle.base_text.specs.Causes.{raised};
-ghost use Rattle.base_text.specs.Nonce.{given};
+ghost use Rattle.outside.specs.Causes.{raised};
+ghost use Rattle.outside.specs.Nonce.{given};
 
 use base_text::{NonceSource, TryClone};
 use std::alloc::{AllocError, Global};

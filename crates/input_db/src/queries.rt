@@ -17,7 +17,8 @@ use base_text::CfgOptions;
 use crate_graph::{CrateWorkspaceData, Env, ExtraCrateData};
 use std::alloc::{AllocError, Global};
 
-/// The crates that there are now, each after those that it depends on.
+/// The crates that there are now, in the order in which they were stored. `set_in_db` stores each after
+/// those that it depends on.
 pub fn all_crates<D: SourceDatabase>(db: &D) -> &[Crate]
     ensures list { result.now ≡ (D.seen db.now).listed }
     ensures known { All (λ krate. krate < length (D.seen db.now).crates) (D.seen db.now).listed }
@@ -25,7 +26,7 @@ pub fn all_crates<D: SourceDatabase>(db: &D) -> &[Crate]
     db.all_crates_list()
 }
 
-/// Says which crates there are now. Each of them is there already: `has_crate` tells.
+/// Says which crates there are now. Each of them is there already, as `has_crate` reports.
 pub fn set_all_crates_with_durability<D: SourceDatabase>(
     db: &mut D,
     crates: Vec<Crate>,
@@ -37,7 +38,7 @@ pub fn set_all_crates_with_durability<D: SourceDatabase>(
     db.store_all_crates(crates, durability);
 }
 
-// Each getter asks that the crate is there: `has_crate` of the database tells.
+// Each getter asks that the crate is there, as `has_crate` of the database reports.
 impl Crate {
     pub fn data<D: SourceDatabase>(self, db: &D) -> &BuiltCrateData
         requires { self < length (D.seen db.now).crates }
@@ -91,8 +92,8 @@ impl Crate {
         EditionedFileId::new(data.root_file_id, data.edition)
     }
 
-    /// The crates that a crate reaches over dependencies: itself first, then the others by their
-    /// numbers.
+    /// The crates that a crate reaches over dependencies: itself first, then the others in no promised
+    /// order.
     pub fn transitive_deps<D: SourceDatabase>(
         self,
         alloc: Global,
@@ -104,7 +105,7 @@ impl Crate {
         ensures once { IfOk result (λ crates. IsWithItselfFirst self crates.items) }
     {
         let table = db.crates_map();
-        let reached = graph_base::reached(alloc, table, table.number(self))?;
+        let reached = graph_base::reachable_nodes(alloc, table, table.number(self))?;
         itself_first(alloc, self, &reached)
     }
 }

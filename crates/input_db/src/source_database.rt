@@ -2,7 +2,7 @@
 
 ghost use Rattle.std.specs.Prelude.{◌≡◌, ◌↔◌, ◌<◌, IfOk, IsSome, IsTrue, OnErr, OnOk, Some, length};
 ghost use Rattle.std.specs.List.{All};
-ghost use Rattle.input_db.specs.Database.{Database, with_crate, with_crate_list, with_files, with_lists};
+ghost use Rattle.input_db.specs.Database.{Database, with_crate_input, with_crate_list, with_files, with_lists};
 ghost use Rattle.input_db.specs.Files.{SetsFileRoot, SetsRoot, SetsText, kept_durability, stored_place};
 ghost use Rattle.input_db.specs.Files.{stored_root, stored_text};
 ghost use Rattle.input_db.specs.Files.{file_root_of, resolved_from, root_of, root_of_file, text_of};
@@ -29,17 +29,17 @@ pub trait SourceDatabase {
     fn files(&self) -> &Files
         ensures { result.now ≡ (seen self.now).files };
 
-    /// The text of a file that has one: `has_text` of `files` tells.
+    /// The text of a file that has one, as `has_text` of `files` reports.
     fn file_text(&self, id: FileId) -> &FileText
         requires { IsSome (text_of (seen self.now).files id) }
         ensures { text_of (seen self.now).files id ≡ Some result.now };
 
-    /// A source root that is there: `has_root` of `files` tells.
+    /// A source root that is there, as `has_root` of `files` reports.
     fn source_root(&self, id: SourceRootId) -> &SourceRootInput
         requires { IsSome (root_of (seen self.now).files id) }
         ensures { root_of (seen self.now).files id ≡ Some result.now };
 
-    /// The source root of a file that has one: `has_file_root` of `files` tells.
+    /// The source root of a file that has one, as `has_file_root` of `files` reports.
     fn file_source_root(&self, id: FileId) -> &FileSourceRootInput
         requires { IsSome (file_root_of (seen self.now).files id) }
         ensures { file_root_of (seen self.now).files id ≡ Some result.now };
@@ -119,30 +119,31 @@ pub trait SourceDatabase {
     fn has_crate(&self, krate: Crate) -> bool
         ensures { IsTrue result ↔ (krate < length (seen self.now).crates) };
 
-    /// What is held of a crate that is there: `has_crate` tells.
+    /// What is held of a crate that is there, as `has_crate` reports.
     fn crate_input(&self, krate: Crate) -> &CrateInput
         requires { krate < length (seen self.now).crates }
         ensures { input_in (seen self.now).crates krate ≡ Some result.now };
 
     /// Gives the crate of an identity an input, in place of the one that it had. An identity that has no
     /// crate is given one, greater than all before. Each crate that the identity or the input names is
-    /// there already: `has_crate` tells.
+    /// there already, as `has_crate` reports.
     fn put_crate(&mut self, unique: UniqueCrateData, input: CrateInput) -> Result<Crate, AllocError>
         requires identity { All (λ named. named < length (seen self.old).crates) (names_of unique) }
         requires input { All (λ named. named < length (seen self.old).crates)
             (named_in input.crate_data) }
         ensures answer { IfOk result (λ krate. krate ≡ crate_for (seen self.old).crates unique) }
-        ensures ok { OnOk result (seen self.new ≡ with_crate (seen self.old) unique input) }
+        ensures ok { OnOk result (seen self.new ≡ with_crate_input (seen self.old) unique input) }
         ensures alone { IfOk result (PutsCrate (seen self.old).crates (seen self.new).crates
             unique input) }
         ensures err { OnErr result (seen self.new ≡ seen self.old) };
 
-    /// The crates that there are now, each after those that it depends on.
+    /// The crates that there are now, in the order in which they were stored. `set_in_db` stores each after
+    /// those that it depends on.
     fn all_crates_list(&self) -> &[Crate]
         ensures list { result.now ≡ (seen self.now).listed }
         ensures known { All (λ krate. krate < length (seen self.now).crates) (seen self.now).listed };
 
-    /// Says which crates there are now. Each of them is there already: `has_crate` tells.
+    /// Says which crates there are now. Each of them is there already, as `has_crate` reports.
     fn store_all_crates(&mut self, crates: Vec<Crate>, durability: Durability)
         requires { All (λ krate. krate < length (seen self.old).crates) crates.items }
         ensures { seen self.new ≡ with_crate_list (seen self.old) crates.items durability };

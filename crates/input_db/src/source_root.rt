@@ -3,7 +3,7 @@
 ghost use Rattle.std.specs.Prelude.{◌≡◌, IfOk};
 ghost use Rattle.std.specs.Map.Iter.{ShowsInOrder};
 ghost use Rattle.std.specs.Option.{option_copied};
-ghost use Rattle.vfs_sets.specs.FileSet.{file_at, number_shown, path_of, resolved};
+ghost use Rattle.vfs_sets.specs.FileSet.{file_at, number_shown, path_of, resolved_file};
 ghost use Rattle.input_db.specs.SourceRoot.{files_in, has_file, library_root, local_root, root_durability};
 ghost use Rattle.input_db.specs.SourceRoot.{set_of_root, text_durability};
 
@@ -76,7 +76,7 @@ impl SourceRoot {
         path: AnchoredPath<'_>,
     ) -> Result<Option<FileId>, AllocError>
         ensures { IfOk result (λ file. file
-            ≡ resolved (set_of_root self.now) path.entry.anchor path.entry.path.now) }
+            ≡ resolved_file (set_of_root self.now) path.entry.anchor path.entry.path.now) }
     {
         let (anchor, path) = (path.anchor, path.path);
         self.file_set

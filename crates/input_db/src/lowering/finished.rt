@@ -1,7 +1,7 @@
 //! The crates of a graph that are finished.
 
 ghost use Rattle.std.specs.Prelude.{◌≡◌, ◌<◌, IfOk, OnOk, length};
-ghost use Rattle.input_db.specs.Lowered.{is_new, none_finished, noted};
+ghost use Rattle.input_db.specs.FinishSteps.{is_first_of_root, none_finished, with_finished};
 
 use crate::crate_input::Crate;
 use base_text::FileId;
@@ -11,57 +11,57 @@ use std::marker::Model;
 
 /// The crates of a graph that are finished, with their numbers in the database.
 #[derive(Drop)]
-pub(super) struct Finished {
-    news: Vec<Crate>,
+pub(super) struct FinishedCrates {
+    numbers: Vec<Crate>,
     roots: IndexSet<FileId>,
     given: IndexSet<Crate>,
 }
 
-impl Model for Finished {
-    ghost use Rattle.input_db.specs.Lowered as seen;
+impl Model for FinishedCrates {
+    ghost use Rattle.input_db.specs.FinishSteps as seen;
 
-    ghost Value = { seen.Finished };
+    ghost Value = { seen.FinishedCrates };
 
     ghost view = { λ a. record {
-      news = a.news.items;
+      numbers = a.numbers.items;
       roots = a.roots.keys;
       given = a.given.keys;
     } };
 }
 
-impl Finished {
+impl FinishedCrates {
     // None of so many crates is finished.
     pub(super) fn new(alloc: Global, count: usize) -> Result<Self, AllocError>
         ensures { IfOk result (λ finished. finished ≡ none_finished count) }
     {
-        let news = vec![in alloc; Crate::at(0); count]?;
-        Ok(Finished {
-            news,
+        let numbers = vec![in alloc; Crate::at(0); count]?;
+        Ok(FinishedCrates {
+            numbers,
             roots: IndexSet::new(alloc),
             given: IndexSet::new(alloc),
         })
     }
 
     // Of each crate, its number in the database.
-    pub(super) fn news(&self) -> &[Crate]
-        ensures { result.now ≡ self.now.news }
+    pub(super) fn numbers(&self) -> &[Crate]
+        ensures { result.now ≡ self.now.numbers }
     {
-        &self.news
+        &self.numbers
     }
 
     // Whether no crate of the root file is finished.
-    pub(super) fn is_new(&self, file: FileId) -> bool
-        ensures { result ≡ is_new self.now.roots file }
+    pub(super) fn is_first_of_root(&self, file: FileId) -> bool
+        ensures { result ≡ is_first_of_root self.now.roots file }
     {
         !self.roots.contains(&file)
     }
 
     // A crate is finished.
     pub(super) fn note(&mut self, number: u32, file: FileId, given: Crate) -> Result<(), AllocError>
-        requires { number < length self.old.news }
-        ensures { OnOk result (self.new ≡ noted self.old number file given) }
+        requires { number < length self.old.numbers }
+        ensures { OnOk result (self.new ≡ with_finished self.old number file given) }
     {
-        self.news[number as usize] = given;
+        self.numbers[number as usize] = given;
         self.roots.insert(file)?;
         self.given.insert(given)?;
         Ok(())

@@ -5,41 +5,40 @@ ghost use Rattle.std.specs.List.{All};
 ghost use Rattle.base_text.specs.Arena.{number_of};
 ghost use Rattle.crate_graph.specs.Graph.{target_of};
 ghost use Rattle.crate_graph.specs.Laws.{renamed_dependency};
-ghost use Rattle.input_db.specs.Lowered.{apart, data_of, input_of, new_of, plain};
+ghost use Rattle.input_db.specs.Identity.{full_identity, data_of, input_of, number_in, root_identity};
 
-use crate::boxed::Boxed;
 use crate::crate_input::{BuiltCrateData, BuiltDependency, Crate, CrateInput, UniqueCrateData};
 use crate::durability::Durability;
-use base_text::{Items, TryClone};
+use base_text::{Boxed, Items, TryClone};
 use crate_graph::{CrateBuilder, DependencyBuilder};
 use std::alloc::{AllocError, Global};
 
 // A dependency by its number in the database.
 fn renamed_dependency(
     alloc: Global,
-    news: &[Crate],
+    numbers: &[Crate],
     dep: &DependencyBuilder,
 ) -> Result<BuiltDependency, AllocError>
-    requires { target_of dep.now < length news.now }
-    ensures { IfOk result (λ new. new ≡ renamed_dependency (new_of news.now) dep.now) }
+    requires { target_of dep.now < length numbers.now }
+    ensures { IfOk result (λ new. new ≡ renamed_dependency (number_in numbers.now) dep.now) }
 {
     let name = dep.name.try_clone(alloc)?;
-    let krate = news[dep.crate_id.into_raw() as usize];
+    let krate = numbers[dep.crate_id.into_raw() as usize];
     Ok(BuiltDependency::with_prelude(name, krate, dep.is_prelude(), dep.is_sysroot()))
 }
 
 // Dependencies by their numbers in the database.
 fn renamed_dependencies(
     alloc: Global,
-    news: &[Crate],
+    numbers: &[Crate],
     deps: &[DependencyBuilder],
 ) -> Result<Items<BuiltDependency>, AllocError>
-    requires { All (λ dep. target_of dep < length news.now) deps.now }
-    ensures { IfOk result (λ new. new ≡ map (renamed_dependency (new_of news.now)) deps.now) }
+    requires { All (λ dep. target_of dep < length numbers.now) deps.now }
+    ensures { IfOk result (λ new. new ≡ map (renamed_dependency (number_in numbers.now)) deps.now) }
 {
     let mut renamed = Vec::with_capacity(alloc, deps.len())?;
     for dep in deps {
-        renamed.push(renamed_dependency(alloc, news, dep)?)?;
+        renamed.push(renamed_dependency(alloc, numbers, dep)?)?;
     }
     Ok(Items::new(renamed))
 }
@@ -47,14 +46,14 @@ fn renamed_dependencies(
 // The data of a crate, with dependencies by their numbers in the database.
 fn data_of(
     alloc: Global,
-    news: &[Crate],
+    numbers: &[Crate],
     krate: &CrateBuilder,
 ) -> Result<BuiltCrateData, AllocError>
-    requires { All (λ dep. target_of dep < length news.now) krate.now.basic.dependencies }
-    ensures { IfOk result (λ made. made ≡ data_of (new_of news.now) krate.now) }
+    requires { All (λ dep. target_of dep < length numbers.now) krate.now.basic.dependencies }
+    ensures { IfOk result (λ made. made ≡ data_of (number_in numbers.now) krate.now) }
 {
     let basic = &krate.basic;
-    let dependencies = renamed_dependencies(alloc, news, basic.dependencies.as_slice())?;
+    let dependencies = renamed_dependencies(alloc, numbers, basic.dependencies.as_slice())?;
     let origin = basic.origin.try_clone(alloc)?;
     let crate_attrs = basic.crate_attrs.try_clone(alloc)?;
     let proc_macro_cwd = basic.proc_macro_cwd.try_clone(alloc)?;
@@ -72,13 +71,13 @@ fn data_of(
 // What the database is to hold of a crate of the graph.
 pub(super) fn input_of(
     alloc: Global,
-    news: &[Crate],
+    numbers: &[Crate],
     krate: &CrateBuilder,
 ) -> Result<CrateInput, AllocError>
-    requires { All (λ dep. target_of dep < length news.now) krate.now.basic.dependencies }
-    ensures { IfOk result (λ input. input ≡ input_of (new_of news.now) krate.now) }
+    requires { All (λ dep. target_of dep < length numbers.now) krate.now.basic.dependencies }
+    ensures { IfOk result (λ input. input ≡ input_of (number_in numbers.now) krate.now) }
 {
-    let crate_data = data_of(alloc, news, krate)?;
+    let crate_data = data_of(alloc, numbers, krate)?;
     let extra_data = krate.extra.try_clone(alloc)?;
     let workspace_data = krate.shared_ws_data().try_clone(alloc)?;
     let cfg_options = krate.cfg_options.try_clone(alloc)?;
@@ -99,8 +98,8 @@ pub(super) fn unique_of(
     is_first: bool,
     input: &CrateInput,
 ) -> Result<UniqueCrateData, AllocError>
-    ensures { IfOk result (λ unique. unique ≡ (if is_first then plain input.now.crate_data.root_file_id
-        else apart input.now.crate_data.root_file_id input.now.crate_data input.now.cfg_options)) }
+    ensures { IfOk result (λ unique. unique ≡ (if is_first then root_identity input.now.crate_data.root_file_id
+        else full_identity input.now.crate_data.root_file_id input.now.crate_data input.now.cfg_options)) }
 {
     let root_file_id = input.crate_data.root_file_id;
     if is_first {
@@ -111,9 +110,9 @@ pub(super) fn unique_of(
     }
     let data = input.crate_data.try_clone(alloc)?;
     let cfg_options = input.cfg_options.try_clone(alloc)?;
-    let apart = Boxed::new(alloc, (data, cfg_options))?;
+    let pair = Boxed::new(alloc, (data, cfg_options))?;
     Ok(UniqueCrateData {
         root_file_id,
-        disambiguator: Some(apart),
+        disambiguator: Some(pair),
     })
 }

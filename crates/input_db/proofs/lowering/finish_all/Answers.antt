@@ -6,9 +6,11 @@ use Rattle.std.proofs.lemmas.List.Elements.{Contains-get_or}
 use Rattle.std.proofs.lemmas.List.{take_all}
 use Rattle.std.proofs.lemmas.Option.{slice_get-get_or}
 use Rattle.input_db.specs.Identity.{named_in}
-use Rattle.input_db.specs.Lowered.{Finished, Lowered, data_of, finish_crate, lowered, new_of, none_finished}
-use Rattle.input_db.specs.Lowering.{crate_at}
-use Rattle.input_db.proofs.Edges.{length-edges, targets_within}
+use Rattle.input_db.specs.Identity.{data_of, number_in}
+use Rattle.input_db.specs.FinishSteps.{FinishedCrates, Progress, finish_crate, progress_after, none_finished}
+use Rattle.input_db.specs.SetInDb.{crate_at}
+use Rattle.crate_graph.proofs.ExtendLemmas.{targets_within}
+use Rattle.crate_graph.proofs.GraphLemmas.{length-edges}
 use Rattle.input_db.proofs.KnownLemmas.{known}
 use Rattle.input_db.proofs.Run.{before}
 use Rattle.input_db.proofs.RunLemmas.{before_more, finish-at, long}
@@ -17,7 +19,7 @@ use Rattle.input_db.proofs.lowering.finish_all.Goals as goal
 
 pub loop-number-init : goal.loop-number-init
 loop-number-init g c =
-    ap (λ (f : Finished). record { db = g.D.SourceDatabase.seen c.args.db.now; finished = f })
+    ap (λ (f : FinishedCrates). record { db = g.D.SourceDatabase.seen c.args.db.now; finished = f })
     (c.in_ok-finished.ensures ∙ ap none_finished c.len.ensures.length)
 
 pub index-krate-requires : goal.index-krate-requires
@@ -28,8 +30,8 @@ index-krate-requires g c =
     omega (arith, fits, length-edges c.args.graph.now.crates, c.from_raw.ensures)
 
 -- there is a number for each crate
-news-long : (g : Over) (c : goal.After-finished-in-loop-number-1 g) → length c.loop-number.finished.news ≡ length c.args.graph.now.crates
-news-long g c = ap (λ (l : Lowered). length l.finished.news) c.loop-number.invariant
+numbers-long : (g : Over) (c : goal.After-finished-in-loop-number-1 g) → length c.loop-number.finished.numbers ≡ length c.args.graph.now.crates
+numbers-long g c = ap (λ (l : Progress). length l.finished.numbers) c.loop-number.invariant
     ∙ long c.args.graph.now.crates (g.D.SourceDatabase.seen c.args.db.now) c.args.order.now c.loop-number.number-index
 
 -- the crate is that of its number
@@ -50,15 +52,15 @@ finish-requires-clause-number g c =
     let within : c.loop-number.number-index < length c.args.order.now = omega (arith, c.loop-number-test.true) in
     let fits = (c.requires.all (get_or c.args.order.now c.loop-number.number-index 0)).0
     (Contains-get_or c.args.order.now c.loop-number.number-index 0 within) in
-    omega (arith, fits, length-edges c.args.graph.now.crates, news-long g c)
+    omega (arith, fits, length-edges c.args.graph.now.crates, numbers-long g c)
 
 pub finish-requires-clause-targets : goal.finish-requires-clause-targets
 finish-requires-clause-targets g c =
-    targets_within c.args.graph.now.crates _ c.index-krate.result.now _ c.len.ensures.well_made.in_range (news-long g c) (crate-is g c)
+    targets_within c.args.graph.now.crates _ c.index-krate.result.now _ c.len.ensures.well_made.in_range (numbers-long g c) (crate-is g c)
 
 pub finish-requires-clause-known : goal.finish-requires-clause-known
 finish-requires-clause-known g c =
-    subst (λ (l : Lowered). All (λ named. named < length l.db.crates) (named_in (data_of (new_of l.finished.news) c.index-krate.result.now)))
+    subst (λ (l : Progress). All (λ named. named < length l.db.crates) (named_in (data_of (number_in l.finished.numbers) c.index-krate.result.now)))
     (sym c.loop-number.invariant)
     (known c.args.graph.now.crates (g.D.SourceDatabase.seen c.args.db.now) c.args.order.now c.requires c.loop-number.number-index
     c.index-krate.result.now (crate-at g c))
@@ -74,7 +76,7 @@ loop-number-preserved g c =
     ap (slice_get crates) (sym c.from_raw.ensures) ∙ c.index-krate.ensures in
     let next : k + 1 ≡ suc k = omega arith in
     c.in_ok-finish.ensures
-    ∙ ap (λ (l : Lowered). finish_crate l n c.index-krate.result.now) c.loop-number.invariant
+    ∙ ap (λ (l : Progress). finish_crate l n c.index-krate.result.now) c.loop-number.invariant
     ∙ sym (finish-at crates (before crates old c.args.order.now k) n c.index-krate.result.now at)
     ∙ sym (before_more crates old c.args.order.now k within)
     ∙ ap (before crates old c.args.order.now) (sym next)
@@ -84,5 +86,5 @@ returns g c =
     let all : c.loop-number.number-index ≡ length c.args.order.now = omega (arith, c.loop-number-test.false, c.loop-number.auto.number-index-end) in
     let past : length c.args.order.now ≤ c.loop-number.number-index = omega (arith, all) in
     c.loop-number.invariant
-    ∙ ap (λ ns. lowered c.args.graph.now.crates (g.D.SourceDatabase.seen c.args.db.now) ns)
+    ∙ ap (λ ns. progress_after c.args.graph.now.crates (g.D.SourceDatabase.seen c.args.db.now) ns)
     (take_all c.loop-number.number-index c.args.order.now past)

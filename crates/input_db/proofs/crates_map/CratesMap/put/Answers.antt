@@ -2,6 +2,7 @@ use Rattle.std.proofs.Common.{◌≡◌, ◌<◌, ◌^◌, ◌⊎◌, ℕ, inl, 
 use Rattle.std.specs.List.{All}
 use Rattle.indexmap.proofs.MapLemmas.{some_index}
 use Rattle.input_db.specs.Identity.{IsTable, PutsCrate, Table, crate_for, crate_in, named_in, names_of, unique_eq, with_entry}
+use Rattle.input_db.proofs.Equality.{unique_itself}
 use Rattle.input_db.proofs.PutLemmas.{puts}
 use Rattle.input_db.proofs.TableLemmas.{few_after, table_after}
 use Rattle.input_db.proofs.crates_map.CratesMap.put.Goals.{else-len-ge-GREATEST_LENGTH-via-then-len-ge-GREATEST_LENGTH+else-is_none}
@@ -27,7 +28,8 @@ invariant_of-self-2 c =
     let few = few_after (length old) (length c.insert_full.new.self.entries) _ c.in_ok-place.ensures.len c.self.invariant.few room in
     let entries = c.in_ok-place.ensures.entries in
     subst IsTable (sym entries)
-    (table_after old unique input c.self.invariant identity named (subst (λ (t : Table). length t < 2 ^ 32) entries few))
+    (table_after old unique input c.self.invariant identity named c.have_clean_paths.ensures.identity
+    c.have_clean_paths.ensures.input (subst (λ (t : Table). length t < 2 ^ 32) entries few))
 
 pub returns-clause-alone : goal.returns-clause-alone
 returns-clause-alone c =
@@ -40,4 +42,4 @@ returns-clause-alone c =
     c.at.ensures ∙ c.in_ok-place.ensures.index ∙ ap (λ (t : Table). crate_for t unique) c.self.view_is in
     subst (λ (t : Table). PutsCrate old t unique input c.at.result) (sym table)
     (subst (PutsCrate old (with_entry old unique input) unique input) (sym place)
-    (puts old unique input (c.equality_owes.ensures.same unique)))
+    (puts old unique input (unique_itself unique)))

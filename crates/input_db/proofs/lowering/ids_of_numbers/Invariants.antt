@@ -4,9 +4,9 @@ use Rattle.std.specs.Prelude.{slice_get}
 use Rattle.base_text.specs.Arena.{number_of}
 use Rattle.base_text.specs.contracts.arena.IdxOrd.TheImpl as numbers
 use Rattle.crate_graph.specs.contracts.crate_data.CrateTag.{the_row}
-use Rattle.input_db.specs.Lowered.{Id}
-use Rattle.input_db.proofs.lowering.ids_of_news.Given as goal
+use Rattle.input_db.specs.Identity.{Id}
+use Rattle.input_db.proofs.lowering.ids_of_numbers.Given as goal
 
 abbrev pub invariant-loop-number : goal.invariant-loop-number
 invariant-loop-number l = (id : Id)
-    → tree.get (numbers.ghosts the_row).cmp l.ids id ≡ slice_get (take l.number l.news) (number_of id)
+    → tree.get (numbers.ghosts the_row).cmp l.ids id ≡ slice_get (take l.number l.numbers) (number_of id)

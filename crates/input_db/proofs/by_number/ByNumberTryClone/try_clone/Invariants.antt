@@ -1,5 +1,0 @@
-use Rattle.input_db.proofs.Copies.{IsCopiedUpTo}
-use Rattle.input_db.proofs.by_number.ByNumberTryClone.try_clone.Given as goal
-
-abbrev pub invariant-loop-number : goal.invariant-loop-number
-invariant-loop-number g l = IsCopiedUpTo l.self l.copy l.number-iterator
