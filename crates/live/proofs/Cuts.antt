@@ -21,12 +21,12 @@ front-final p [] = refl
 front-final p (q ∷ ps) = ap (λ l. p ∷ l) (front-final q ps)
 
 -- the first piece, and the pieces behind it
-record Parts (ps : List (List ℕ)) : Type 0 where
-  first : List ℕ
-  others : List (List ℕ)
-  is : ps ≡ first ∷ others
+pub record Parts (ps : List (List ℕ)) : Type 0 where
+  pub first : List ℕ
+  pub others : List (List ℕ)
+  pub is : ps ≡ first ∷ others
 
-parts_of : (p : ℕ → Bool) (bs : List ℕ) → Parts (slice_split p bs)
+pub parts_of : (p : ℕ → Bool) (bs : List ℕ) → Parts (slice_split p bs)
 parts_of p [] = record { first = []; others = []; is = refl }
 parts_of p (b ∷ bs) =
     let r = parts_of p bs in

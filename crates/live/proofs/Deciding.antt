@@ -2,7 +2,7 @@
 use Rattle.std.proofs.Common.{◌≡◌, ℕ, ◌+◌, ◌-◌, ◌<◌, ◌≤◌, true, false, List, ◌++◌, Option, Some, length, take, nat_le, refl, sym, ap, subst, ◌∙◌, append_assoc, length-append, length-take, length-drop, drop, take-append-drop, arith, unwrap_or}
 use Rattle.std.proofs.lemmas.Bool.Decides.{nat_tests}
 use Rattle.std.proofs.Math.Seq.{take-append-add, take-append_seam}
-use Rattle.base_text.specs.declared.limits.Limit.TheVariants.{Bytes}
+use Rattle.outside.specs.declared.limits.Limit.TheVariants.{Bytes}
 use Rattle.live.specs.declared.session.Live.{Live}
 use Rattle.live.specs.declared.fault.LiveError.{LiveError}
 use Rattle.live.specs.declared.fault.LiveError.TheVariants.{TooMany}
@@ -11,7 +11,20 @@ use Rattle.live.specs.Run.{Ran, Stops}
 use Rattle.live.specs.Session.{State, Outcome, refused_by, session, turns}
 use Rattle.live.specs.Written.{AppendsFront}
 use Rattle.live.proofs.Outcomes.{turns-refused, pages-append, AppendsFront-all, AppendsFront-longer}
-use Rattle.live.proofs.Feeding.{Stops-more, Front-more}
+use Rattle.live.proofs.Cuts.{whole_lines-append}
+
+-- bytes behind a refusal change nothing
+pub Stops-more : (s : State) (fed rest : List ℕ) (error : LiveError) (live : Live) (old new : Option (List ℕ)) → Stops (turns s (whole_lines fed)) error live (old, new)
+    → Stops (turns s (whole_lines (fed ++ rest))) error live (old, new)
+Stops-more s fed rest error live old new stops =
+    let more = whole_lines-append fed rest in
+    subst (λ o. Stops o error live (old, new)) (sym (ap (turns s) more.is ∙ turns-refused s (whole_lines fed) more.more error stops.refused)) stops
+
+-- more bytes only add pages
+pub Front-more : (s : State) (fed rest : List ℕ) (old new : Option (List ℕ)) → AppendsFront (old, new) (turns s (whole_lines fed)).pages → AppendsFront (old, new) (turns s (whole_lines (fed ++ rest))).pages
+Front-more s fed rest old new front =
+    let more = whole_lines-append fed rest in
+    subst (λ ls. AppendsFront (old, new) (turns s ls).pages) (sym more.is) (AppendsFront-longer old new _ _ (pages-append s (whole_lines fed) more.more) front)
 
 -- bytes within the limit are taken whole
 pub session-within : (s : State) (bytes : List ℕ) → length bytes ≤ s.config.limits.bytes → session s bytes ≡ turns s (script_lines bytes)
@@ -31,7 +44,7 @@ taken-front fed rest limit h =
     ap (λ n. take n (fed ++ rest)) whole ∙ take-append-add fed rest (limit - length fed)
 
 -- what was refused stays refused behind all lines
-Stops-refused_by : (o : Outcome) (error late : LiveError) (live : Live) (old new : Option (List ℕ)) → Stops o error live old new → Stops (refused_by o late) error live old new
+Stops-refused_by : (o : Outcome) (error late : LiveError) (live : Live) (old new : Option (List ℕ)) → Stops o error live (old, new) → Stops (refused_by o late) error live (old, new)
 Stops-refused_by o error late live old new stops = record {
   refused = ap (λ (r : Option LiveError). Some (unwrap_or r late)) stops.refused;
   holds = stops.holds;
@@ -40,101 +53,59 @@ Stops-refused_by o error late live old new stops = record {
 
 module _ (s : State) (fed rest : List ℕ) (live : Live) (old new : Option (List ℕ)) (small : length fed ≤ s.config.limits.bytes) where
   -- a refusal within the limit decides the session
-  pub Stops-session : (error : LiveError) → Stops (turns s (whole_lines fed)) error live old new → Stops (session s (fed ++ rest)) error live old new
+  pub Stops-session : (error : LiveError) → Stops (turns s (whole_lines fed)) error live (old, new) → Stops (session s (fed ++ rest)) error live (old, new)
   unfolding script_lines
   Stops-session error stops =
-      elim (nat_le (length (fed ++ rest)) s.config.limits.bytes) as (λ v. nat_le (length (fed ++ rest)) s.config.limits.bytes ≡ v → Stops (session s (fed ++ rest)) error live old new) [
+      elim (nat_le (length (fed ++ rest)) s.config.limits.bytes) as (λ v. nat_le (length (fed ++ rest)) s.config.limits.bytes ≡ v → Stops (session s (fed ++ rest)) error live (old, new)) [
         | true ↦ λ e.
             let more = Stops-more s fed rest error live old new stops in
             let fits : length (fed ++ rest) ≤ s.config.limits.bytes = grind (arith, nat_tests) in
             let last = turns-refused s (whole_lines (fed ++ rest)) (last_line (unfinished (fed ++ rest))) error more.refused in
-            subst (λ o. Stops o error live old new) (sym (session-within s (fed ++ rest) fits ∙ last)) more
+            subst (λ o. Stops o error live (old, new)) (sym (session-within s (fed ++ rest) fits ∙ last)) more
         | false ↦ λ e.
             let more = Stops-more s fed (take (s.config.limits.bytes - length fed) rest) error live old new stops in
             let beyond : s.config.limits.bytes < length (fed ++ rest) = grind (arith, nat_tests) in
             let front = taken-front fed rest s.config.limits.bytes small in
-            subst (λ o. Stops o error live old new) (sym (session-beyond s (fed ++ rest) beyond ∙ ap (λ bs. refused_by (turns s (whole_lines bs)) (TooMany Bytes)) front))
+            subst (λ o. Stops o error live (old, new)) (sym (session-beyond s (fed ++ rest) beyond ∙ ap (λ bs. refused_by (turns s (whole_lines bs)) (TooMany Bytes)) front))
             (Stops-refused_by _ error (TooMany Bytes) live old new more)
       ] refl
 
   -- a front within the limit is one of the session
-  pub Front-session : AppendsFront old new (turns s (whole_lines fed)).pages → AppendsFront old new (session s (fed ++ rest)).pages
+  pub Front-session : AppendsFront (old, new) (turns s (whole_lines fed)).pages → AppendsFront (old, new) (session s (fed ++ rest)).pages
   unfolding script_lines
   Front-session front =
-      elim (nat_le (length (fed ++ rest)) s.config.limits.bytes) as (λ v. nat_le (length (fed ++ rest)) s.config.limits.bytes ≡ v → AppendsFront old new (session s (fed ++ rest)).pages) [
+      elim (nat_le (length (fed ++ rest)) s.config.limits.bytes) as (λ v. nat_le (length (fed ++ rest)) s.config.limits.bytes ≡ v → AppendsFront (old, new) (session s (fed ++ rest)).pages) [
         | true ↦ λ e.
             let more = Front-more s fed rest old new front in
             let fits : length (fed ++ rest) ≤ s.config.limits.bytes = grind (arith, nat_tests) in
             let last = pages-append s (whole_lines (fed ++ rest)) (last_line (unfinished (fed ++ rest))) in
-            subst (λ (o : Outcome). AppendsFront old new o.pages) (sym (session-within s (fed ++ rest) fits)) (AppendsFront-longer old new _ _ last more)
+            subst (λ (o : Outcome). AppendsFront (old, new) o.pages) (sym (session-within s (fed ++ rest) fits)) (AppendsFront-longer old new _ _ last more)
         | false ↦ λ e.
             let more = Front-more s fed (take (s.config.limits.bytes - length fed) rest) old new front in
             let beyond : s.config.limits.bytes < length (fed ++ rest) = grind (arith, nat_tests) in
             let taken = taken-front fed rest s.config.limits.bytes small in
-            subst (λ (o : Outcome). AppendsFront old new o.pages) (sym (session-beyond s (fed ++ rest) beyond ∙ ap (λ bs. refused_by (turns s (whole_lines bs)) (TooMany Bytes)) taken)) more
+            subst (λ (o : Outcome). AppendsFront (old, new) o.pages) (sym (session-beyond s (fed ++ rest) beyond ∙ ap (λ bs. refused_by (turns s (whole_lines bs)) (TooMany Bytes)) taken)) more
       ] refl
 
 -- bytes past the limit refuse a session whose lines within it were all taken
-pub Stops-limit : (s : State) (fed rest : List ℕ) (live : Live) (old new : Option (List ℕ)) → length fed ≡ s.config.limits.bytes → 0 < length rest → Ran (turns s (whole_lines fed)) live old new
-    → Stops (session s (fed ++ rest)) (TooMany Bytes) live old new
+pub Stops-limit : (s : State) (fed rest : List ℕ) (live : Live) (old new : Option (List ℕ)) → length fed ≡ s.config.limits.bytes → 0 < length rest → Ran (turns s (whole_lines fed)) live (old, new)
+    → Stops (session s (fed ++ rest)) (TooMany Bytes) live (old, new)
 Stops-limit s fed rest live old new full some ran =
     let beyond : s.config.limits.bytes < length (fed ++ rest) = omega (arith, length-append fed rest) in
     let front : take s.config.limits.bytes (fed ++ rest) ≡ fed = ap (λ n. take n (fed ++ rest)) (sym full) ∙ take-append_seam fed rest in
-    subst (λ o. Stops o (TooMany Bytes) live old new) (sym (session-beyond s (fed ++ rest) beyond ∙ ap (λ bs. refused_by (turns s (whole_lines bs)) (TooMany Bytes)) front)) (record {
+    subst (λ o. Stops o (TooMany Bytes) live (old, new)) (sym (session-beyond s (fed ++ rest) beyond ∙ ap (λ bs. refused_by (turns s (whole_lines bs)) (TooMany Bytes)) front)) (record {
       refused = ap (λ (r : Option LiveError). Some (unwrap_or r (TooMany Bytes))) ran.accepted;
       holds = ran.holds;
       appended = ran.appended;
     })
 
--- bytes cut inside a piece
-seam : (fed piece rest : List ℕ) (room : ℕ) → fed ++ (piece ++ rest) ≡ (fed ++ take room piece) ++ (drop room piece ++ rest)
-seam fed piece rest room =
-    ap (λ p. fed ++ (p ++ rest)) (sym (take-append-drop room piece)) ∙ ap (λ l. fed ++ l) (append_assoc (take room piece) (drop room piece) rest) ∙ sym (append_assoc fed (take room piece) (drop room piece ++ rest))
-
-module _ (s : State) (fed piece rest : List ℕ) (room : ℕ) (live : Live) (old new : Option (List ℕ)) (full : length fed + room ≡ s.config.limits.bytes) where
-  cut_length : room < length piece → length (fed ++ take room piece) ≡ s.config.limits.bytes
-  cut_length past = omega (arith, length-append fed (take room piece), length-take room piece)
-
-  -- a piece that goes past the limit, of which the lines within it were taken
-  pub Stops-past : room < length piece → Ran (turns s (whole_lines (fed ++ take room piece))) live old new → Stops (session s (fed ++ (piece ++ rest))) (TooMany Bytes) live old new
-  Stops-past past ran =
-      let some : 0 < length (drop room piece ++ rest) = omega (arith, length-append (drop room piece) rest, length-drop room piece) in
-      subst (λ bs. Stops (session s bs) (TooMany Bytes) live old new) (sym (seam fed piece rest room)) (Stops-limit s (fed ++ take room piece) (drop room piece ++ rest) live old new (cut_length past) some ran)
-
-  pub Front-past : room < length piece → Ran (turns s (whole_lines (fed ++ take room piece))) live old new → AppendsFront old new (session s (fed ++ (piece ++ rest))).pages
-  Front-past past ran =
-      let small : length (fed ++ take room piece) ≤ s.config.limits.bytes = omega (arith, cut_length past) in
-      subst (λ bs. AppendsFront old new (session s bs).pages) (sym (seam fed piece rest room)) (Front-session s (fed ++ take room piece) (drop room piece ++ rest) live old new small (AppendsFront-all old new _ ran.appended))
-
-  -- and one of which a line was refused
-  pub Stops-cut : (error : LiveError) → room < length piece → Stops (turns s (whole_lines (fed ++ take room piece))) error live old new → Stops (session s (fed ++ (piece ++ rest))) error live old new
-  Stops-cut error past stops =
-      let small : length (fed ++ take room piece) ≤ s.config.limits.bytes = omega (arith, cut_length past) in
-      subst (λ bs. Stops (session s bs) error live old new) (sym (seam fed piece rest room)) (Stops-session s (fed ++ take room piece) (drop room piece ++ rest) live old new small error stops)
-
-  pub Front-cut : room < length piece → AppendsFront old new (turns s (whole_lines (fed ++ take room piece))).pages → AppendsFront old new (session s (fed ++ (piece ++ rest))).pages
-  Front-cut past front =
-      let small : length (fed ++ take room piece) ≤ s.config.limits.bytes = omega (arith, cut_length past) in
-      subst (λ bs. AppendsFront old new (session s bs).pages) (sym (seam fed piece rest room)) (Front-session s (fed ++ take room piece) (drop room piece ++ rest) live old new small front)
-
-  -- a piece within the limit
-  pub Stops-whole : (error : LiveError) → length piece ≤ room → Stops (turns s (whole_lines (fed ++ piece))) error live old new → Stops (session s (fed ++ (piece ++ rest))) error live old new
-  Stops-whole error within stops =
-      let small : length (fed ++ piece) ≤ s.config.limits.bytes = omega (arith, length-append fed piece) in
-      subst (λ bs. Stops (session s bs) error live old new) (append_assoc fed piece rest) (Stops-session s (fed ++ piece) rest live old new small error stops)
-
-  pub Front-whole : length piece ≤ room → AppendsFront old new (turns s (whole_lines (fed ++ piece))).pages → AppendsFront old new (session s (fed ++ (piece ++ rest))).pages
-  Front-whole within front =
-      let small : length (fed ++ piece) ≤ s.config.limits.bytes = omega (arith, length-append fed piece) in
-      subst (λ bs. AppendsFront old new (session s bs).pages) (append_assoc fed piece rest) (Front-session s (fed ++ piece) rest live old new small front)
-
 -- the lines of bytes within the limit are the session's
-pub Ran-within : (s : State) (bytes : List ℕ) (live : Live) (old new : Option (List ℕ)) → length bytes ≤ s.config.limits.bytes → Ran (turns s (script_lines bytes)) live old new → Ran (session s bytes) live old new
-Ran-within s bytes live old new small ran = subst (λ o. Ran o live old new) (sym (session-within s bytes small)) ran
+pub Ran-within : (s : State) (bytes : List ℕ) (live : Live) (old new : Option (List ℕ)) → length bytes ≤ s.config.limits.bytes → Ran (turns s (script_lines bytes)) live (old, new) → Ran (session s bytes) live (old, new)
+Ran-within s bytes live old new small ran = subst (λ o. Ran o live (old, new)) (sym (session-within s bytes small)) ran
 
-pub Stops-within : (s : State) (bytes : List ℕ) (error : LiveError) (live : Live) (old new : Option (List ℕ)) → length bytes ≤ s.config.limits.bytes → Stops (turns s (script_lines bytes)) error live old new
-    → Stops (session s bytes) error live old new
-Stops-within s bytes error live old new small stops = subst (λ o. Stops o error live old new) (sym (session-within s bytes small)) stops
+pub Stops-within : (s : State) (bytes : List ℕ) (error : LiveError) (live : Live) (old new : Option (List ℕ)) → length bytes ≤ s.config.limits.bytes → Stops (turns s (script_lines bytes)) error live (old, new)
+    → Stops (session s bytes) error live (old, new)
+Stops-within s bytes error live old new small stops = subst (λ o. Stops o error live (old, new)) (sym (session-within s bytes small)) stops
 
-pub Front-within : (s : State) (bytes : List ℕ) (old new : Option (List ℕ)) → length bytes ≤ s.config.limits.bytes → AppendsFront old new (turns s (script_lines bytes)).pages → AppendsFront old new (session s bytes).pages
-Front-within s bytes old new small front = subst (λ (o : Outcome). AppendsFront old new o.pages) (sym (session-within s bytes small)) front
+pub Front-within : (s : State) (bytes : List ℕ) (old new : Option (List ℕ)) → length bytes ≤ s.config.limits.bytes → AppendsFront (old, new) (turns s (script_lines bytes)).pages → AppendsFront (old, new) (session s bytes).pages
+Front-within s bytes old new small front = subst (λ (o : Outcome). AppendsFront (old, new) o.pages) (sym (session-within s bytes small)) front

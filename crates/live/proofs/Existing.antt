@@ -13,16 +13,16 @@ use Rattle.vfs_core.specs.declared.file_state.FileState.{FileState}
 use Rattle.vfs_core.specs.declared.file_state.FileState.TheVariants.{Deleted, Excluded}
 use Rattle.vfs_core.specs.declared.marks.Mark.{Mark}
 use Rattle.vfs_core.specs.FileState.{is_existing, state_of}
-use Rattle.vfs_core.specs.Files.{Files, Follows, existing, existing_from, state_told}
-use Rattle.vfs_core.specs.Marks.{is_out, kept_text, live_files, live_text, mentioned}
-use Rattle.vfs_core.specs.VfsPath.{Place, place_eq}
+use Rattle.vfs_core.specs.Files.{Files, Follows, existing_files, existing_files_from, state_by_marks}
+use Rattle.vfs_core.specs.Marks.{is_out, kept_text, live_files, live_text, mentioned_paths}
+use Rattle.vfs_core.specs.VfsPath.{PathContent, vfs_path_eq}
 
 -- the live files among some places, by the text that counts for each
-abbrev live_of : (Place → Option (List ℕ)) → List Place → List (Place × List ℕ)
+abbrev live_of : (PathContent → Option (List ℕ)) → List PathContent → List (PathContent × List ℕ)
 live_of text_of places = filter_map (λ place. option_map (λ text. (place, text)) (text_of place)) places
 
 -- an entry exists where a text counts for it
-abbrev IsTold : (Place → Option (List ℕ)) → Place × FileState → Type 0
+abbrev IsTold : (PathContent → Option (List ℕ)) → PathContent × FileState → Type 0
 IsTold text_of entry = is_existing entry.1 ≡ is_some (text_of entry.0)
 
 -- a file exists where it has a text that counts and is not left out
@@ -32,85 +32,85 @@ told-split true text = refl
 told-split false None = refl
 told-split false (Some text) = refl
 
-existing-told : (marks : List Mark) (place : Place)
-    → is_existing (state_told marks place) ≡ is_some (live_text marks place)
+existing_files-told : (marks : List Mark) (place : PathContent)
+    → is_existing (state_by_marks marks place) ≡ is_some (live_text marks place)
 unfolding live_text
-existing-told marks place = told-split (is_out marks place) (kept_text marks place)
+existing_files-told marks place = told-split (is_out marks place) (kept_text marks place)
 
 -- equality of places is an equivalence
-place_equiv : IsEquivalence place_eq
-place_equiv = and_equiv (on_equiv (λ p. p.is_virtual) bool_eq_equiv) (on_equiv (λ p. p.text) nat_list_eq_equiv)
+vfs_path_equiv : IsEquivalence vfs_path_eq
+vfs_path_equiv = and_equiv (on_equiv (λ p. p.is_virtual) bool_eq_equiv) (on_equiv (λ p. p.text) nat_list_eq_equiv)
 
 -- places with one more: the same by whether it is new
-distinct-split : (place : Place) (places : List Place) (is_known : Bool)
-    → list_any (place_eq place) places ≡ is_known → IsDistinct place_eq places
-    → IsDistinct place_eq (if is_known then places else places ++ place ∷ [])
+distinct-split : (place : PathContent) (places : List PathContent) (is_known : Bool)
+    → list_any (vfs_path_eq place) places ≡ is_known → IsDistinct vfs_path_eq places
+    → IsDistinct vfs_path_eq (if is_known then places else places ++ place ∷ [])
 distinct-split place places true known apart = apart
-distinct-split place places false known apart = IsDistinct-push place_equiv places place apart known
+distinct-split place places false known apart = IsDistinct-push vfs_path_equiv places place apart known
 
 -- no place is mentioned twice
-pub mentioned-distinct : (marks : List Mark) → IsDistinct place_eq (mentioned marks)
+pub mentioned_paths-distinct : (marks : List Mark) → IsDistinct vfs_path_eq (mentioned_paths marks)
 unfolding IsDistinct
-mentioned-distinct [] = tt
-mentioned-distinct (mark ∷ marks) =
-    distinct-split mark.path (mentioned marks) (list_any (place_eq mark.path) (mentioned marks)) refl
-    (mentioned-distinct marks)
+mentioned_paths-distinct [] = tt
+mentioned_paths-distinct (mark ∷ marks) =
+    distinct-split mark.path (mentioned_paths marks) (list_any (vfs_path_eq mark.path) (mentioned_paths marks)) refl
+    (mentioned_paths-distinct marks)
 
 -- so each entry has the state of its place
 entries_told : (files : Files) (marks : List Mark) → Follows files marks
     → All (IsTold (live_text marks)) files.entries
 entries_told files marks follows = λ k d within.
     let entry = get_or files.entries k d in
-    let apart : IsDistinct place_eq (keys_of files.entries) = rw follows.numbers (mentioned-distinct marks) in
-    let at : lookup (place_eq entry.0) files.entries ≡ Some entry.1 =
-    lookup-from_Contains place_equiv entry.0 entry.1 files.entries apart
+    let apart : IsDistinct vfs_path_eq (keys_of files.entries) = rw follows.numbers (mentioned_paths-distinct marks) in
+    let at : lookup (vfs_path_eq entry.0) files.entries ≡ Some entry.1 =
+    lookup-from_Contains vfs_path_equiv entry.0 entry.1 files.entries apart
     (All-contains_itself files.entries k d within) in
     ap is_existing (sym (ap (λ (s : Option FileState). unwrap_or s Deleted) at) ∙ follows.states entry.0)
-    ∙ existing-told marks entry.0
+    ∙ existing_files-told marks entry.0
 
 -- one more entry: the same by the text that counts for it
-existing-split : (text_of : Place → Option (List ℕ)) (number : ℕ) (place : Place) (state : FileState)
-    (entries : List (Place × FileState)) (text : Option (List ℕ))
+existing_files-split : (text_of : PathContent → Option (List ℕ)) (number : ℕ) (place : PathContent) (state : FileState)
+    (entries : List (PathContent × FileState)) (text : Option (List ℕ))
     → is_existing state ≡ is_some text → text_of place ≡ text
-    → map (λ f. f.1) (existing_from (number + 1) entries) ≡ map (λ f. f.0) (live_of text_of (keys_of entries))
-    → map (λ f. f.1) (existing_from number ((place, state) ∷ entries))
+    → map (λ f. f.1) (existing_files_from (number + 1) entries) ≡ map (λ f. f.0) (live_of text_of (keys_of entries))
+    → map (λ f. f.1) (existing_files_from number ((place, state) ∷ entries))
     ≡ map (λ f. f.0) (live_of text_of (place ∷ keys_of entries))
-existing-split text_of number place state entries None told is more = rw (told, is) more
-existing-split text_of number place state entries (Some text) told is more =
+existing_files-split text_of number place state entries None told is more = rw (told, is) more
+existing_files-split text_of number place state entries (Some text) told is more =
     rw (told, is) (ap (λ places. place ∷ places) more)
 
 -- what exists among entries that have the states of their places
-existing-live : (text_of : Place → Option (List ℕ)) (number : ℕ) (entries : List (Place × FileState))
+existing_files-live : (text_of : PathContent → Option (List ℕ)) (number : ℕ) (entries : List (PathContent × FileState))
     → All (IsTold text_of) entries
-    → map (λ f. f.1) (existing_from number entries) ≡ map (λ f. f.0) (live_of text_of (keys_of entries))
-existing-live text_of number [] told = refl
-existing-live text_of number (entry ∷ entries) told =
-    existing-split text_of number entry.0 entry.1 entries (text_of entry.0) (told 0 entry (omega arith)) refl
-    (existing-live text_of (number + 1) entries (All-tail (IsTold text_of) entry entries told))
+    → map (λ f. f.1) (existing_files_from number entries) ≡ map (λ f. f.0) (live_of text_of (keys_of entries))
+existing_files-live text_of number [] told = refl
+existing_files-live text_of number (entry ∷ entries) told =
+    existing_files-split text_of number entry.0 entry.1 entries (text_of entry.0) (told 0 entry (omega arith)) refl
+    (existing_files-live text_of (number + 1) entries (All-tail (IsTold text_of) entry entries told))
 
 -- the places of the files that exist are the live places
-pub existing-Follows : (files : Files) (marks : List Mark) → Follows files marks
-    → map (λ f. f.1) (existing files) ≡ map (λ f. f.0) (live_files marks)
-existing-Follows files marks follows =
-    existing-live (live_text marks) 0 files.entries (entries_told files marks follows)
+pub existing_files-Follows : (files : Files) (marks : List Mark) → Follows files marks
+    → map (λ f. f.1) (existing_files files) ≡ map (λ f. f.0) (live_files marks)
+existing_files-Follows files marks follows =
+    existing_files-live (live_text marks) 0 files.entries (entries_told files marks follows)
     ∙ ap (λ places. map (λ f. f.0) (live_of (live_text marks) places)) follows.numbers
 
 -- a live file among entries that are numbered from here on: the same by whether the first lives
-files-split : {B : Type 0} (made : ℕ × Place → B) (of : Place × List ℕ → B) (text_of : Place → Option (List ℕ)) (number : ℕ) (place : Place)
-    (state : FileState) (entries : List (Place × FileState)) (text : Option (List ℕ))
+files-split : {B : Type 0} (made : ℕ × PathContent → B) (of : PathContent × List ℕ → B) (text_of : PathContent → Option (List ℕ)) (number : ℕ) (place : PathContent)
+    (state : FileState) (entries : List (PathContent × FileState)) (text : Option (List ℕ))
     → is_existing state ≡ is_some text → text_of place ≡ text
     → ((t : List ℕ) → text_of place ≡ Some t → made (number, place) ≡ of (place, t))
-    → map made (existing_from (number + 1) entries) ≡ map of (live_of text_of (keys_of entries))
-    → map made (existing_from number ((place, state) ∷ entries)) ≡ map of (live_of text_of (place ∷ keys_of entries))
+    → map made (existing_files_from (number + 1) entries) ≡ map of (live_of text_of (keys_of entries))
+    → map made (existing_files_from number ((place, state) ∷ entries)) ≡ map of (live_of text_of (place ∷ keys_of entries))
 files-split made of text_of number place state entries None told is agree more = rw (told, is) more
 files-split made of text_of number place state entries (Some text) told is agree more =
-    rw (told, is) (ap (λ b. b ∷ map made (existing_from (number + 1) entries)) (agree text is) ∙ ap (λ l. of (place, text) ∷ l) more)
+    rw (told, is) (ap (λ b. b ∷ map made (existing_files_from (number + 1) entries)) (agree text is) ∙ ap (λ l. of (place, text) ∷ l) more)
 
-files-live : {B : Type 0} (made : ℕ × Place → B) (of : Place × List ℕ → B) (text_of : Place → Option (List ℕ)) (number : ℕ)
-    (entries : List (Place × FileState)) → All (IsTold text_of) entries
-    → ((k : ℕ) (entry : Place × FileState) (t : List ℕ) → slice_get entries k ≡ Some entry → text_of entry.0 ≡ Some t
+files-live : {B : Type 0} (made : ℕ × PathContent → B) (of : PathContent × List ℕ → B) (text_of : PathContent → Option (List ℕ)) (number : ℕ)
+    (entries : List (PathContent × FileState)) → All (IsTold text_of) entries
+    → ((k : ℕ) (entry : PathContent × FileState) (t : List ℕ) → slice_get entries k ≡ Some entry → text_of entry.0 ≡ Some t
     → made (number + k, entry.0) ≡ of (entry.0, t))
-    → map made (existing_from number entries) ≡ map of (live_of text_of (keys_of entries))
+    → map made (existing_files_from number entries) ≡ map of (live_of text_of (keys_of entries))
 files-live made of text_of number [] told agree = refl
 files-live made of text_of number (entry ∷ entries) told agree =
     files-split made of text_of number entry.0 entry.1 entries (text_of entry.0) (told 0 entry (omega arith)) refl
@@ -119,20 +119,20 @@ files-live made of text_of number (entry ∷ entries) told agree =
     (λ k e t at is. subst (λ n. made (n, e.0) ≡ of (e.0, t)) (omega arith) (agree (suc k) e t at is)))
 
 -- what is made of the files that exist is what is made of those that live, where it agrees on each
-pub files_live : {B : Type 0} (made : ℕ × Place → B) (of : Place × List ℕ → B) (files : Files) (marks : List Mark) → Follows files marks
-    → ((k : ℕ) (entry : Place × FileState) (t : List ℕ) → slice_get files.entries k ≡ Some entry → live_text marks entry.0 ≡ Some t
+pub files_live : {B : Type 0} (made : ℕ × PathContent → B) (of : PathContent × List ℕ → B) (files : Files) (marks : List Mark) → Follows files marks
+    → ((k : ℕ) (entry : PathContent × FileState) (t : List ℕ) → slice_get files.entries k ≡ Some entry → live_text marks entry.0 ≡ Some t
     → made (k, entry.0) ≡ of (entry.0, t))
-    → map made (existing files) ≡ map of (live_files marks)
+    → map made (existing_files files) ≡ map of (live_files marks)
 files_live made of files marks follows agree =
     files-live made of (live_text marks) 0 files.entries (entries_told files marks follows)
     (λ k entry t at is. subst (λ n. made (n, entry.0) ≡ of (entry.0, t)) (omega arith) (agree k entry t at is))
     ∙ ap (λ places. map of (live_of (live_text marks) places)) follows.numbers
 
 -- a file that lives exists
-pub file_told : (files : Files) (marks : List Mark) → Follows files marks → (k : ℕ) (entry : Place × FileState) (t : List ℕ)
+pub file_told : (files : Files) (marks : List Mark) → Follows files marks → (k : ℕ) (entry : PathContent × FileState) (t : List ℕ)
     → slice_get files.entries k ≡ Some entry → live_text marks entry.0 ≡ Some t → is_existing entry.1 ≡ true
 file_told files marks follows k entry t at is =
     let within = slice_get_within files.entries k entry at in
     let same : get_or files.entries k entry ≡ entry = get_or_from_slice_get files.entries k entry entry at in
     let told = entries_told files marks follows k entry within in
-    subst (λ (e : Place × FileState). is_existing e.1 ≡ is_some (live_text marks e.0)) same told ∙ ap is_some is
+    subst (λ (e : PathContent × FileState). is_existing e.1 ≡ is_some (live_text marks e.0)) same told ∙ ap is_some is

@@ -1,118 +1,185 @@
 -- What a session holds after a flush, and what its database shows.
-use Rattle.std.proofs.Common.{◌≡◌, ℕ, false, List, [], ◌∷◌, Option, Some, refl, sym, ◌∙◌, ap, subst, map, nat_eq, slice_get, arith, append-nil}
+use Rattle.std.proofs.Common.{◌≡◌, ℕ, Bool, true, false, List, [], ◌∷◌, Option, Some, refl, sym, ◌∙◌, ap, subst, map, nat_eq, slice_get, arith, append-nil}
 use Rattle.std.specs.List.{filter_map, IsDistinct}
 use Rattle.std.specs.Map.{lookup}
 use Rattle.std.specs.Option.{option_map}
 use Rattle.std.specs.Str.{is_utf8}
 use Rattle.std.specs.Io.KnownBytes.{Appends}
 use Rattle.vfs_core.specs.declared.file_state.FileState.{FileState}
-use Rattle.vfs_core.specs.Files.{Follows, existing, places}
+use Rattle.vfs_core.specs.Files.{Follows, existing_files, paths_of}
 use Rattle.vfs_core.specs.Marks.{live_files, live_text}
 use Rattle.vfs_core.specs.Texts.{BringsTo, all_pass}
-use Rattle.vfs_core.specs.VfsPath.{Place, place_eq}
+use Rattle.vfs_core.specs.VfsPath.{PathContent, vfs_path_eq}
 use Rattle.input_db.specs.Files.{root_of}
 use Rattle.input_db.specs.declared.durability.Durability.TheVariants.{Low}
 use Rattle.input_db.specs.declared.inputs.SourceRootInput.{SourceRootInput}
 use Rattle.live.specs.declared.session.Live.{Live}
-use Rattle.live.specs.declared.event.Event.TheVariants.{Flush}
-use Rattle.live.specs.Image.{RootShape, ShowsShape, file_image, file_shape, files_sorted, image, paths_sorted, root_image, shape}
-use Rattle.live.specs.Page.{live_paths, numbers_listed, page, page_of}
+use Rattle.live.specs.declared.fault.LiveError.{LiveError}
+use Rattle.live.specs.declared.fault.LiveError.TheVariants.{OutOfMemory, Usage, ReadFault, WriteFault, Script, TooMany}
+use Rattle.live.specs.Fault.{IsOneOf, IsRefusal, flush_statuses, status_of}
+use Rattle.live.specs.Image.{RootShape, base_image, base_shape, file_image, file_shape, files_sorted, image, paths_sorted, root_image}
+use Rattle.live.specs.Page.{numbers_listed, page, page_of}
 use Rattle.live.specs.Refresh.{Refreshes}
-use Rattle.live.specs.Session.{State, turn}
-use Rattle.live.specs.Turn.{Holds, TakesTurn, texts_known}
-use Rattle.live.specs.Written.{AppendsFront}
-use Rattle.live.proofs.Existing.{existing-Follows, file_told, files_live, mentioned-distinct}
+use Rattle.live.specs.Session.{State, ended_state, flush_of, flush_turn}
+use Rattle.live.specs.Turn.{EndsTurn, HasEnded, Holds, IsCurrent, ShowsShape, TakesTurn, texts_known}
+use Rattle.live.specs.Written.{AppendsFront, AppendsProperFront}
+use Rattle.live.proofs.Existing.{existing_files-Follows, file_told, files_live, mentioned_paths-distinct}
 use Rattle.live.proofs.Imaged.{IsRefreshed, libraries, listed, locals, page-is, paths-are, place-is, refreshed, root-is, text-is}
 use Rattle.live.proofs.Sets.{existing_found}
+use Rattle.live.proofs.Outcomes.{AppendsFront-nil}
 use Rattle.live.proofs.Slots.{number_is, slot_of}
 
 -- a local root of these paths
-abbrev local_shape : List Place → RootShape
+abbrev local_shape : List PathContent → RootShape
 local_shape paths = record { is_library = false; durability = Low; paths = paths_sorted paths }
 
-module _ (live live' : Live) (r : Refreshes live live') (s : State) (h : Holds live s) where
+module _ (live live' : Live) (r : Refreshes live live') (s : State) (h : Holds live s) (going : s.ended ≡ false) where
+  current : IsCurrent live s
+  current = h.database going
+
   now : IsRefreshed live.files live.db live'.db
   now = refreshed live live' r
 
   -- a file that lives is found among those that exist
-  found : (number : ℕ) (entry : Place × FileState) (text : List ℕ)
+  found : (number : ℕ) (entry : PathContent × FileState) (text : List ℕ)
       → slice_get live.files.entries number ≡ Some entry → live_text s.marks entry.0 ≡ Some text
-      → lookup (nat_eq number) (existing live.files) ≡ Some entry.0
+      → lookup (nat_eq number) (existing_files live.files) ≡ Some entry.0
   found number entry text at lives =
-      existing_found 0 number live.files.entries entry number at (file_told live.files s.marks h.files number entry text at lives) (omega arith)
+      existing_found 0 number live.files.entries entry number at (file_told live.files s.marks h.texts.follows number entry text at lives) (omega arith)
 
   -- its text is in the database
-  text_now : (place : Place) (number : ℕ) (text : List ℕ) (state : FileState)
+  text_now : (place : PathContent) (number : ℕ) (text : List ℕ) (state : FileState)
       → slice_get live.files.entries number ≡ Some (place, state) → live_text s.marks place ≡ Some text
       → texts_known live'.db number ≡ Some text
   text_now place number text state at lives =
-      let distinct : IsDistinct place_eq (places live.files) = subst (IsDistinct place_eq) (sym h.files.numbers) (mentioned-distinct s.marks) in
+      let distinct : IsDistinct vfs_path_eq (paths_of live.files) = subst (IsDistinct vfs_path_eq) (sym h.texts.follows.numbers) (mentioned_paths-distinct s.marks) in
       text-is live.files live.db live'.db now number place text (found number (place, state) text at lives)
-      r.distinct h.texts (h.brings.each place number text (number_is live.files number (place, state) distinct at) lives)
+      r.distinct (current.valid) (current.brings.each place number text (number_is live.files number (place, state) distinct at) lives)
 
-  same-places : places live'.files ≡ places live.files
-  same-places = ap places r.files
-
-  -- what the session holds is the state still
-  pub holds_still : Holds live' s
-  holds_still = record {
-    config = r.config ∙ h.config;
-    limit = ap (λ f. f.limit) r.files ∙ h.limit;
-    files = subst (λ f. Follows f s.marks) (sym r.files) (record { numbers = h.files.numbers; states = h.files.states });
-    brings = subst (λ f. BringsTo f (texts_known live'.db) s.marks) (sym r.files) (record {
-      each = λ place number text has lives.
-          let slot = slot_of live.files place number has in text_now place number text slot.state slot.entry lives;
-    });
-    texts = ap (λ f. all_pass is_utf8 f.batch) r.files;
-    ended = r.ended ∙ h.ended;
-  }
+  same-places : paths_of live'.files ≡ paths_of live.files
+  same-places = ap paths_of r.files
 
   -- the files that exist are shown as those that live
-  files-shown : map (file_image live'.db) (existing live.files) ≡ map file_shape (live_files s.marks)
-  files-shown = files_live (file_image live'.db) file_shape live.files s.marks h.files (λ number entry text at lives. λ i. record {
+  files-shown : map (file_image live'.db) (existing_files live.files) ≡ map file_shape (live_files s.marks)
+  files-shown = files_live (file_image live'.db) file_shape live.files s.marks h.texts.follows (λ number entry text at lives. λ i. record {
     path = entry.0;
     text = text_now entry.0 number text entry.1 at lives i;
     place = place-is live.files live.db live'.db now number entry.0 (found number entry text at lives) i;
   })
 
-  roots-shown : filter_map (λ number. option_map root_image (root_of live'.db.files number)) (numbers_listed live'.db) ≡ (shape s.marks).roots
+  roots-shown : filter_map (λ number. option_map root_image (root_of live'.db.files number)) (numbers_listed live'.db) ≡ (base_shape (flush_of s)).roots
   roots-shown =
-      let paths = paths-are live.files live.db live'.db now (λ p. p) (λ p. p) (λ p. refl) ∙ existing-Follows live.files s.marks h.files in
+      let paths = paths-are live.files live.db live'.db now (λ p. p) (λ p. p) (λ p. refl) ∙ existing_files-Follows live.files s.marks h.texts.follows in
       ap (λ numbers. filter_map (λ number. option_map root_image (root_of live'.db.files number)) numbers) (listed live.files live.db live'.db now)
       ∙ ap (λ (input : Option SourceRootInput). filter_map (λ (number : ℕ). option_map root_image input) (0 ∷ [])) (root-is live.files live.db live'.db now)
-      ∙ ap (λ (p : List Place). local_shape p ∷ []) paths
+      ∙ ap (λ (p : List PathContent). local_shape p ∷ []) paths
 
-  -- and the database shows their shape
-  pub shows_shape : ShowsShape live' s.marks
+  -- the database shows the flush
+  base-shown : base_image live'.db ≡ base_shape (flush_of s)
+  base-shown = λ i. record {
+    local = locals live.files live.db live'.db now i;
+    library = libraries live.files live.db live'.db now i;
+    roots = roots-shown i;
+  }
+
+  -- with its files
+  pub shows_shape : ShowsShape live' s
   shows_shape = record {
-    shows =
-        ap (image live'.db) r.files
-        ∙ (λ i. record {
-          local = locals live.files live.db live'.db now i;
-          library = libraries live.files live.db live'.db now i;
-          roots = roots-shown i;
-          files = files_sorted (files-shown i);
-        });
+    shows = ap (image live'.db) r.files ∙ (λ i. record { base = base-shown i; files = files_sorted (files-shown i) });
+  }
+
+  -- what the session holds is the state after the flush
+  pub holds_flush : Holds live' (record s { flushed = Some (flush_of s) })
+  holds_flush = record {
+    config = r.config ∙ h.config;
+    limit = ap (λ f. f.limit) r.files ∙ h.limit;
+    texts = record {
+      follows = subst (λ f. Follows f s.marks) (sym r.files) (record { numbers = h.texts.follows.numbers; states = h.texts.follows.states });
+      texts = r.texts ∙ h.texts.texts;
+    };
+    ended = r.ended ∙ h.ended;
+    database = λ _. record {
+      brings = subst (λ f. BringsTo f (texts_known live'.db) s.marks) (sym r.files) (record {
+        each = λ place number text has lives.
+            let slot = slot_of live.files place number has in text_now place number text slot.state slot.entry lives;
+      });
+      valid = ap (λ f. all_pass is_utf8 f.batch) r.files;
+      shown = base-shown;
+    };
   }
 
   -- and its page is that of the flush
-  pub page_shown : page_of live'.db ≡ page (live_paths s.marks)
-  page_shown = page-is live.files live.db live'.db now s.marks h.files
+  pub page_shown : page_of live'.db ≡ page (flush_of s)
+  page_shown = page-is live.files live.db live'.db now s.marks h.texts.follows
+
+-- a session that has not ended holds a state that has not
+pub going_of : (live : Live) (s : State) → Holds live s → (HasEnded live → ⊥) → s.ended ≡ false
+going_of live s h going = not-true s.ended (λ e. going (h.ended ∙ e))
+  where
+    not-true : (b : Bool) → (b ≡ true → ⊥) → b ≡ false
+    not-true true h = absurd (h refl)
+    not-true false h = refl
 
 -- a page that was appended is the flush's turn
-pub takes_flush : (live live' : Live) (s : State) (old new : Option (List ℕ)) → Refreshes live live' → Holds live s
-    → Appends old new (page_of live'.db) → TakesTurn (turn s Flush) live' old new
-unfolding turn
-takes_flush live live' s old new r h appended = record {
+pub takes_flush : (live live' : Live) (s : State) (old new : Option (List ℕ)) → Refreshes live live' → Holds live s → (HasEnded live → ⊥)
+    → Appends old new (page_of live'.db) → TakesTurn (flush_turn s) live' (old, new)
+takes_flush live live' s old new r h going appended = record {
   accepted = refl;
-  holds = holds_still live live' r s h;
-  appended = subst (Appends old new) (page_shown live live' r s h ∙ sym (append-nil (page (live_paths s.marks)))) appended;
+  holds = holds_flush live live' r s h (going_of live s h going);
+  appended = subst (Appends old new) (page_shown live live' r s h (going_of live s h going) ∙ sym (append-nil (page (flush_of s)))) appended;
 }
 
--- and a front of it is a front of the turn's pages
-pub writes_flush : (live live' : Live) (s : State) (old new : Option (List ℕ)) → Refreshes live live' → Holds live s
-    → AppendsFront old new (page_of live'.db ∷ []) → AppendsFront old new (turn s Flush).pages
-unfolding turn
-writes_flush live live' s old new r h front = subst (λ p. AppendsFront old new (p ∷ [])) (page_shown live live' r s h) front
+-- a session that has ended holds the state that has, whatever its database is
+pub holds_ended : (live ended : Live) (s : State) → Holds live s → ended.config ≡ live.config → ended.texts ≡ live.texts
+    → ended.files ≡ record live.files { batch = ended.files.batch } → ended.ended ≡ true → Holds ended (ended_state s)
+holds_ended live ended s h config texts files has_ended = record {
+  config = config ∙ h.config;
+  limit = ap (λ f. f.limit) files ∙ h.limit;
+  texts = record {
+    follows = subst (λ f. Follows f s.marks) (sym files) (record { numbers = h.texts.follows.numbers; states = h.texts.follows.states });
+    texts = texts ∙ h.texts.texts;
+  };
+  ended = has_ended;
+  database = λ going. absurd (cc);
+}
 
--- where nothing was written, that is a front too
+-- an error of a flush is no refusal
+pub no_refusal : (error : LiveError) → IsOneOf flush_statuses (status_of error) → IsRefusal error → ⊥
+no_refusal OutOfMemory only refusal = omega arith
+no_refusal Usage only refusal = omega arith
+no_refusal ReadFault only refusal = omega arith
+no_refusal WriteFault only refusal = omega arith
+no_refusal (Script line) only refusal = cc
+no_refusal (TooMany limit) only refusal = cc
+
+-- a page that was not written whole ends the session
+pub writes_flush : (live live' ended : Live) (s : State) (error : LiveError) (old new : Option (List ℕ)) → Refreshes live live' → Holds live s → (HasEnded live → ⊥)
+    → IsOneOf flush_statuses (status_of error) → (error ≡ WriteFault → AppendsProperFront (old, new) (page_of live'.db ∷ []))
+    → AppendsFront (old, new) (page_of live'.db ∷ [])
+    → ended.config ≡ live'.config → ended.texts ≡ live'.texts → ended.files ≡ live'.files → ended.ended ≡ true
+    → EndsTurn (flush_turn s) (ended_state s) error ended (old, new)
+writes_flush live live' ended s error old new r h going only cut front config texts files has_ended =
+    let shown = page_shown live live' r s h (going_of live s h going) in
+    let is : ended.files ≡ record live.files { batch = ended.files.batch } =
+    files ∙ r.files ∙ ap (λ b. record live.files { batch = b }) (sym (ap (λ f. f.batch) (files ∙ r.files))) in
+    record {
+      fails = record {
+        written = subst (λ p. AppendsFront (old, new) (p ∷ [])) shown front;
+        cut = λ e. subst (λ p. AppendsProperFront (old, new) (p ∷ [])) shown (cut e);
+        refused = λ refusal. absurd (no_refusal error only refusal);
+      };
+      holds = holds_ended live ended s h (config ∙ r.config) (texts ∙ r.texts) is has_ended;
+    }
+
+-- and so does want of memory before the page
+pub memory_flush : (live ended : Live) (s : State) (error : LiveError) (held : Option (List ℕ)) → Holds live s → error ≡ OutOfMemory
+    → ended.config ≡ live.config → ended.texts ≡ live.texts → ended.files ≡ record live.files { batch = ended.files.batch } → ended.ended ≡ true
+    → EndsTurn (flush_turn s) (ended_state s) error ended (held, held)
+memory_flush live ended s error held h memory config texts files has_ended = record {
+  fails = record {
+    written = AppendsFront-nil held (flush_turn s).pages;
+    cut = λ e. absurd (cc);
+    refused = λ refusal. absurd (let r : IsRefusal OutOfMemory = subst IsRefusal memory refusal in omega (arith, r));
+  };
+  holds = holds_ended live ended s h config texts files has_ended;
+}

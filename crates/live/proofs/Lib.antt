@@ -1,9 +1,9 @@
-pub mod Account
 pub mod Cuts
 pub mod Deciding
-pub mod Events
 pub mod Existing
-pub mod Feeding
+pub mod Gaves
+pub mod Parts
+pub mod TextRows
 pub mod Numbers
 pub mod Options
 pub mod Outcomes
@@ -12,10 +12,11 @@ pub mod Room
 pub mod Running
 pub mod Slots
 pub mod Flushed
+pub mod Turns
+pub mod TwoTexts
 pub mod Words
 pub mod Refreshed
 pub mod Shown
 pub mod Sets
 pub mod TextsGiven
 pub mod Imaged
-pub mod Refusing

@@ -2,7 +2,7 @@
 use Rattle.std.proofs.Common.{◌≡◌, ℕ, ◌+◌, ◌≤◌, List, [], ◌∷◌, ◌++◌, Option, Some, None, length, take, refl, sym, ap, subst, ◌∙◌, append_assoc, append-nil, length-append, arith}
 use Rattle.std.specs.List.{fold, concat}
 use Rattle.std.specs.Io.KnownBytes.{Appends}
-use Rattle.std.proofs.KnownBytes.{Appends-trans}
+use Rattle.std.proofs.KnownBytes.{Appends-nil, Appends-trans}
 use Rattle.std.proofs.lemmas.List.Sums.{fold-append}
 use Rattle.std.proofs.lemmas.List.Folds.{concat-append}
 use Rattle.std.proofs.lemmas.List.{take-append-le}
@@ -62,7 +62,7 @@ pages-append s ls more =
     subst (λ o. Longer (fold take_line (start s) ls).pages o.pages) (sym both) (longer-lines (fold take_line (start s) ls) more)
 
 -- a front of some pages is a front of more
-pub AppendsFront-longer : (old new : Option (List ℕ)) (short long : List (List ℕ)) → Longer short long → AppendsFront old new short → AppendsFront old new long
+pub AppendsFront-longer : (old new : Option (List ℕ)) (short long : List (List ℕ)) → Longer short long → AppendsFront (old, new) short → AppendsFront (old, new) long
 AppendsFront-longer old new short long more front =
     let whole : concat long ≡ concat short ++ concat more.more = ap concat more.is ∙ concat-append short more.more in
     let inside : front.count ≤ length (concat short) = front.within in
@@ -76,11 +76,11 @@ take_whole : (xs : List ℕ) → take (length xs) xs ≡ xs
 take_whole xs = ap (take (length xs)) (sym (append-nil xs)) ∙ take-append_seam xs []
 
 -- all of some pages is a front of them
-pub AppendsFront-all : (old new : Option (List ℕ)) (pages : List (List ℕ)) → AppendsPages old new pages → AppendsFront old new pages
+pub AppendsFront-all : (old new : Option (List ℕ)) (pages : List (List ℕ)) → AppendsPages (old, new) pages → AppendsFront (old, new) pages
 AppendsFront-all old new pages whole = record { count = length (concat pages); within = omega arith; front = subst (Appends old new) (sym (take_whole (concat pages))) whole }
 
 -- pages, and then a front of more
-pub AppendsFront-after : (old mid new : Option (List ℕ)) (first second : List (List ℕ)) → AppendsPages old mid first → AppendsFront mid new second → AppendsFront old new (first ++ second)
+pub AppendsFront-after : (old mid new : Option (List ℕ)) (first second : List (List ℕ)) → AppendsPages (old, mid) first → AppendsFront (mid, new) second → AppendsFront (old, new) (first ++ second)
 AppendsFront-after old mid new first second whole front =
     let both = concat-append first second in
     let inside : front.count ≤ length (concat second) = front.within in
@@ -91,7 +91,7 @@ AppendsFront-after old mid new first second whole front =
     }
 
 -- pages, and then more
-AppendsPages-after : (old mid new : Option (List ℕ)) (first second : List (List ℕ)) → AppendsPages old mid first → AppendsPages mid new second → AppendsPages old new (first ++ second)
+AppendsPages-after : (old mid new : Option (List ℕ)) (first second : List (List ℕ)) → AppendsPages (old, mid) first → AppendsPages (mid, new) second → AppendsPages (old, new) (first ++ second)
 AppendsPages-after old mid new first second whole more =
     subst (Appends old new) (sym (concat-append first second)) (Appends-trans old mid new _ _ whole more)
 
@@ -101,27 +101,31 @@ pub turns-next : (s : State) (ls : List (List ℕ)) (line : List ℕ) → (turns
 turns-next s ls line accepted = turns-snoc s ls line ∙ taken-line (turns s ls) line accepted
 
 -- a line that is taken
-pub Ran-line : (s : State) (ls : List (List ℕ)) (line : List ℕ) (live live' : Live) (old mid new : Option (List ℕ)) → Ran (turns s ls) live old mid
-    → TakesTurn (turn_of (turns s ls).state ((turns s ls).lines + 1) (event line)) live' mid new → Ran (turns s (ls ++ line ∷ [])) live' old new
+pub Ran-line : (s : State) (ls : List (List ℕ)) (line : List ℕ) (live live' : Live) (old mid new : Option (List ℕ)) → Ran (turns s ls) live (old, mid)
+    → TakesTurn (turn_of (turns s ls).state ((turns s ls).lines + 1) (event line)) live' (mid, new) → Ran (turns s (ls ++ line ∷ [])) live' (old, new)
 Ran-line s ls line live live' old mid new ran takes =
-    subst (λ o. Ran o live' old new) (sym (turns-next s ls line ran.accepted)) (record {
+    subst (λ o. Ran o live' (old, new)) (sym (turns-next s ls line ran.accepted)) (record {
       accepted = takes.accepted;
       holds = takes.holds;
       appended = AppendsPages-after old mid new (turns s ls).pages (turn_of (turns s ls).state ((turns s ls).lines + 1) (event line)).pages ran.appended takes.appended;
     })
 
 -- a line that is refused
-pub Stops-line : (s : State) (ls : List (List ℕ)) (line : List ℕ) (error : LiveError) (live live' : Live) (old mid new : Option (List ℕ)) → Ran (turns s ls) live old mid
-    → RefusesTurn (turn_of (turns s ls).state ((turns s ls).lines + 1) (event line)) error live' mid new → Stops (turns s (ls ++ line ∷ [])) error live' old new
+pub Stops-line : (s : State) (ls : List (List ℕ)) (line : List ℕ) (error : LiveError) (live live' : Live) (old mid new : Option (List ℕ)) → Ran (turns s ls) live (old, mid)
+    → RefusesTurn (turn_of (turns s ls).state ((turns s ls).lines + 1) (event line)) error live' (mid, new) → Stops (turns s (ls ++ line ∷ [])) error live' (old, new)
 Stops-line s ls line error live live' old mid new ran refuses =
-    subst (λ o. Stops o error live' old new) (sym (turns-next s ls line ran.accepted)) (record {
+    subst (λ o. Stops o error live' (old, new)) (sym (turns-next s ls line ran.accepted)) (record {
       refused = refuses.refused;
       holds = refuses.holds;
       appended = AppendsPages-after old mid new (turns s ls).pages (turn_of (turns s ls).state ((turns s ls).lines + 1) (event line)).pages ran.appended refuses.appended;
     })
 
 -- a line that ends in an error
-pub Front-line : (s : State) (ls : List (List ℕ)) (line : List ℕ) (live : Live) (old mid new : Option (List ℕ)) → Ran (turns s ls) live old mid
-    → AppendsFront mid new (turn_of (turns s ls).state ((turns s ls).lines + 1) (event line)).pages → AppendsFront old new (turns s (ls ++ line ∷ [])).pages
+pub Front-line : (s : State) (ls : List (List ℕ)) (line : List ℕ) (live : Live) (old mid new : Option (List ℕ)) → Ran (turns s ls) live (old, mid)
+    → AppendsFront (mid, new) (turn_of (turns s ls).state ((turns s ls).lines + 1) (event line)).pages → AppendsFront (old, new) (turns s (ls ++ line ∷ [])).pages
 Front-line s ls line live old mid new ran front =
-    subst (λ o. AppendsFront old new o.pages) (sym (turns-next s ls line ran.accepted)) (AppendsFront-after old mid new (turns s ls).pages (turn_of (turns s ls).state ((turns s ls).lines + 1) (event line)).pages ran.appended front)
+    subst (λ o. AppendsFront (old, new) o.pages) (sym (turns-next s ls line ran.accepted)) (AppendsFront-after old mid new (turns s ls).pages (turn_of (turns s ls).state ((turns s ls).lines + 1) (event line)).pages ran.appended front)
+
+-- nothing is a front of any pages
+pub AppendsFront-nil : (held : Option (List ℕ)) (pages : List (List ℕ)) → AppendsFront (held, held) pages
+AppendsFront-nil held pages = record { count = 0; within = omega arith; front = Appends-nil held }

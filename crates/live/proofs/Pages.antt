@@ -8,7 +8,7 @@ use Rattle.serde_json.specs.Written.{compact_text, has_float, items_have_float}
 use Rattle.serde_json.specs.declared.value.Value.{Value}
 use Rattle.input_db.specs.Database.{Database}
 use Rattle.input_db.specs.declared.source_root.SourceRoot.{SourceRoot}
-use Rattle.live.specs.Page.{page, page_data, page_of, paths_shown, roots_listed, set_data, set_shown, sorted_texts, texts_data}
+use Rattle.live.specs.Page.{Flush, page, flush_paths, page_data, page_of, paths_shown, roots_listed, set_data, set_shown, sorted_texts, texts_data}
 
 -- strings are the data of their texts
 strings-data : (texts : List (List ℕ)) → items_of (map string texts) ≡ texts_data texts
@@ -51,11 +51,11 @@ files_no_float : (files : List (List ℕ)) → has_float (page_data no_items (it
 files_no_float files = rw (texts-no_float files) refl
 
 -- the line of its value is the page
-pub page_line : {E : Type 0} (files : List (List ℕ)) (value : Data) (line : Result (String Global) E)
-    → value ≡ page_data no_items (item (set_data files true) no_items)
+pub page_line : {E : Type 0} (flush : Flush) (value : Data) (line : Result (String Global) E)
+    → value ≡ page_data no_items (item (set_data (flush_paths flush) true) no_items)
     → IfOk line (λ text. has_float value ≡ false → string_bytes text ≡ compact_text value ++ 10 ∷ [])
-    → IfOk line (λ text. string_bytes text ≡ page files)
+    → IfOk line (λ text. string_bytes text ≡ page flush)
 unfolding page
-page_line files value (Ok text) is written =
-    written (ap has_float is ∙ files_no_float files) ∙ ap (λ d. compact_text d ++ 10 ∷ []) is
-page_line files value (Err e) is written = tt
+page_line flush value (Ok text) is written =
+    written (ap has_float is ∙ files_no_float (flush_paths flush)) ∙ ap (λ d. compact_text d ++ 10 ∷ []) is
+page_line flush value (Err e) is written = tt

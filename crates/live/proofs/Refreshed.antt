@@ -6,7 +6,7 @@ use Rattle.std.specs.Prelude.{IfSome}
 use Rattle.std.specs.Str.{IsUtf8, is_utf8}
 use Rattle.std.proofs.lemmas.Str.{IsUtf8-from_is_utf8, is_utf8-from_IsUtf8}
 use Rattle.vfs_core.specs.declared.changed_file.ChangedFile.{ChangedFile}
-use Rattle.vfs_core.specs.Files.{Files, existing}
+use Rattle.vfs_core.specs.Files.{Files, existing_files}
 use Rattle.vfs_sets.specs.FileSet as sets
 use Rattle.vfs_sets.specs.Partition.{IsPartition}
 use Rattle.input_db.specs.Change.{fits, fits_file}
@@ -87,7 +87,7 @@ taken_fits files change roots batch given taken =
     ∙ taken-fit files roots batch
 
 -- and its roots are few
-pub few_roots : (files : Files) (parts : List sets.Files) (roots : Option (List SourceRoot)) → IsPartition [] (existing files) parts
+pub few_roots : (files : Files) (parts : List sets.FileSetContent) (roots : Option (List SourceRoot)) → IsPartition [] (existing_files files) parts
     → roots ≡ Some (local_roots parts) → IfSome roots (λ r. length r < 2 ^ 32)
 few_roots files parts roots is given =
     subst (λ r. IfSome r (λ l. length l < 2 ^ 32)) (sym (given ∙ ap (λ p. Some (local_roots p)) (one_set files parts is))) (omega arith)

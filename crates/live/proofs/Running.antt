@@ -1,170 +1,243 @@
--- What a run keeps between two reads, and what follows from it at each of its ends.
-use Rattle.std.proofs.Common.{◌≡◌, ℕ, ◌+◌, ◌-◌, ◌^◌, ◌≤◌, List, [], ◌++◌, Option, Some, None, length, take, refl, sym, ap, subst, ◌∙◌, append-nil, length-append, length-take, arith}
+-- What a run keeps between two lines, and what follows from it at each of its ends.
+use Rattle.std.proofs.Common.{◌≡◌, ℕ, ◌+◌, ◌-◌, ◌^◌, ◌<◌, ◌≤◌, Bool, true, false, List, [], ◌∷◌, ◌++◌, Option, Some, None, Err, length, take, refl, sym, ap, subst, ◌∙◌, append_assoc, append-nil, length-append, inl, inr, arith}
 use Rattle.std.specs.Io.KnownBytes.{Consumes, IsAtEnd}
-use Rattle.std.proofs.KnownBytes.{Consumes-nil, Consumes-trans}
-use Rattle.base_text.specs.Causes.{Rose}
+use Rattle.outside.specs.Causes.{Rose, Rose-after}
+use Rattle.outside.specs.Source.{Knows-after, Knows-all}
+use Rattle.outside.specs.Sink.{Appends-nil}
+use Rattle.outside.specs.declared.limits.Limit.TheVariants.{Bytes}
+use Rattle.live.specs.Lines.{has_newline, script_lines, unfinished, whole_lines}
+use Rattle.live.specs.Reader.{Gave, IsCut, IsPast, Reader, Tells, bytes_ahead, fresh}
+use Rattle.live.specs.declared.lines.LineError.{LineError}
+use Rattle.live.specs.declared.lines.LineError.TheVariants.{ReadFault as ReadFault', TooMany as TooMany', OutOfMemory as OutOfMemory', Ended}
+use Rattle.live.proofs.Gaves.{Gave-fresh, script_lines-whole, whole_lines-uncut}
 use Rattle.live.specs.declared.session.Live.{Live}
 use Rattle.live.specs.declared.fault.LiveError.{LiveError}
-use Rattle.live.specs.Run.{Finishes, Ran, Runs, Stops, TakesAtMost}
-use Rattle.live.specs.Session.{State, session}
-use Rattle.live.specs.Turn.{Holds}
-use Rattle.live.specs.Written.{AppendsFront}
-use Rattle.live.proofs.Feeding.{Runs-nil}
-use Rattle.live.proofs.Outcomes.{AppendsFront-all}
-use Rattle.live.proofs.Deciding.{Front-session}
+use Rattle.live.specs.declared.fault.LiveError.TheVariants.{OutOfMemory, Usage, ReadFault, WriteFault, Script, TooMany}
+use Rattle.live.specs.Event.{event}
+use Rattle.live.specs.Fault.{IsOneOf, IsRefusal, fault_of, line_statuses, run_statuses, status_of}
+use Rattle.live.specs.Run.{Completes, Fails, Finishes, HasCause, Ran, Stops, TakesAtMost}
+use Rattle.live.specs.Session.{State, Outcome, session, turn_of, turns}
+use Rattle.live.specs.Turn.{FailsTurn, Holds, TakesTurn, RefusesTurn}
+use Rattle.live.specs.Written.{AppendsFront, AppendsPages, HasWriteCause}
+use Rattle.live.proofs.Outcomes.{AppendsFront-all, Front-line, Ran-line, Stops-line, turns-next, turns-nil}
+use Rattle.live.proofs.Deciding.{Front-session, Ran-within, Stops-limit, Stops-session, session-within}
 
--- between two reads: the bytes taken so far were fed
-pub record Running (live₀ : Live) (left₀ left held₀ held : Option (List ℕ)) (limit turn taken : ℕ) (pending : List ℕ) (count : ℕ) (live : Live) : Type 0 where
-  pub fed : List ℕ
-  pub read : Consumes left₀ left fed
-  pub long : length fed ≡ taken
-  pub runs : (s : State) → Holds live₀ s → Runs s fed pending count live held₀ held
-  pub turned : turn ≤ taken
-  pub within : taken ≤ limit
-  pub counted : count ≤ taken
-
--- before the first read
-pub Running-start : (live : Live) (left held : Option (List ℕ)) (limit : ℕ) (pending : List ℕ) (count : ℕ) → pending ≡ [] → count ≡ 0 → Running live left left held held limit 0 0 pending count live
-Running-start live left held limit pending count none zero = record {
-  fed = [];
-  read = Consumes-nil left;
-  long = refl;
-  runs = λ s h. subst (λ p. Runs s [] p count live held held) (sym none) (subst (λ n. Runs s [] [] n live held held) (sym zero) (Runs-nil s live held h));
-  turned = omega arith;
-  within = omega arith;
-  counted = omega arith;
-}
-
--- what is left of known bytes
-pub record Leaves (bytes all : List ℕ) (left : Option (List ℕ)) : Type 0 where
-  pub rest : List ℕ
-  pub left_is : left ≡ Some rest
-  pub all_is : all ≡ bytes ++ rest
-
-pub Leaves-known : (left left' : Option (List ℕ)) (bytes all : List ℕ) → Consumes left left' bytes → left ≡ Some all → Leaves bytes all left'
-Leaves-known None left' bytes all read known = absurd (cc)
-Leaves-known (Some xs) None bytes all read known = absurd read
-Leaves-known (Some xs) (Some ys) bytes all read known = record { rest = ys; left_is = refl; all_is = let same : xs ≡ all = cc in sym same ∙ read }
-
--- at the end nothing is left
-at_end : (left : Option (List ℕ)) (rest : List ℕ) → IsAtEnd left → left ≡ Some rest → rest ≡ []
-at_end None rest end known = absurd (cc)
-at_end (Some xs) rest end known = let same : xs ≡ rest = cc in sym same ∙ end
-
-module _ (live₀ : Live) (left₀ left held₀ held : Option (List ℕ)) (limit turn taken : ℕ) (pending : List ℕ) (count : ℕ) (live : Live)
-    (is_limit : limit ≡ live₀.config.limits.bytes) (run : Running live₀ left₀ left held₀ held limit turn taken pending count live) where
-  -- the room that is left is the state's
-  pub room_of : (s : State) → Holds live₀ s → length run.fed + (limit - taken) ≡ s.config.limits.bytes
-  room_of s h = let same : limit ≡ s.config.limits.bytes = is_limit ∙ ap (λ c. c.limits.bytes) h.config in
-      let long : length run.fed ≡ taken = run.long in
-      let within : taken ≤ limit = run.within in
-      omega arith
-
-  pub small_of : (s : State) → Holds live₀ s → length run.fed ≤ s.config.limits.bytes
-  small_of s h = omega (arith, room_of s h)
-
-  -- a read that failed, after what was written so far
-  pub Front-read : (s : State) → Holds live₀ s → (all : List ℕ) → left₀ ≡ Some all → AppendsFront held₀ held (session s all).pages
-  Front-read s h all known =
-      let rest = Leaves-known left₀ left run.fed all run.read known in
-      subst (λ bs. AppendsFront held₀ held (session s bs).pages) (sym rest.all_is)
-      (Front-session s run.fed rest.rest live held₀ held (small_of s h) (AppendsFront-all held₀ held _ (run.runs s h).ran.appended))
-
-  pub Takes-read : (left' : Option (List ℕ)) (s : State) → Holds live₀ s → (piece : List ℕ) → length piece ≤ limit - taken + 1 → Consumes left left' piece → TakesAtMost (s.config.limits.bytes + 1) left₀ left'
-  Takes-read left' s h piece few read = record {
-    bytes = run.fed ++ piece;
-    read = Consumes-trans left₀ left left' run.fed piece run.read read;
-    few = omega (arith, length-append run.fed piece, room_of s h);
-  }
-
-  -- the end
-  pub Finishes-end : (left' held' : Option (List ℕ)) (live' : Live) → Consumes left left' [] → IsAtEnd left'
-      → ((s : State) (fed : List ℕ) (old : Option (List ℕ)) → Runs s fed pending count live old held → length fed ≤ s.config.limits.bytes → Ran (session s fed) live' old held')
-      → (s : State) → Holds live₀ s → Finishes s live' left₀ left' held₀ held'
-  Finishes-end left' held' live' read end ran s h = record {
-    bytes = run.fed;
-    read = subst (Consumes left₀ left') (append-nil run.fed) (Consumes-trans left₀ left left' run.fed [] run.read read);
-    at_end = end;
-    ran = ran s run.fed held₀ (run.runs s h) (small_of s h);
-  }
-
-  ended : (left' : Option (List ℕ)) → Consumes left left' [] → IsAtEnd left' → (all : List ℕ) → left₀ ≡ Some all → all ≡ run.fed
-  ended left' read end all known =
-      let first = Leaves-known left₀ left run.fed all run.read known in
-      let second = Leaves-known left left' [] first.rest read first.left_is in
-      let none : second.rest ≡ [] = at_end left' second.rest end second.left_is in
-      first.all_is ∙ ap (λ r. run.fed ++ r) (second.all_is ∙ none) ∙ append-nil run.fed
-
-  pub Stops-end : (left' held' : Option (List ℕ)) (live' : Live) (error : LiveError) → Consumes left left' [] → IsAtEnd left'
-      → ((s : State) (fed : List ℕ) (old : Option (List ℕ)) → Runs s fed pending count live old held → length fed ≤ s.config.limits.bytes → Stops (session s fed) error live' old held')
-      → (s : State) → Holds live₀ s → (all : List ℕ) → left₀ ≡ Some all → Stops (session s all) error live' held₀ held'
-  Stops-end left' held' live' error read end stops s h all known =
-      subst (λ bs. Stops (session s bs) error live' held₀ held') (sym (ended left' read end all known)) (stops s run.fed held₀ (run.runs s h) (small_of s h))
-
-  pub Front-end : (left' held' : Option (List ℕ)) → Consumes left left' [] → IsAtEnd left'
-      → ((s : State) (fed : List ℕ) (old : Option (List ℕ)) → Runs s fed pending count live old held → length fed ≤ s.config.limits.bytes → AppendsFront old held' (session s fed).pages)
-      → (s : State) → Holds live₀ s → (all : List ℕ) → left₀ ≡ Some all → AppendsFront held₀ held' (session s all).pages
-  Front-end left' held' read end front s h all known =
-      subst (λ bs. AppendsFront held₀ held' (session s bs).pages) (sym (ended left' read end all known)) (front s run.fed held₀ (run.runs s h) (small_of s h))
-
-  -- a piece that was refused
-  pub Stops-read : (left' held' : Option (List ℕ)) (live' : Live) (error : LiveError) (piece : List ℕ) → Consumes left left' piece
-      → ((s : State) (fed rest : List ℕ) (old : Option (List ℕ)) → Runs s fed pending count live old held → length fed + (limit - taken) ≡ s.config.limits.bytes → Stops (session s (fed ++ (piece ++ rest))) error live' old held')
-      → (s : State) → Holds live₀ s → (all : List ℕ) → left₀ ≡ Some all → Stops (session s all) error live' held₀ held'
-  Stops-read left' held' live' error piece read stops s h all known =
-      let first = Leaves-known left₀ left run.fed all run.read known in
-      let second = Leaves-known left left' piece first.rest read first.left_is in
-      subst (λ bs. Stops (session s bs) error live' held₀ held') (sym (first.all_is ∙ ap (λ r. run.fed ++ r) second.all_is)) (stops s run.fed second.rest held₀ (run.runs s h) (room_of s h))
-
-  pub Front-piece-read : (left' held' : Option (List ℕ)) (piece : List ℕ) → Consumes left left' piece
-      → ((s : State) (fed rest : List ℕ) (old : Option (List ℕ)) → Runs s fed pending count live old held → length fed + (limit - taken) ≡ s.config.limits.bytes → AppendsFront old held' (session s (fed ++ (piece ++ rest))).pages)
-      → (s : State) → Holds live₀ s → (all : List ℕ) → left₀ ≡ Some all → AppendsFront held₀ held' (session s all).pages
-  Front-piece-read left' held' piece read front s h all known =
-      let first = Leaves-known left₀ left run.fed all run.read known in
-      let second = Leaves-known left left' piece first.rest read first.left_is in
-      subst (λ bs. AppendsFront held₀ held' (session s bs).pages) (sym (first.all_is ∙ ap (λ r. run.fed ++ r) second.all_is)) (front s run.fed second.rest held₀ (run.runs s h) (room_of s h))
-
-  -- a piece that was taken
-  pub Running-next : (left' held' : Option (List ℕ)) (live' : Live) (piece pending' : List ℕ) (count' n : ℕ) → Consumes left left' piece → length piece ≡ n → (n ≡ 0 → ⊥) → n ≤ limit - taken
-      → count' ≤ count + n
-      → ((s : State) (fed : List ℕ) (old : Option (List ℕ)) → Runs s fed pending count live old held → Runs s (fed ++ piece) pending' count' live' old held')
-      → Running live₀ left₀ left' held₀ held' limit (turn + 1) (taken + n) pending' count' live'
-  Running-next left' held' live' piece pending' count' n read long some fits more next =
-      let turned : turn ≤ taken = run.turned in
-      let within : taken ≤ limit = run.within in
-      let counted : count ≤ taken = run.counted in
-      let sofar : length run.fed ≡ taken = run.long in
-      record {
-        fed = run.fed ++ piece;
-        read = Consumes-trans left₀ left left' run.fed piece run.read read;
-        long = omega (arith, length-append run.fed piece);
-        runs = λ s h. next s run.fed held₀ (run.runs s h);
-        turned = omega (arith, some);
-        within = omega arith;
-        counted = omega arith;
-      }
-
--- what stays over all reads
-pub record Kept (live₀ : Live) (limit buffered sources₀ sources sinks₀ sinks : ℕ) : Type 0 where
+-- between two lines: these lines were given, and their turns were taken
+pub record Running (live₀ : Live) (left₀ left held₀ held : Option (List ℕ)) (limit : ℕ) (reader : Reader) (number : ℕ) (live : Live) : Type 0 where
+  pub given : List (List ℕ)
+  pub gave : Gave limit left₀ left given reader
+  pub ran : (s : State) → Holds live₀ s → Ran (turns s given) live (held₀, held)
+  pub numbered : (s : State) → Holds live₀ s → number ≡ (turns s given).lines
+  pub few : number + bytes_ahead reader ≤ limit
+  pub not_ended : reader.has_ended ≡ false
+  pub going : live.ended ≡ live₀.ended
   pub is_limit : limit ≡ live₀.config.limits.bytes
   pub small : limit ≤ 2 ^ 30
-  pub room : buffered ≡ 65536
-  pub sources_rise : sources₀ ≤ sources
-  pub sinks_rise : sinks₀ ≤ sinks
 
--- both
-pub record Turning (R K : Type 0) : Type 0 where
-  pub run : R
-  pub kept : K
+module _ (limit : ℕ) (left₀ left : Option (List ℕ)) (given : List (List ℕ)) (reader : Reader) (gave : Gave limit left₀ left given reader) where
+  -- at most one byte past the limit was taken
+  beyond_few : (past : Bool) → IsPast past reader.room gave.beyond → length gave.beyond ≤ 1
+  beyond_few false none = omega (arith, ap length none)
+  beyond_few true one = omega (arith, one.0)
 
--- a count that rose after another moment rose after an earlier one
-pub Rose-after : (a b c : ℕ) → a ≤ b → Rose b c → Rose a c
-Rose-after a b c h r = omega (arith, r)
+  pub Takes-gave : TakesAtMost (limit + 1) (left₀, left)
+  Takes-gave = record {
+    bytes = gave.front ++ (reader.waiting ++ gave.beyond);
+    read = gave.taken;
+    few = omega (arith, gave.within, beyond_few reader.is_past gave.past, length-append gave.front (reader.waiting ++ gave.beyond), length-append reader.waiting gave.beyond);
+  }
 
--- a read of nothing
-pub read-none : (left left' : Option (List ℕ)) (buffer : List ℕ) (n : ℕ) → n ≡ 0 → Consumes left left' (take n buffer) → Consumes left left' []
-read-none left left' buffer n none read = subst (λ m. Consumes left left' (take m buffer)) none read
+  -- a reader that is done gave all lines of its source
+  pub Finishes-gave : (s : State) (live : Live) (held₀ held : Option (List ℕ)) → reader.is_done ≡ true → limit ≡ s.config.limits.bytes → Ran (turns s given) live (held₀, held) → Finishes s live (left₀, left) (held₀, held)
+  Finishes-gave s live held₀ held done same ran =
+      let cut : IsCut true gave.front (reader.waiting ++ gave.beyond) left = subst (λ d. IsCut d gave.front (reader.waiting ++ gave.beyond) left) done gave.cut in
+      record {
+        bytes = gave.front;
+        read = subst (Consumes left₀ left) (ap (λ r. gave.front ++ r) cut.0 ∙ append-nil gave.front) gave.taken;
+        at_end = cut.1;
+        ran = Ran-within s gave.front live held₀ held (omega (arith, gave.within)) (subst (λ ls. Ran (turns s ls) live (held₀, held)) (sym gave.lines) ran);
+      }
 
--- what a read gave is as long as it said
-pub length-read : (buffer : List ℕ) (n : ℕ) → n ≤ length buffer → length (take n buffer) ≡ n
-length-read buffer n h = omega (arith, length-take n buffer)
+  module _ (s : State) (all : List ℕ) (live : Live) (held₀ held : Option (List ℕ)) (known : left₀ ≡ Some all) (same : limit ≡ s.config.limits.bytes) where
+    within : length gave.front ≤ s.config.limits.bytes
+    within = omega (arith, gave.within)
+
+    -- what follows the lines that were given
+    behind : List ℕ
+    behind = (reader.waiting ++ gave.beyond) ++ (Knows-after left₀ left all _ known gave.taken).0
+
+    all_is : all ≡ gave.front ++ behind
+    unfolding behind
+    all_is = let after = Knows-after left₀ left all _ known gave.taken in after.1 ∙ append_assoc gave.front (reader.waiting ++ gave.beyond) after.0
+
+    -- a session that is decided by the lines that were given
+    decided : (P : Outcome → Type 0) → (unfinished gave.front ≡ [] → P (turns s (whole_lines gave.front)) → P (session s (gave.front ++ behind))) → P (turns s given) → P (session s all)
+    unfolding behind
+    decided P more here =
+        elim reader.is_done as (λ d. IsCut d gave.front (reader.waiting ++ gave.beyond) left → P (session s all)) [
+          | true ↦ λ cut.
+              let whole : Consumes left₀ left gave.front = subst (Consumes left₀ left) (ap (λ r. gave.front ++ r) cut.0 ∙ append-nil gave.front) gave.taken in
+              let ends : all ≡ gave.front = Knows-all left₀ left all gave.front known whole cut.1 in
+              subst P (sym (ap (session s) ends ∙ session-within s gave.front within ∙ ap (turns s) gave.lines)) here
+          | false ↦ λ cut.
+              let lines : whole_lines gave.front ≡ given = sym (script_lines-whole gave.front cut) ∙ gave.lines in
+              subst (λ bs. P (session s bs)) (sym all_is) (more cut (subst (λ ls. P (turns s ls)) (sym lines) here))
+        ] gave.cut
+
+    pub Stops-gave : (error : LiveError) → Stops (turns s given) error live (held₀, held) → Stops (session s all) error live (held₀, held)
+    Stops-gave error stops =
+        decided (λ o. Stops o error live (held₀, held)) (λ cut here. Stops-session s gave.front behind live held₀ held within error here) stops
+
+    pub Front-gave : AppendsFront (held₀, held) (turns s given).pages → AppendsFront (held₀, held) (session s all).pages
+    Front-gave front =
+        decided (λ (o : Outcome). AppendsFront (held₀, held) o.pages) (λ cut here. Front-session s gave.front behind live held₀ held within here) front
+
+    -- past the limit the session is refused
+    pub Stops-past : reader.is_past ≡ true → has_newline reader.waiting ≡ false → Ran (turns s given) live (held₀, held) → Stops (session s all) (TooMany Bytes) live (held₀, held)
+    Stops-past past uncut ran =
+        let after = Knows-after left₀ left all _ known gave.taken in
+        let one : IsPast true reader.room gave.beyond = subst (λ p. IsPast p reader.room gave.beyond) past gave.past in
+        elim reader.is_done as (λ d. IsCut d gave.front (reader.waiting ++ gave.beyond) left → Stops (session s all) (TooMany Bytes) live (held₀, held)) [
+          | true ↦ λ cut. absurd (omega (arith, one.0, ap length cut.0, length-append reader.waiting gave.beyond))
+          | false ↦ λ cut.
+              let fed = gave.front ++ reader.waiting in
+              let whole : all ≡ fed ++ (gave.beyond ++ after.0) = after.1 ∙ append_assoc gave.front (reader.waiting ++ gave.beyond) after.0
+              ∙ ap (λ r. gave.front ++ r) (append_assoc reader.waiting gave.beyond after.0) ∙ sym (append_assoc gave.front reader.waiting (gave.beyond ++ after.0)) in
+              let lines : whole_lines fed ≡ given = whole_lines-uncut gave.front reader.waiting uncut ∙ sym (script_lines-whole gave.front cut) ∙ gave.lines in
+              subst (λ bs. Stops (session s bs) (TooMany Bytes) live (held₀, held)) (sym whole)
+              (Stops-limit s fed (gave.beyond ++ after.0) live held₀ held (omega (arith, gave.within, one.1, length-append gave.front reader.waiting)) (omega (arith, one.0, length-append gave.beyond after.0))
+              (subst (λ ls. Ran (turns s ls) live (held₀, held)) (sym lines) ran))
+        ] gave.cut
+
+-- before the first line
+pub Running-start : (live : Live) (left held : Option (List ℕ)) (limit : ℕ) → limit ≡ live.config.limits.bytes → limit ≤ 2 ^ 30 → Running live left left held held limit (fresh limit) 0 live
+Running-start live left held limit same small = record {
+  given = [];
+  gave = Gave-fresh limit left;
+  ran = λ s h. subst (λ o. Ran o live (held, held)) (sym (turns-nil s)) (record { accepted = refl; holds = h; appended = Appends-nil held });
+  numbered = λ s h. sym (ap (λ o. o.lines) (turns-nil s));
+  few = omega arith;
+  not_ended = refl;
+  going = refl;
+  is_limit = same;
+  small = small;
+}
+
+-- the one refusal of a reader is that of too many bytes
+refusal_of : (P : LiveError → Type 0) (Z : Type 0) (error : LineError) (old new : Reader) (before now : ℕ) → Tells {Z = Z} (Err error) old new before now
+    → ((new.is_past ≡ true) × (has_newline new.waiting ≡ false) → P (TooMany Bytes)) → IsRefusal (fault_of error) → P (fault_of error)
+refusal_of P Z ReadFault' old new before now told past refusal = absurd (omega arith)
+refusal_of P Z TooMany' old new before now told past refusal = past told
+refusal_of P Z OutOfMemory' old new before now told past refusal = absurd (omega arith)
+refusal_of P Z Ended old new before now told past refusal = absurd (omega arith)
+
+-- the cause of a line that was not given
+pub cause_next : (Z : Type 0) (error : LineError) (old new : Reader) (before now reads writes writes' : ℕ) → Tells {Z = Z} (Err error) old new before now → reads ≤ before
+    → HasCause run_statuses (status_of (fault_of error)) (reads, now) (writes, writes')
+cause_next Z ReadFault' old new before now reads writes writes' told later = record { only = refl; read = λ _. Rose-after reads before now later told; write = λ e. absurd (omega arith) }
+cause_next Z TooMany' old new before now reads writes writes' told later = record { only = refl; read = λ e. absurd (omega arith); write = λ e. absurd (omega arith) }
+cause_next Z OutOfMemory' old new before now reads writes writes' told later = record { only = refl; read = λ e. absurd (omega arith); write = λ e. absurd (omega arith) }
+cause_next Z Ended old new before now reads writes writes' told later = record { only = refl; read = λ e. absurd (omega arith); write = λ e. absurd (omega arith) }
+
+-- an error of a line is one of a run
+wider : (error : LiveError) → IsOneOf line_statuses (status_of error) → IsOneOf run_statuses (status_of error)
+wider OutOfMemory only = refl
+wider Usage only = absurd (cc)
+wider ReadFault only = refl
+wider WriteFault only = refl
+wider (Script line) only = refl
+wider (TooMany limit) only = refl
+
+no_read : (error : LiveError) → IsOneOf line_statuses (status_of error) → status_of error ≡ 3 → ⊥
+no_read OutOfMemory only e = omega arith
+no_read Usage only e = omega arith
+no_read ReadFault only e = cc
+no_read WriteFault only e = omega arith
+no_read (Script line) only e = omega arith
+no_read (TooMany limit) only e = omega arith
+
+write_fault : (error : LiveError) → status_of error ≡ 4 → error ≡ WriteFault
+write_fault OutOfMemory e = absurd (omega arith)
+write_fault Usage e = absurd (omega arith)
+write_fault ReadFault e = absurd (omega arith)
+write_fault WriteFault e = refl
+write_fault (Script line) e = absurd (omega arith)
+write_fault (TooMany limit) e = absurd (omega arith)
+
+pub cause_line : (error : LiveError) (reads reads' writes mid writes' : ℕ) → HasWriteCause {T = Unit {0}} (Err error) line_statuses (mid, writes') → writes ≤ mid
+    → HasCause run_statuses (status_of error) (reads, reads') (writes, writes')
+cause_line error reads reads' writes mid writes' cause later = record {
+  only = wider error cause.only;
+  read = λ e. absurd (no_read error cause.only e);
+  write = λ e. Rose-after writes mid writes' later (cause.write (ap Err (write_fault error e)));
+}
+
+-- with no fault an error is want of memory or the session's refusal
+pub completes_err : (o : Outcome) (error : LiveError) (live : Live) (old new : Option (List ℕ)) (reads reads' writes writes' : ℕ) → Fails o error live (old, new)
+    → HasCause run_statuses (status_of error) (reads, reads') (writes, writes') → (Rose reads reads' → ⊥) → (Rose writes writes' → ⊥) → Completes o.refusal (Err error)
+completes_err o OutOfMemory live old new reads reads' writes writes' fails cause read write = inl refl
+completes_err o Usage live old new reads reads' writes writes' fails cause read write = let only : false ≡ true = cause.only in absurd (cc)
+completes_err o ReadFault live old new reads reads' writes writes' fails cause read write = absurd (read (cause.read refl))
+completes_err o WriteFault live old new reads reads' writes writes' fails cause read write = absurd (write (cause.write refl))
+completes_err o (Script line) live old new reads reads' writes writes' fails cause read write = inr (fails.refused (omega arith)).refused
+completes_err o (TooMany limit) live old new reads reads' writes writes' fails cause read write = inr (fails.refused (omega arith)).refused
+
+-- and success is a session with no refusal
+pub completes_ok : (s : State) (all : List ℕ) (live : Live) (left₀ left held₀ held : Option (List ℕ)) → left₀ ≡ Some all → Finishes s live (left₀, left) (held₀, held) → (session s all).refusal ≡ None
+completes_ok s all live left₀ left held₀ held known finishes =
+    subst (λ bs. (session s bs).refusal ≡ None) (sym (Knows-all left₀ left all finishes.bytes known finishes.read finishes.at_end)) finishes.ran.accepted
+
+module _ (live₀ : Live) (left₀ left held₀ held : Option (List ℕ)) (limit : ℕ) (reader : Reader) (number : ℕ) (live : Live) (run : Running live₀ left₀ left held₀ held limit reader number live) where
+  limit_of : (s : State) → Holds live₀ s → limit ≡ s.config.limits.bytes
+  limit_of s h = run.is_limit ∙ ap (λ c. c.limits.bytes) h.config
+
+  -- the end of the source
+  module _ (left' : Option (List ℕ)) (reader' : Reader) (gave' : Gave limit left₀ left' run.given reader') where
+    pub Takes-next : TakesAtMost (live₀.config.limits.bytes + 1) (left₀, left')
+    Takes-next = subst (λ n. TakesAtMost (n + 1) (left₀, left')) run.is_limit (Takes-gave limit left₀ left' run.given reader' gave')
+
+    pub Finishes-end : reader'.is_done ≡ true → (s : State) → Holds live₀ s → Finishes s live (left₀, left') (held₀, held)
+    Finishes-end done s h = Finishes-gave limit left₀ left' run.given reader' gave' s live held₀ held done (limit_of s h) (run.ran s h)
+
+    -- a line that was not given
+    pub Fails-next : (Z : Type 0) (error : LineError) (before now : ℕ) → Tells {Z = Z} (Err error) reader reader' before now → (s : State) → Holds live₀ s → (all : List ℕ) → left₀ ≡ Some all → Fails (session s all) (fault_of error) live (held₀, held)
+    Fails-next Z error before now told s h all known =
+        let front = Front-gave limit left₀ left' run.given reader' gave' s all live held₀ held known (limit_of s h) (AppendsFront-all held₀ held _ (run.ran s h).appended) in
+        let past : (reader'.is_past ≡ true) × (has_newline reader'.waiting ≡ false) → Stops (session s all) (TooMany Bytes) live (held₀, held) =
+        λ p. Stops-past limit left₀ left' run.given reader' gave' s all live held₀ held known (limit_of s h) p.0 p.1 (run.ran s h) in
+        record { written = front; refused = refusal_of (λ e. Stops (session s all) e live (held₀, held)) Z error reader reader' before now told past }
+
+  -- a line that was given
+  module _ (left' : Option (List ℕ)) (reader' : Reader) (line : List ℕ) (gave' : Gave limit left₀ left' (run.given ++ line ∷ []) reader') where
+    pub Takes-line : TakesAtMost (live₀.config.limits.bytes + 1) (left₀, left')
+    Takes-line = subst (λ n. TakesAtMost (n + 1) (left₀, left')) run.is_limit (Takes-gave limit left₀ left' (run.given ++ line ∷ []) reader' gave')
+
+    -- its turn, as the outcome so far numbers it
+    turn_at : (s : State) → Holds live₀ s → turn_of (turns s run.given).state (number + 1) (event line) ≡ turn_of (turns s run.given).state ((turns s run.given).lines + 1) (event line)
+    turn_at s h = ap (λ n. turn_of (turns s run.given).state (n + 1) (event line)) (run.numbered s h)
+
+    -- its turn was taken
+    pub Running-line : (live' : Live) (held' : Option (List ℕ)) → ((t : State) → Holds live t → TakesTurn (turn_of t (number + 1) (event line)) live' (held, held'))
+        → live'.ended ≡ live.ended → bytes_ahead reader' < bytes_ahead reader → reader'.has_ended ≡ false → Running live₀ left₀ left' held₀ held' limit reader' (number + 1) live'
+    Running-line live' held' takes same less unended = record {
+      given = run.given ++ line ∷ [];
+      gave = gave';
+      ran = λ s h. Ran-line s run.given line live live' held₀ held held' (run.ran s h) (subst (λ t. TakesTurn t live' (held, held')) (turn_at s h) (takes _ (run.ran s h).holds));
+      numbered = λ s h. ap (λ n. n + 1) (run.numbered s h) ∙ sym (ap (λ o. o.lines) (turns-next s run.given line (run.ran s h).accepted));
+      few = omega (arith, run.few);
+      not_ended = unended;
+      going = same ∙ run.going;
+      is_limit = run.is_limit;
+      small = run.small;
+    }
+
+    -- its turn ended in an error
+    pub Fails-line : (error : LiveError) (live' : Live) (held' : Option (List ℕ)) → ((t : State) → Holds live t → FailsTurn (turn_of t (number + 1) (event line)) error live' (held, held'))
+        → (s : State) → Holds live₀ s → (all : List ℕ) → left₀ ≡ Some all → Fails (session s all) error live' (held₀, held')
+    Fails-line error live' held' fails s h all known =
+        let failed = subst (λ t. FailsTurn t error live' (held, held')) (turn_at s h) (fails _ (run.ran s h).holds) in
+        record {
+          written = Front-gave limit left₀ left' (run.given ++ line ∷ []) reader' gave' s all live' held₀ held' known (limit_of s h) (Front-line s run.given line live held₀ held held' (run.ran s h) failed.written);
+          refused = λ r. Stops-gave limit left₀ left' (run.given ++ line ∷ []) reader' gave' s all live' held₀ held' known (limit_of s h) error
+              (Stops-line s run.given line error live live' held₀ held held' (run.ran s h) (failed.refused r));
+        }

@@ -6,7 +6,7 @@ use Rattle.std.proofs.lemmas.List.{map-append}
 use Rattle.std.proofs.lemmas.List.Elements.{filter_map-append}
 use Rattle.serde_json.specs.View.{view}
 use Rattle.serde_json.specs.declared.value.Value.{Value}
-use Rattle.vfs_core.specs.VfsPath.{Place}
+use Rattle.vfs_core.specs.VfsPath.{PathContent}
 use Rattle.vfs_sets.specs.FileSet.{path_of}
 use Rattle.input_db.specs.Database.{Database}
 use Rattle.input_db.specs.Files.{root_of}
@@ -26,12 +26,12 @@ module _ {X Y : Type 0} (h : X → Option Y) (xs : List X) (x : X) where
       filter_map-append h xs (x ∷ []) ∙ ap (λ l. filter_map h xs ++ l) (rw gives refl) ∙ append-nil (filter_map h xs)
 
 -- one more file that has a path
-pub path_more : (root : SourceRoot) (seen : List ℕ) (file : ℕ) (path : Place) (texts more : List (List ℕ)) (text : List ℕ)
+pub path_more : (root : SourceRoot) (seen : List ℕ) (file : ℕ) (path : PathContent) (texts more : List (List ℕ)) (text : List ℕ)
     → Some path ≡ path_of (set_of_root root) file → text ≡ path.text
     → texts ≡ filter_map (path_shown root) seen → more ≡ texts ++ text ∷ []
     → more ≡ filter_map (path_shown root) (seen ++ file ∷ [])
 path_more root seen file path texts more text has is so_far pushed =
-    let gives : path_shown root file ≡ Some path.text = ap (option_map (λ (p : Place). p.text)) (sym has) in
+    let gives : path_shown root file ≡ Some path.text = ap (option_map (λ (p : PathContent). p.text)) (sym has) in
     pushed ∙ ap (λ l. l ++ text ∷ []) so_far
     ∙ ap (λ t. filter_map (path_shown root) seen ++ t ∷ []) is
     ∙ sym (filter_map-some (path_shown root) seen file path.text gives)
@@ -42,7 +42,7 @@ pub path_none : (root : SourceRoot) (seen : List ℕ) (file : ℕ) (texts : List
     → texts ≡ filter_map (path_shown root) seen
     → texts ≡ filter_map (path_shown root) (seen ++ file ∷ [])
 path_none root seen file texts none so_far =
-    let gives : path_shown root file ≡ None = ap (option_map (λ (p : Place). p.text)) (sym none) in
+    let gives : path_shown root file ≡ None = ap (option_map (λ (p : PathContent). p.text)) (sym none) in
     so_far ∙ sym (filter_map-none (path_shown root) seen file gives)
 
 -- one more source root that is there

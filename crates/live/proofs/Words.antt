@@ -1,66 +1,167 @@
 -- What the words of the command line make of a run's answers.
-use Rattle.std.proofs.Common.{◌≡◌, ℕ, ◌+◌, List, [], Option, Some, None, Result, Err, refl, sym, subst, ◌∙◌, inl, inr, ◌∷◌, append-nil, arith}
+use Rattle.std.proofs.Common.{◌≡◌, ℕ, ◌+◌, List, [], ◌∷◌, Option, Some, None, Result, Ok, Err, ◌⊎◌, refl, sym, ap, subst, ◌∙◌, inl, inr, append-nil, arith}
 use Rattle.std.specs.Io.KnownBytes.{Appends}
-use Rattle.std.proofs.KnownBytes.{Appends-nil}
+use Rattle.std.specs.Option.{option_map}
+use Rattle.live.specs.declared.session.Live.{Live}
 use Rattle.live.specs.declared.config.LiveConfig.{LiveConfig}
 use Rattle.live.specs.declared.fault.LiveError.{LiveError}
 use Rattle.live.specs.declared.fault.LiveError.TheVariants.{OutOfMemory, Usage, ReadFault, WriteFault, Script, TooMany}
-use Rattle.live.specs.Cli.{CompletesAs, IsStatus, TakesFor, WritesFor, configured}
-use Rattle.live.specs.Config.{config_of}
-use Rattle.live.specs.Fault.{status_of}
-use Rattle.live.specs.Run.{Completes, TakesAtMost}
-use Rattle.live.specs.Session.{State, session}
+use Rattle.std.specs.Prelude.{IfErr, IsErrOf, OnOk}
+use Rattle.live.specs.Cli.{CompletesAs, CompletesFor, FailsFor, FinishesAs, StatusOf, TakesFor, UsageError, UsageExactly, configured, started, state_for}
+use Rattle.live.specs.declared.config.Command.{Command}
+use Rattle.live.specs.declared.config.Command.TheVariants.{Run}
+use Rattle.live.specs.Config.{command_of}
+use Rattle.live.specs.Fault.{IsOneOf, IsRefusal, all_statuses, run_statuses, status_of, word_statuses}
+use Rattle.live.specs.Run.{Completes, Fails, FailsFrom, Finishes, HasCause, TakesAtMost}
+use Rattle.live.specs.Session.{Outcome, State, session}
 use Rattle.live.specs.Written.{AppendsFront}
-use Rattle.live.proofs.Outcomes.{AppendsFront-after}
+use Rattle.live.proofs.Outcomes.{AppendsFront-after, AppendsFront-nil}
 
--- nothing is a front of any pages
-pub AppendsFront-nil : (held : Option (List ℕ)) (pages : List (List ℕ)) → AppendsFront held held pages
-AppendsFront-nil held pages = record { count = 0; within = omega arith; front = Appends-nil held }
+-- an error that is no refusal and comes before anything was written
+pub fails_early : (start : Option State) (error : LiveError) (live : Live) (left held : Option (List ℕ)) → (IsRefusal error → ⊥) → FailsFor start error live left (held, held)
+fails_early start error live left held early =
+    λ s given all known. record { written = AppendsFront-nil held (session s all).pages; refused = λ r. absurd (early r) }
 
--- nothing was written
-pub writes_nothing : (words : List (List ℕ)) (s : State) (all : List ℕ) (held : Option (List ℕ)) → WritesFor words s all held held
-writes_nothing words s all held = λ config given. AppendsFront-nil held (session (configured s config) all).pages
+-- the state that words give
+state_is : (words : List (List ℕ)) (s t : State) (config : LiveConfig) → command_of words ≡ Some (Run config) → state_for words s ≡ Some t → t ≡ configured s config
+state_is words s t config given is =
+    let both : Some (configured s config) ≡ Some t = sym (ap (option_map (started s)) given) ∙ is in cc
 
--- a front of the pages that the words' configuration gives
-pub writes_given : (words : List (List ℕ)) (s : State) (all : List ℕ) (old new : Option (List ℕ)) (config : LiveConfig) → config_of words ≡ Some config
-    → AppendsFront old new (session (configured s config) all).pages → WritesFor words s all old new
-writes_given words s all old new config given front other other_given =
-    let same : config ≡ other = let both : Some config ≡ Some other = sym given ∙ other_given in cc in
-    subst (λ c. AppendsFront old new (session (configured s c) all).pages) same front
+-- the session from it
+pub fails_given : (words : List (List ℕ)) (s : State) (error : LiveError) (live : Live) (left old new : Option (List ℕ)) (config : LiveConfig) → command_of words ≡ Some (Run config)
+    → FailsFrom (configured s config) error live left (old, new) → FailsFor (state_for words s) error live left (old, new)
+fails_given words s error live left old new config given fails t is =
+    subst (λ u. FailsFrom u error live left (old, new)) (sym (state_is words s t config given is)) fails
+
+-- what a run from it finished
+pub finishes_given : (words : List (List ℕ)) (s : State) (live : Live) (left left' old new : Option (List ℕ)) (config : LiveConfig) → command_of words ≡ Some (Run config)
+    → Finishes (configured s config) live (left, left') (old, new) → FinishesAs (state_for words s) live (left, left') (old, new)
+finishes_given words s live left left' old new config given finishes =
+    record { state = configured s config; given = ap (option_map (started s)) given; finishes = finishes }
 
 -- what a run from the words' configuration took
-pub takes_given : (words : List (List ℕ)) (left left' : Option (List ℕ)) (config : LiveConfig) → config_of words ≡ Some config → TakesAtMost (config.limits.bytes + 1) left left' → TakesFor words left left'
+pub takes_given : (words : List (List ℕ)) (left left' : Option (List ℕ)) (config : LiveConfig) → command_of words ≡ Some (Run config) → TakesAtMost (config.limits.bytes + 1) (left, left') → TakesFor words (left, left')
 takes_given words left left' config given taken other other_given =
-    let same : config ≡ other = let both : Some config ≡ Some other = sym given ∙ other_given in cc in
-    subst (λ (c : LiveConfig). TakesAtMost (c.limits.bytes + 1) left left') same taken
+    let same : config ≡ other = let both : Some (Run config) ≡ Some (Run other) = sym given ∙ other_given in cc in
+    subst (λ (c : LiveConfig). TakesAtMost (c.limits.bytes + 1) (left, left')) same taken
 
--- what a run from the words' configuration completes
-pub completes_given : (words : List (List ℕ)) (s : State) (all : List ℕ) (config : LiveConfig) → config_of words ≡ Some config → (result : Result (Unit {0}) LiveError)
-    → Completes (session (configured s config) all).refusal result → (other : LiveConfig) → config_of words ≡ Some other → Completes (session (configured s other) all).refusal result
-completes_given words s all config given result done other other_given =
-    let same : config ≡ other = let both : Some config ≡ Some other = sym given ∙ other_given in cc in
-    subst (λ c. Completes (session (configured s c) all).refusal result) same done
+-- what a run from the state completes
+pub completes_given : (words : List (List ℕ)) (s : State) (all : List ℕ) (config : LiveConfig) (result : Result (Unit {0}) LiveError) → command_of words ≡ Some (Run config)
+    → Completes (session (configured s config) all).refusal result → CompletesFor (state_for words s) all result
+completes_given words s all config result given done t is =
+    subst (λ u. Completes (session u all).refusal result) (sym (state_is words s t config given is)) done
+
+-- wrong words give no state
+pub completes_wrong : (words : List (List ℕ)) (s : State) (all : List ℕ) (result : Result (Unit {0}) LiveError) → command_of words ≡ None → CompletesFor (state_for words s) all result
+completes_wrong words s all result wrong t is =
+    let none : None ≡ Some t = sym (ap (option_map (started s)) wrong) ∙ is in absurd (cc)
 
 -- the status of an answer that completes
-pub completes_as : (refusal : Option LiveError) (error : LiveError) → Completes refusal (Err error) → CompletesAs refusal (status_of error)
-completes_as None OutOfMemory h = inr refl
-completes_as (Some e) OutOfMemory h = inr refl
-completes_as refusal Usage h = subst (λ r. CompletesAs r 2) (sym h) (inl refl)
-completes_as refusal ReadFault h = subst (λ r. CompletesAs r 3) (sym h) (inl refl)
-completes_as refusal WriteFault h = subst (λ r. CompletesAs r 4) (sym h) (inl refl)
-completes_as refusal (Script line) h = subst (λ r. CompletesAs r 5) (sym h) (inl refl)
-completes_as refusal (TooMany limit) h = subst (λ r. CompletesAs r 17) (sym h) (inl refl)
+memory_as : (refusal : Option LiveError) → StatusOf refusal 1
+memory_as None = inr refl
+memory_as (Some error) = inr refl
 
--- every error has one of the statuses
-pub status_known : (error : LiveError) → IsStatus (status_of error)
-status_known OutOfMemory = refl
-status_known Usage = refl
-status_known ReadFault = refl
-status_known WriteFault = refl
-status_known (Script line) = refl
-status_known (TooMany limit) = refl
+completes_as : (refusal : Option LiveError) (error : LiveError) → Completes refusal (Err error) → StatusOf refusal (status_of error)
+completes_as refusal error (inl memory) = subst (λ e. StatusOf refusal (status_of e)) (sym memory) (memory_as refusal)
+completes_as refusal error (inr refused) = subst (λ r. StatusOf r (status_of error)) (sym refused) (inl refl)
+
+done_as : (refusal : Option LiveError) → refusal ≡ None → StatusOf refusal 0
+done_as refusal accepted = subst (λ r. StatusOf r 0) (sym accepted) (inl refl)
+
+pub status_completes : (start : Option State) (all : List ℕ) (error : LiveError) (status : ℕ) → status ≡ status_of error → CompletesFor start all (Err error) → CompletesAs start all status
+status_completes start all error status is completes s given =
+    subst (StatusOf (session s all).refusal) (sym is) (completes_as (session s all).refusal error (completes s given))
+
+pub zero_completes : (start : Option State) (all : List ℕ) → CompletesFor start all (Ok tt) → CompletesAs start all 0
+zero_completes start all completes s given = done_as (session s all).refusal (completes s given)
+
+-- what the causes of a run are with more statuses
+wider_words : (error : LiveError) → IsOneOf run_statuses (status_of error) → IsOneOf word_statuses (status_of error)
+wider_words OutOfMemory only = refl
+wider_words Usage only = refl
+wider_words ReadFault only = refl
+wider_words WriteFault only = refl
+wider_words (Script line) only = refl
+wider_words (TooMany limit) only = refl
+
+wider_status : (error : LiveError) → IsOneOf all_statuses (status_of error)
+wider_status OutOfMemory = refl
+wider_status Usage = refl
+wider_status ReadFault = refl
+wider_status WriteFault = refl
+wider_status (Script line) = refl
+wider_status (TooMany limit) = refl
+
+pub cause_words : (error : LiveError) (reads reads' writes writes' : ℕ) → HasCause run_statuses (status_of error) (reads, reads') (writes, writes')
+    → HasCause word_statuses (status_of error) (reads, reads') (writes, writes')
+cause_words error reads reads' writes writes' cause = record { only = wider_words error cause.only; read = cause.read; write = cause.write }
+
+pub cause_status : (error : LiveError) (reads reads' writes writes' : ℕ) → HasCause word_statuses (status_of error) (reads, reads') (writes, writes')
+    → HasCause all_statuses (status_of error) (reads, reads') (writes, writes')
+cause_status error reads reads' writes writes' cause = record { only = wider_status error; read = cause.read; write = cause.write }
+
+pub cause_result : (error : LiveError) (status reads reads' writes writes' : ℕ) → status ≡ status_of error → HasCause word_statuses (status_of error) (reads, reads') (writes, writes')
+    → HasCause all_statuses status (reads, reads') (writes, writes')
+cause_result error status reads reads' writes writes' is cause =
+    subst (λ n. HasCause all_statuses n (reads, reads') (writes, writes')) (sym is) (cause_status error reads reads' writes writes' cause)
+
+-- what holds of each outcome
+pub on_ok : {T E A B : Type 0} (result : Result T E) → (A → B) → OnOk result A → OnOk result B
+on_ok (Ok x) more h = more h
+on_ok (Err e) more h = tt
+
+pub if_err : {T E : Type 0} {P Q : E → Type 0} (result : Result T E) → ((e : E) → P e → Q e) → IfErr result P → IfErr result Q
+if_err (Ok x) more h = tt
+if_err (Err e) more h = more e h
+
+-- a run is not of wrong words
+no_usage : (result : Result (Unit {0}) LiveError) (reads reads' writes writes' : ℕ) → IfErr result (λ e. HasCause run_statuses (status_of e) (reads, reads') (writes, writes'))
+    → IsErrOf result Usage → ⊥
+no_usage (Ok done) reads reads' writes writes' cause e = cc
+no_usage (Err error) reads reads' writes writes' cause e =
+    let is : error ≡ Usage = cc in
+    let only : IsOneOf run_statuses 2 = subst (λ x. IsOneOf run_statuses (status_of x)) is cause.only in cc
+
+pub usage_given : {U : Type 0} (words : List (List ℕ)) (config : LiveConfig) (result : Result (Unit {0}) LiveError) (reads reads' writes writes' : ℕ) → command_of words ≡ Some (Run config)
+    → IfErr result (λ e. HasCause run_statuses (status_of e) (reads, reads') (writes, writes')) → UsageError (command_of words) result U
+usage_given words config result reads reads' writes writes' given cause = record {
+  only = λ e. absurd (no_usage result reads reads' writes writes' cause e);
+  always = λ none. let both : Some (Run config) ≡ None = sym given ∙ none in absurd (cc);
+  untouched = λ none. let both : Some (Run config) ≡ None = sym given ∙ none in absurd (cc);
+}
+
+-- the status of wrong words
+is_usage : (error : LiveError) → status_of error ≡ 2 → error ≡ Usage
+is_usage OutOfMemory e = absurd (omega arith)
+is_usage Usage e = refl
+is_usage ReadFault e = absurd (omega arith)
+is_usage WriteFault e = absurd (omega arith)
+is_usage (Script line) e = absurd (omega arith)
+is_usage (TooMany limit) e = absurd (omega arith)
+
+usage_status : (error : LiveError) (status : ℕ) → status ≡ status_of error → IsErrOf {T = Unit {0}} (Err error) Usage ⊎ IsErrOf {T = Unit {0}} (Err error) OutOfMemory → (status ≡ 2) ⊎ (status ≡ 1)
+usage_status error status is (inl usage) = inl (is ∙ ap status_of (let e : error ≡ Usage = cc in e))
+usage_status error status is (inr memory) = inr (is ∙ ap status_of (let e : error ≡ OutOfMemory = cc in e))
+
+pub usage_err : {U : Type 0} (command : Option Command) (error : LiveError) (status : ℕ) → status ≡ status_of error → UsageError command (Err error) U → UsageExactly command status U
+usage_err command error status is usage = record {
+  only = λ two. usage.only (ap Err (is_usage error (sym is ∙ two)));
+  always = λ none. usage_status error status is (usage.always none);
+  untouched = usage.untouched;
+}
+
+usage_never : (command : Option Command) → IsErrOf {T = Unit {0}} (Ok tt) Usage ⊎ IsErrOf {T = Unit {0}} (Ok tt) OutOfMemory → ⊥
+usage_never command (inl e) = cc
+usage_never command (inr e) = cc
+
+pub usage_ok : {U : Type 0} (command : Option Command) → UsageError command (Ok tt) U → UsageExactly command 0 U
+usage_ok command usage = record {
+  only = λ e. absurd (omega arith);
+  always = λ none. absurd (usage_never command (usage.always none));
+  untouched = usage.untouched;
+}
 
 -- a text, and then a front of more
-pub Front-text : (old mid new : Option (List ℕ)) (text written : List ℕ) (pages : List (List ℕ)) → written ≡ text → Appends old mid written → AppendsFront mid new pages → AppendsFront old new (text ∷ pages)
+pub Front-text : (old mid new : Option (List ℕ)) (text written : List ℕ) (pages : List (List ℕ)) → written ≡ text → Appends old mid written → AppendsFront (mid, new) pages → AppendsFront (old, new) (text ∷ pages)
 Front-text old mid new text written pages same whole front =
     AppendsFront-after old mid new (text ∷ []) pages (subst (Appends old mid) (same ∙ sym (append-nil text)) whole) front

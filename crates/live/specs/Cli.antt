@@ -1,55 +1,79 @@
 -- What the whole program answers: a status, by the words and by the session of its input.
-use Rattle.std.specs.Prelude.{◌≡◌, ℕ, List, [], ◌∷◌, ◌+◌, ◌⊎◌, Option, Some, None, nat_eq, true}
-use Rattle.std.specs.List.{list_any}
+use Rattle.std.specs.Prelude.{◌≡◌, ℕ, List, [], ◌∷◌, ◌+◌, ◌⊎◌, Option, Some, None, Result, IsErrOf, String, map, string_bytes}
+use Rattle.std.specs.Option.{option_map}
+use Rattle.std.specs.declared.alloc.Global.{Global}
 use Rattle.live.specs.declared.config.LiveConfig.{LiveConfig}
 use Rattle.live.specs.declared.session.Live.{Live}
 use Rattle.live.specs.declared.fault.LiveError.{LiveError}
-use Rattle.live.specs.Config.{config_of}
-use Rattle.live.specs.Fault.{IsRefusal, status_of}
-use Rattle.live.specs.Run.{Finishes, Stops, TakesAtMost}
+use Rattle.live.specs.declared.fault.LiveError.TheVariants.{OutOfMemory, Usage}
+use Rattle.live.specs.declared.config.Command.{Command}
+use Rattle.live.specs.declared.config.Command.TheVariants.{Run}
+use Rattle.live.specs.Config.{command_of}
+use Rattle.live.specs.Fault.{status_of, text_of}
+use Rattle.live.specs.Run.{Completes, FailsFrom, Finishes, TakesAtMost}
 use Rattle.live.specs.Session.{State, session}
-use Rattle.live.specs.Written.{AppendsFront}
+use Rattle.live.specs.Turn.{Holds}
+use Rattle.live.specs.Written.{AppendsFront, Told}
 
--- the state with the configuration that words give
+-- the texts of words
+abbrev pub texts_of : List (String Global) → List (List ℕ)
+texts_of words = map string_bytes words
+
+-- the state with a configuration
 abbrev pub configured : State → LiveConfig → State
 configured s config = record s { config = config }
 
--- the words give a configuration, and a run from it finished
-pub record FinishesAs (words : List (List ℕ)) (s : State) (live : Live) (left left' old new : Option (List ℕ)) : Type 0 where
-  pub config : LiveConfig
-  pub given : config_of words ≡ Some config
-  pub finishes : Finishes (configured s config) live left left' old new
+-- the state from which a command runs a script
+abbrev pub started : State → Command → State
+started s (Run config) = configured s config
 
--- the words give a configuration, and the session from it is refused with this error
-pub record StopsFor (words : List (List ℕ)) (error : LiveError) (s : State) (all : List ℕ) (live : Live) (old new : Option (List ℕ)) : Type 0 where
-  pub config : LiveConfig
-  pub given : config_of words ≡ Some config
-  pub stops : Stops (session (configured s config) all) error live old new
+-- the same of words, where they give a command
+abbrev pub state_for : List (List ℕ) → State → Option State
+state_for words s = option_map (started s) (command_of words)
 
--- the session is refused with an error of this status
-pub record StopsAs (words : List (List ℕ)) (status : ℕ) (s : State) (all : List ℕ) (live : Live) (old new : Option (List ℕ)) : Type 0 where
+-- a run from the state that the words give finished
+pub record FinishesAs (start : Option State) (live : Live) (left held : Told) : Type 0 where
+  pub state : State
+  pub given : start ≡ Some state
+  pub finishes : Finishes state live left held
+
+-- the session from the state that the words give fails with this error
+abbrev pub FailsFor : Option State → LiveError → Live → Option (List ℕ) → Told → Type 0
+FailsFor start error live left held = (s : State) → start ≡ Some s → FailsFrom s error live left held
+
+-- it fails with an error of this status, from each state that the session held before; and of the error's text and a newline a
+-- front was appended to the second output
+pub record FailsAs (words : List (List ℕ)) (status : ℕ) (lives : Live × Live) (left : Option (List ℕ)) (outputs : Told × Told) : Type 0 where
   pub error : LiveError
   pub told : status_of error ≡ status
-  pub refusal : IsRefusal error
-  pub stops : StopsFor words error s all live old new
-
--- the sink took a front of the pages of the session that the words give
-abbrev pub WritesFor : List (List ℕ) → State → List ℕ → Option (List ℕ) → Option (List ℕ) → Type 0
-WritesFor words s all old new = (config : LiveConfig) → config_of words ≡ Some config → AppendsFront old new (session (configured s config) all).pages
+  pub text : AppendsFront outputs.1 (text_of error ∷ (10 ∷ []) ∷ [])
+  pub fails : (s : State) → Holds lives.0 s → FailsFor (state_for words s) error lives.1 left outputs.0
 
 -- the source gave at most one byte more than the words' limit
-abbrev pub TakesFor : List (List ℕ) → Option (List ℕ) → Option (List ℕ) → Type 0
-TakesFor words left left' = (config : LiveConfig) → config_of words ≡ Some config → TakesAtMost (config.limits.bytes + 1) left left'
+abbrev pub TakesFor : List (List ℕ) → Told → Type 0
+TakesFor words left = (config : LiveConfig) → command_of words ≡ Some (Run config) → TakesAtMost (config.limits.bytes + 1) left
 
--- the statuses of refusals
-abbrev pub IsRefusalStatus : ℕ → Type 0
-IsRefusalStatus status = (status ≡ 5) ⊎ (status ≡ 17)
+-- wrong words: status 2 only and always where the words give no command, unless memory ran out, and then all is as it was
+pub record UsageExactly (command : Option Command) (status : ℕ) (Untouched : Type 0) : Type 0 where
+  pub only : status ≡ 2 → command ≡ None
+  pub always : command ≡ None → (status ≡ 2) ⊎ (status ≡ 1)
+  pub untouched : command ≡ None → Untouched
 
--- all statuses
-abbrev pub IsStatus : ℕ → Type 0
-IsStatus status = list_any (nat_eq status) (0 ∷ 1 ∷ 2 ∷ 3 ∷ 4 ∷ 5 ∷ 17 ∷ []) ≡ true
+-- the same of the error of a call
+pub record UsageError (command : Option Command) (result : Result (Unit {0}) LiveError) (Untouched : Type 0) : Type 0 where
+  pub only : IsErrOf result Usage → command ≡ None
+  pub always : command ≡ None → IsErrOf result Usage ⊎ IsErrOf result OutOfMemory
+  pub untouched : command ≡ None → Untouched
 
--- what a program answers where neither its source nor its sink failed: 0 where the session has no refusal, else that refusal's status, or want of memory
-abbrev pub CompletesAs : Option LiveError → ℕ → Type 0
-CompletesAs None status = (status ≡ 0) ⊎ (status ≡ 1)
-CompletesAs (Some error) status = (status ≡ status_of error) ⊎ (status ≡ 1)
+-- what a call completes where neither its source nor its sink failed: the session from the state that the words give
+abbrev pub CompletesFor : Option State → List ℕ → Result (Unit {0}) LiveError → Type 0
+CompletesFor start all result = (s : State) → start ≡ Some s → Completes (session s all).refusal result
+
+-- the status of a session without faults: 0 where it has no refusal, else that refusal's status, or want of memory
+abbrev pub StatusOf : Option LiveError → ℕ → Type 0
+StatusOf None status = (status ≡ 0) ⊎ (status ≡ 1)
+StatusOf (Some error) status = (status ≡ status_of error) ⊎ (status ≡ 1)
+
+-- what a program answers where neither its source nor its sink failed
+abbrev pub CompletesAs : Option State → List ℕ → ℕ → Type 0
+CompletesAs start all status = (s : State) → start ≡ Some s → StatusOf (session s all).refusal status

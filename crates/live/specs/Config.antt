@@ -3,9 +3,11 @@ use Rattle.std.specs.Prelude.{ℕ, Bool, is_some, ◌^◌, ◌≤◌, ◌&&◌, 
 use Rattle.std.specs.Option.{option_and_then, option_map}
 use Rattle.std.specs.Str.{bytes_eq}
 use Rattle.std.specs.Str.Parse.{digits_value}
+use Rattle.live.specs.declared.config.Command.{Command}
+use Rattle.live.specs.declared.config.Command.TheVariants.{Run}
 use Rattle.live.specs.declared.config.Given.{Given}
 use Rattle.live.specs.declared.config.LiveConfig.{LiveConfig}
-use Rattle.base_text.specs.declared.limits.Limits.{Limits}
+use Rattle.outside.specs.declared.limits.Limits.{Limits}
 
 -- the greatest limits, which hold where no word sets one
 abbrev pub greatest : Limits
@@ -18,6 +20,10 @@ pub record FitsLimits (limits : Limits) : Type 0 where
   pub packages : limits.packages ≤ greatest.packages
   pub targets : limits.targets ≤ greatest.targets
   pub crates : limits.crates ≤ greatest.crates
+
+-- a configuration that a session can have
+pub record Fits (config : LiveConfig) : Type 0 where
+  pub limits : FitsLimits config.limits
 
 -- the number up to a greatest one whose decimal text this is, so that it has no sign and no leading zero
 unfoldable pub number_up_to : ℕ → List ℕ → Option ℕ
@@ -65,3 +71,11 @@ set_by given = record {
 -- the configuration that words give
 unfoldable pub config_of : List (List ℕ) → Option LiveConfig
 config_of words = option_map set_by (with_options nothing_given words)
+
+-- what words ask for: to run a script with the configuration that they give
+abbrev pub command_of : List (List ℕ) → Option Command
+command_of words = option_map Run (config_of words)
+
+-- a command whose configuration a session can have
+abbrev pub FitsCommand : Command → Type 0
+FitsCommand (Run config) = Fits config

@@ -1,7 +1,10 @@
 -- The errors of a run: their numbers, their texts, and which of them a session gives.
-use Rattle.std.specs.Prelude.{◌≡◌, ℕ, List, ◌++◌, codes, decimal}
-use Rattle.base_text.specs.declared.limits.Limit.{Limit}
-use Rattle.base_text.specs.declared.limits.Limit.TheVariants.{Bytes, Paths, Packages, Targets, Crates}
+use Rattle.std.specs.Prelude.{◌≡◌, ℕ, ◌≤◌, true, nat_eq, List, [], ◌∷◌, ◌++◌, codes, decimal}
+use Rattle.std.specs.List.{list_any}
+use Rattle.outside.specs.declared.limits.Limit.{Limit}
+use Rattle.outside.specs.declared.limits.Limit.TheVariants.{Bytes, Paths, Packages, Targets, Crates}
+use Rattle.live.specs.declared.lines.LineError.{LineError}
+use Rattle.live.specs.declared.lines.LineError.TheVariants.{ReadFault as ReadFault', TooMany as TooMany', OutOfMemory as OutOfMemory', Ended}
 use Rattle.live.specs.declared.fault.LiveError.{LiveError}
 use Rattle.live.specs.declared.fault.LiveError.TheVariants.{OutOfMemory, Usage, ReadFault, WriteFault, Script, TooMany}
 
@@ -31,56 +34,36 @@ text_of WriteFault = codes "write fault"
 text_of (Script line) = codes "script line " ++ decimal line
 text_of (TooMany limit) = codes "too many " ++ limit_name limit
 
--- the errors that a session gives, each a refusal of the script
+-- the errors that a session gives, each a refusal of the script: those of status 5 and above
 abbrev pub IsRefusal : LiveError → Type 0
-IsRefusal OutOfMemory = ⊥
-IsRefusal Usage = ⊥
-IsRefusal ReadFault = ⊥
-IsRefusal WriteFault = ⊥
-IsRefusal (Script line) = Unit {0}
-IsRefusal (TooMany limit) = Unit {0}
+IsRefusal error = 5 ≤ status_of error
 
--- the errors that a flush may meet
-abbrev pub IsFlushError : LiveError → Type 0
-IsFlushError OutOfMemory = Unit {0}
-IsFlushError Usage = ⊥
-IsFlushError ReadFault = ⊥
-IsFlushError WriteFault = Unit {0}
-IsFlushError (Script line) = ⊥
-IsFlushError (TooMany limit) = ⊥
+-- a status is one of these
+abbrev pub IsOneOf : List ℕ → ℕ → Type 0
+IsOneOf statuses status = list_any (nat_eq status) statuses ≡ true
 
--- the errors that one event may meet
-abbrev pub IsTurnError : LiveError → Type 0
-IsTurnError OutOfMemory = Unit {0}
-IsTurnError Usage = ⊥
-IsTurnError ReadFault = ⊥
-IsTurnError WriteFault = Unit {0}
-IsTurnError (Script line) = ⊥
-IsTurnError (TooMany limit) = limit ≡ Paths
+-- the statuses of the errors that a flush may give, an event, a line, a run, and a call with words; and all statuses
+abbrev pub flush_statuses : List ℕ
+flush_statuses = 1 ∷ 4 ∷ []
 
--- the errors that a line may meet
-abbrev pub IsLineError : LiveError → Type 0
-IsLineError OutOfMemory = Unit {0}
-IsLineError Usage = ⊥
-IsLineError ReadFault = ⊥
-IsLineError WriteFault = Unit {0}
-IsLineError (Script line) = Unit {0}
-IsLineError (TooMany limit) = limit ≡ Paths
+abbrev pub turn_statuses : List ℕ
+turn_statuses = 1 ∷ 4 ∷ 17 ∷ []
 
--- the errors that a piece of the input may meet
-abbrev pub IsPieceError : LiveError → Type 0
-IsPieceError OutOfMemory = Unit {0}
-IsPieceError Usage = ⊥
-IsPieceError ReadFault = ⊥
-IsPieceError WriteFault = Unit {0}
-IsPieceError (Script line) = Unit {0}
-IsPieceError (TooMany limit) = Unit {0}
+abbrev pub line_statuses : List ℕ
+line_statuses = 1 ∷ 4 ∷ 5 ∷ 17 ∷ []
 
--- the errors that a run may meet
-abbrev pub IsRunError : LiveError → Type 0
-IsRunError OutOfMemory = Unit {0}
-IsRunError Usage = ⊥
-IsRunError ReadFault = Unit {0}
-IsRunError WriteFault = Unit {0}
-IsRunError (Script line) = Unit {0}
-IsRunError (TooMany limit) = Unit {0}
+abbrev pub run_statuses : List ℕ
+run_statuses = 1 ∷ 3 ∷ 4 ∷ 5 ∷ 17 ∷ []
+
+abbrev pub word_statuses : List ℕ
+word_statuses = 1 ∷ 2 ∷ 3 ∷ 4 ∷ 5 ∷ 17 ∷ []
+
+abbrev pub all_statuses : List ℕ
+all_statuses = 0 ∷ word_statuses
+
+-- the error of a run whose line was not given
+abbrev pub fault_of : LineError → LiveError
+fault_of ReadFault' = ReadFault
+fault_of TooMany' = TooMany Bytes
+fault_of OutOfMemory' = OutOfMemory
+fault_of Ended = OutOfMemory

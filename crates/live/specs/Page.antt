@@ -5,7 +5,7 @@ use Rattle.std.specs.Cmp.Lexicographic.{slice_cmp}
 use Rattle.serde_json.specs.Data.{Data, boolean, string, array, object, Items, no_items, item, no_members, member}
 use Rattle.serde_json.specs.View.{items_of}
 use Rattle.serde_json.specs.Written.{compact_text}
-use Rattle.base_text.specs.Sorted.{sorted}
+use Rattle.base_values.specs.Sorted.{sorted}
 use Rattle.std.specs.List.{filter_map}
 use Rattle.std.specs.Option.{option_map}
 use Rattle.vfs_sets.specs.FileSet.{path_of}
@@ -13,8 +13,7 @@ use Rattle.input_db.specs.Database.{Database}
 use Rattle.input_db.specs.Files.{root_of}
 use Rattle.input_db.specs.SourceRoot.{files_in, set_of_root}
 use Rattle.input_db.specs.declared.source_root.SourceRoot.{SourceRoot}
-use Rattle.vfs_core.specs.declared.marks.Mark.{Mark}
-use Rattle.vfs_core.specs.Marks.{live_files}
+use Rattle.vfs_core.specs.VfsPath.{PathContent}
 
 -- a list of texts
 abbrev pub texts_data : List (List ℕ) → Items
@@ -29,17 +28,21 @@ set_data files is_local = object (member (codes "files") (array (texts_data file
 abbrev pub page_data : Items → Items → Data
 page_data crates sets = object (member (codes "crates") (array crates) (member (codes "sets") (array sets) no_members))
 
--- the page of the live files where no project was loaded: no entry, and the last set, which is local
-unfoldable pub page : List (List ℕ) → List ℕ
-page files = compact_text (page_data no_items (item (set_data files true) no_items)) ++ 10 ∷ []
+-- what a flush brings into the database: the files that live, each with its text
+pub record Flush : Type 0 where
+  pub files : List (PathContent × List ℕ)
 
 -- texts in ascending order of their bytes
 abbrev pub sorted_texts : List (List ℕ) → List (List ℕ)
 sorted_texts texts = sorted (slice_cmp nat_cmp) texts
 
--- the paths of the live files in order
-abbrev pub live_paths : List Mark → List (List ℕ)
-live_paths marks = sorted_texts (map (λ f. f.0.text) (live_files marks))
+-- the paths of a flush's files in order
+abbrev pub flush_paths : Flush → List (List ℕ)
+flush_paths flush = sorted_texts (map (λ f. f.0.text) flush.files)
+
+-- the page of a flush where no project was loaded: no entry, and the last set, which is local
+unfoldable pub page : Flush → List ℕ
+page flush = compact_text (page_data no_items (item (set_data (flush_paths flush) true) no_items)) ++ 10 ∷ []
 
 -- the numbers of the source roots that the lists of a database name, in order
 abbrev pub numbers_listed : Database → List ℕ

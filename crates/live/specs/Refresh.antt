@@ -6,9 +6,9 @@ use Rattle.std.specs.Option.{option_and_then}
 use Rattle.std.specs.Str.{is_utf8}
 use Rattle.vfs_core.specs.declared.changed_file.Change.{Change}
 use Rattle.vfs_core.specs.declared.changed_file.ChangedFile.{ChangedFile}
-use Rattle.vfs_core.specs.Files.{existing}
+use Rattle.vfs_core.specs.Files.{existing_files}
 use Rattle.vfs_core.specs.Texts.{contents_left}
-use Rattle.vfs_sets.specs.FileSet.{Files}
+use Rattle.vfs_sets.specs.FileSet.{FileSetContent}
 use Rattle.vfs_sets.specs.Partition.{IsPartition}
 use Rattle.input_db.specs.Change.{IsChanged, fits_file}
 use Rattle.input_db.specs.Files.{Held}
@@ -31,14 +31,14 @@ changes_taken files roots batch =
     map (λ entry. (entry.0, text_left entry.1.change)) (filter (λ entry. fits_file files roots entry.0) batch)
 
 -- the source roots where no project was loaded: each set is a local one
-abbrev pub local_roots : List Files → List SourceRoot
+abbrev pub local_roots : List FileSetContent → List SourceRoot
 local_roots sets = map local_root sets
 
 -- the sets of the files that exist, and those changes whose file is in one or has a root already, are in the database, and the
 -- changes are taken. All else is as it was
 pub record Refreshes (old new : Live) : Type 0 where
-  pub sets : List Files
-  pub partition : IsPartition [] (existing old.files) sets
+  pub sets : List FileSetContent
+  pub partition : IsPartition [] (existing_files old.files) sets
   pub change : FileChange
   pub roots : change.roots ≡ Some (local_roots sets)
   pub taken : change.files_changed ≡ changes_taken old.db.files (local_roots sets) old.files.batch
@@ -46,4 +46,5 @@ pub record Refreshes (old new : Live) : Type 0 where
   pub changed : IsChanged change old.db new.db
   pub config : new.config ≡ old.config
   pub ended : new.ended ≡ old.ended
+  pub texts : new.texts ≡ old.texts
   pub files : new.files ≡ record old.files { batch = [] }

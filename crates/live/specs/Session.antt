@@ -1,27 +1,33 @@
 -- The session: what a script does, line by line, to a state, which pages it writes, and what it refuses.
-use Rattle.std.specs.Prelude.{ℕ, Bool, List, [], ◌∷◌, ◌++◌, Option, Some, None, length, take, unwrap_or, nat_le, nat_lt, ◌||◌, ◌+◌, if◌then◌else◌}
+use Rattle.std.specs.Prelude.{ℕ, Bool, true, List, [], ◌∷◌, ◌++◌, Option, Some, None, length, take, unwrap_or, nat_le, nat_lt, ◌||◌, ◌+◌, if◌then◌else◌}
 use Rattle.std.specs.List.{fold, list_any}
-use Rattle.base_text.specs.declared.limits.Limit.TheVariants.{Bytes, Paths}
-use Rattle.vfs_core.specs.VfsPath.{Place, place_eq}
+use Rattle.outside.specs.declared.limits.Limit.TheVariants.{Bytes, Paths}
+use Rattle.vfs_core.specs.VfsPath.{PathContent, vfs_path_eq}
 use Rattle.vfs_core.specs.declared.marks.Mark.{Mark}
 use Rattle.vfs_core.specs.declared.marks.MarkKind.{MarkKind}
 use Rattle.vfs_core.specs.declared.marks.MarkKind.TheVariants.{Out}
-use Rattle.vfs_core.specs.Marks.{mentioned}
+use Rattle.vfs_core.specs.Marks.{live_files, mentioned_paths}
 use Rattle.vfs_core.specs.Files.{kind_of}
 use Rattle.live.specs.declared.config.LiveConfig.{LiveConfig}
 use Rattle.live.specs.declared.event.Event.{Event}
-use Rattle.live.specs.declared.event.Event.TheVariants.{Exclude, File, Flush}
+use Rattle.live.specs.declared.event.Event.TheVariants.{Exclude, File, Flush as FlushEvent}
 use Rattle.live.specs.declared.fault.LiveError.{LiveError}
 use Rattle.live.specs.declared.fault.LiveError.TheVariants.{Script, TooMany}
 use Rattle.live.specs.Event.{event}
 use Rattle.live.specs.Lines.{script_lines, whole_lines}
-use Rattle.live.specs.Page.{page, live_paths}
+use Rattle.live.specs.Page.{Flush, page}
 
--- what a session knows: its configuration, what was said of files (newest first), and whether it has ended
+-- what a session knows: its configuration, what was said of files (newest first), what the last flush brought into the
+-- database, if there was one, and whether it has ended
 pub record State : Type 0 where
   pub config : LiveConfig
   pub marks : List Mark
+  pub flushed : Option Flush
   pub ended : Bool
+
+-- the state after it has ended
+abbrev pub ended_state : State → State
+ended_state s = record s { ended = true }
 
 -- what one event makes: the state after it, the pages that it writes, and its refusal
 pub record Turn : Type 0 where
@@ -38,20 +44,34 @@ abbrev pub refuses : State → LiveError → Turn
 refuses s error = record { state = s; pages = []; refusal = Some error }
 
 -- whether a path has a number, or there is room for one more
-abbrev pub has_room : State → Place → Bool
-has_room s path = list_any (place_eq path) (mentioned s.marks) || nat_lt (length (mentioned s.marks)) s.config.limits.paths
+abbrev pub has_room : State → PathContent → Bool
+has_room s path = list_any (vfs_path_eq path) (mentioned_paths s.marks) || nat_lt (length (mentioned_paths s.marks)) s.config.limits.paths
 
 -- what is said of a path that has room
-abbrev pub marked : State → Place → MarkKind → Turn
+abbrev pub marked : State → PathContent → MarkKind → Turn
 marked s path kind =
     if has_room s path then takes (record s { marks = record { path = path; kind = kind } ∷ s.marks }) []
     else refuses s (TooMany Paths)
+
+-- what a flush brings into the database: the files that live
+abbrev pub flush_of : State → Flush
+flush_of s = record { files = live_files s.marks }
+
+-- a flush writes one page, and is the last flush from then on
+abbrev pub flush_turn : State → Turn
+flush_turn s = takes (record s { flushed = Some (flush_of s) }) (page (flush_of s) ∷ [])
 
 -- one event
 unfoldable pub turn : State → Event → Turn
 turn s (File path text) = marked s path (kind_of text)
 turn s (Exclude path) = marked s path Out
-turn s Flush = takes s (page (live_paths s.marks) ∷ [])
+turn s FlushEvent = flush_turn s
+
+-- the state after an event that failed with nothing else said: a flush ends the session
+abbrev pub state_after_failure : State → Event → State
+state_after_failure s (File path text) = s
+state_after_failure s (Exclude path) = s
+state_after_failure s FlushEvent = ended_state s
 
 -- the line of this number: its event's turn, and a line that is no event is refused
 abbrev pub turn_of : State → ℕ → Option Event → Turn
@@ -92,4 +112,6 @@ refused_by o error = record o { refusal = Some (unwrap_or o.refusal error) }
 
 -- the session of a state and the bytes of a script
 unfoldable pub session : State → List ℕ → Outcome
-session s bytes = if nat_le (length bytes) s.config.limits.bytes then turns s (script_lines bytes) else refused_by (turns s (whole_lines (take s.config.limits.bytes bytes))) (TooMany Bytes)
+session s bytes =
+    if nat_le (length bytes) s.config.limits.bytes then turns s (script_lines bytes)
+    else refused_by (turns s (whole_lines (take s.config.limits.bytes bytes))) (TooMany Bytes)

@@ -1,67 +1,96 @@
 -- When a `Live` holds a state, and what one step does to both: the state's parts, one clause each.
-use Rattle.std.specs.Prelude.{◌≡◌, ℕ, true, false, List, [], Option, Some, None}
+use Rattle.std.specs.Prelude.{◌≡◌, ℕ, ◌≤◌, Bool, true, false, List, [], Option, Some, None, Result, Ok, Err}
 use Rattle.std.specs.Str.{is_utf8}
 use Rattle.std.specs.Option.{option_map}
-use Rattle.vfs_core.specs.Files.{Follows}
+use Rattle.std.specs.Io.KnownBytes.{Appends}
 use Rattle.vfs_core.specs.Texts.{BringsTo, all_pass}
 use Rattle.input_db.specs.Database.{Database}
 use Rattle.input_db.specs.Files.{text_of}
 use Rattle.live.specs.declared.session.Live.{Live}
+use Rattle.live.specs.declared.event.Event.{Event}
+use Rattle.live.specs.declared.event.Event.TheVariants.{Flush as FlushEvent}
 use Rattle.live.specs.declared.fault.LiveError.{LiveError}
-use Rattle.live.specs.Written.{AppendsPages}
+use Rattle.live.specs.declared.fault.LiveError.TheVariants.{WriteFault}
 use Rattle.live.specs.declared.fault.StepError.{StepError}
 use Rattle.live.specs.declared.fault.StepError.TheVariants.{Refused, Ended}
-use Rattle.live.specs.Config.{greatest}
-use Rattle.live.specs.Fault.{IsTurnError}
-use Rattle.live.specs.Session.{State, Turn}
+use Rattle.live.specs.Config.{nothing_given, set_by}
+use Rattle.live.specs.Fault.{IsRefusal, turn_statuses}
+use Rattle.live.specs.Image.{ShowsFlush, image, shape}
+use Rattle.live.specs.LiveTexts.{KeepsTexts}
+use Rattle.live.specs.Session.{State, Turn, flush_of, state_after_failure, turn}
+use Rattle.live.specs.Written.{AppendsFront, AppendsPages, AppendsProperFront, Counts, HasWriteCause, Told}
 
 -- the texts that a database knows
 abbrev pub texts_known : Database → ℕ → Option (List ℕ)
 texts_known db file = option_map (λ text. text.text) (text_of db.files file)
 
--- a session holds a state: its files follow the marks, and what has changed of them since the last flush brings the texts of
--- the database to those that live
+-- the database of a session shows what the last flush brought into it, and the changes of files since then bring its texts to
+-- those that live, each of which is a text
+pub record IsCurrent (live : Live) (s : State) : Type 0 where
+  pub brings : BringsTo live.files (texts_known live.db) s.marks
+  pub valid : all_pass is_utf8 live.files.batch ≡ true
+  pub shown : ShowsFlush live.db s.flushed
+
+-- a session holds a state: its files and their texts are those of the marks, and until the session ends its database is
+-- current
 pub record Holds (live : Live) (s : State) : Type 0 where
   pub config : live.config ≡ s.config
   pub limit : live.files.limit ≡ s.config.limits.paths
-  pub files : Follows live.files s.marks
-  pub brings : BringsTo live.files (texts_known live.db) s.marks
-  pub texts : all_pass is_utf8 live.files.batch ≡ true
+  pub texts : KeepsTexts live.files live.texts s.marks
   pub ended : live.ended ≡ s.ended
+  pub database : s.ended ≡ false → IsCurrent live s
 
--- an earlier flush was refused
+-- a flush was refused, or its page was not written whole
 abbrev pub HasEnded : Live → Type 0
 HasEnded live = live.ended ≡ true
 
--- a turn that is not refused was taken: the state after it is held, and its page was appended
-pub record TakesTurn (t : Turn) (live : Live) (old new : Option (List ℕ)) : Type 0 where
-  pub accepted : t.refusal ≡ None
-  pub holds : Holds live t.state
-  pub appended : AppendsPages old new t.pages
-
--- a turn that is refused with this error: the state after it is held, and its pages, which are none, were appended
-pub record RefusesTurn (t : Turn) (error : LiveError) (live : Live) (old new : Option (List ℕ)) : Type 0 where
-  pub refused : t.refusal ≡ Some error
-  pub holds : Holds live t.state
-  pub appended : AppendsPages old new t.pages
-
--- the errors that a step may answer
-abbrev pub IsStepError : StepError → Type 0
-IsStepError (Refused error) = IsTurnError error
-IsStepError Ended = Unit {0}
-
--- before the first event
+-- before the first event: the configuration is that of no words
 abbrev pub first_state : State
-first_state = record { config = record { limits = greatest }; marks = []; ended = false }
+first_state = record { config = set_by nothing_given; marks = []; flushed = None; ended = false }
 
--- a file that was said of: the state after it is held, and there is no page
-pub record PutsFile (t : Turn) (live : Live) : Type 0 where
+-- a turn that is not refused was taken: the state after it is held, and its pages were appended
+pub record TakesTurn (t : Turn) (live : Live) (held : Told) : Type 0 where
   pub accepted : t.refusal ≡ None
   pub holds : Holds live t.state
-  pub silent : t.pages ≡ []
+  pub appended : AppendsPages held t.pages
 
--- a file that was refused with this error
-pub record RefusesFile (t : Turn) (error : LiveError) (live : Live) : Type 0 where
+-- a turn that is refused with this error: the state after it is held, and its pages were appended
+pub record RefusesTurn (t : Turn) (error : LiveError) (live : Live) (held : Told) : Type 0 where
   pub refused : t.refusal ≡ Some error
   pub holds : Holds live t.state
-  pub silent : t.pages ≡ []
+  pub appended : AppendsPages held t.pages
+
+-- an error ends a turn: a front of its pages was appended, not all of them after a write fault, and a refusal is the turn's own
+pub record FailsTurn (t : Turn) (error : LiveError) (live : Live) (held : Told) : Type 0 where
+  pub written : AppendsFront held t.pages
+  pub cut : error ≡ WriteFault → AppendsProperFront held t.pages
+  pub refused : IsRefusal error → RefusesTurn t error live held
+
+-- and the session holds the state that the failure leaves
+pub record EndsTurn (t : Turn) (left : State) (error : LiveError) (live : Live) (held : Told) : Type 0 where
+  pub fails : FailsTurn t error live held
+  pub holds : Holds live left
+
+-- an error of a step: the turn failed with it, or the session had ended and nothing was done
+abbrev pub FailsStep : State → Event → StepError → Live → Told → Type 0
+FailsStep s event (Refused error) live held = EndsTurn (turn s event) (state_after_failure s event) error live held
+FailsStep s event Ended live held = Holds live s × Appends held.0 held.1 []
+
+-- the result of a step as that of its turn
+abbrev pub HasStepCause : Result (Unit {0}) StepError → Counts → Type 0
+HasStepCause (Ok done) writes = HasWriteCause (Ok done) turn_statuses writes
+HasStepCause (Err (Refused error)) writes = HasWriteCause {T = Unit {0}} (Err error) turn_statuses writes
+HasStepCause (Err Ended) writes = writes.0 ≤ writes.1
+
+-- what a step leaves as it was: the configuration; the database, unless it is a flush; all, where it fails and is no flush; and
+-- whether the session has ended, where it succeeds. A flush that fails ends the session
+pub record LeavesAsWas (event : Event) (failed : Bool) (old new : Live) : Type 0 where
+  pub config : new.config ≡ old.config
+  pub database : (event ≡ FlushEvent → ⊥) → new.db ≡ old.db
+  pub all : failed ≡ true → (event ≡ FlushEvent → ⊥) → new ≡ old
+  pub going : failed ≡ false → new.ended ≡ old.ended
+  pub ends : failed ≡ true → event ≡ FlushEvent → HasEnded new
+
+-- after a flush the database shows the shape of the files that live
+pub record ShowsShape (live : Live) (s : State) : Type 0 where
+  pub shows : image live.db live.files ≡ shape (flush_of s)

@@ -1,14 +1,42 @@
--- What a sink took of the pages of a session: all of them, or a front.
-use Rattle.std.specs.Prelude.{ℕ, ◌≤◌, List, Option, length, take}
+-- What a sink took of the pages of a session, all of them or a front, and whether faults were counted.
+use Rattle.std.specs.Prelude.{◌≡◌, ℕ, ◌<◌, ◌≤◌, List, Option, Result, IfErr, IsErrOf, length, take}
 use Rattle.std.specs.List.{concat}
 use Rattle.std.specs.Io.KnownBytes.{Appends}
+use Rattle.outside.specs.Causes.{Rose}
+use Rattle.outside.specs.declared.limits.Limit.{Limit}
+use Rattle.outside.specs.declared.limits.Limit.TheVariants.{Paths}
+use Rattle.live.specs.declared.fault.LiveError.{LiveError}
+use Rattle.live.specs.declared.fault.LiveError.TheVariants.{TooMany, WriteFault}
+use Rattle.live.specs.Fault.{IsOneOf, status_of}
+
+-- the bytes that a stream tells before a call, and after it: those left to read, or those written
+abbrev pub Told : Type 0
+Told = Option (List ℕ) × Option (List ℕ)
+
+-- how many faults a stream counted before a call, and after it
+abbrev pub Counts : Type 0
+Counts = ℕ × ℕ
 
 -- the sink took these pages, whole and in order, and nothing else
-abbrev pub AppendsPages : Option (List ℕ) → Option (List ℕ) → List (List ℕ) → Type 0
-AppendsPages old new pages = Appends old new (concat pages)
+abbrev pub AppendsPages : Told → List (List ℕ) → Type 0
+AppendsPages held pages = Appends held.0 held.1 (concat pages)
 
 -- the sink took a front of these pages
-pub record AppendsFront (old new : Option (List ℕ)) (pages : List (List ℕ)) : Type 0 where
+pub record AppendsFront (held : Told) (pages : List (List ℕ)) : Type 0 where
   pub count : ℕ
   pub within : count ≤ length (concat pages)
-  pub front : Appends old new (take count (concat pages))
+  pub front : Appends held.0 held.1 (take count (concat pages))
+
+-- the sink took a front of these pages, and not all of them
+pub record AppendsProperFront (held : Told) (pages : List (List ℕ)) : Type 0 where
+  pub count : ℕ
+  pub short : count < length (concat pages)
+  pub front : Appends held.0 held.1 (take count (concat pages))
+
+-- an error has one of these statuses, the only limit is that of paths, and the sink's count of faults, which does not fall,
+-- rose where it is a write fault
+pub record HasWriteCause {T : Type 0} (result : Result T LiveError) (statuses : List ℕ) (writes : Counts) : Type 0 where
+  pub later : writes.0 ≤ writes.1
+  pub only : IfErr result (λ error. IsOneOf statuses (status_of error))
+  pub write : IsErrOf result WriteFault → Rose writes.0 writes.1
+  pub paths : (limit : Limit) → IsErrOf result (TooMany limit) → limit ≡ Paths

@@ -1,19 +1,15 @@
 //! The program as one call: words, a source and two sinks in, a status out.
 
-ghost use Rattle.std.specs.Prelude.{◌≡◌, ◌⊎◌, ◌∷◌, [], ℕ, List, Option, Some, None, IfErr, OnErr, OnOk, map, string_bytes};
-ghost use Rattle.std.specs.Result.{IsErrOf};
-ghost use Rattle.base_text.specs.Causes.{Rose};
-ghost use Rattle.live.specs.Cli.{CompletesAs, FinishesAs, IsRefusalStatus, IsStatus, StopsAs, StopsFor, TakesFor, WritesFor, configured};
-ghost use Rattle.live.specs.Config.{config_of};
-ghost use Rattle.live.specs.Fault.{IsRefusal, text_of};
-ghost use Rattle.live.specs.Run.{Completes};
-ghost use Rattle.live.specs.Session.{State, session};
+ghost use Rattle.std.specs.Prelude.{◌≡◌, ◌∷◌, [], ℕ, List, IfErr, OnOk};
+ghost use Rattle.live.specs.Cli.{CompletesAs, CompletesFor, FailsAs, FailsFor, FinishesAs, TakesFor, UsageError, UsageExactly, state_for, texts_of};
+ghost use Rattle.live.specs.Config.{command_of};
+ghost use Rattle.live.specs.Fault.{all_statuses, status_of, text_of, word_statuses};
+ghost use Rattle.live.specs.Run.{HasCause, IsFaultless};
+ghost use Rattle.live.specs.Session.{State};
 ghost use Rattle.live.specs.Turn.{HasEnded, Holds};
 ghost use Rattle.live.specs.Written.{AppendsFront};
-ghost use Rattle.live.specs.declared.config.LiveConfig.{LiveConfig};
-ghost use Rattle.live.specs.declared.fault.LiveError.TheVariants.{OutOfMemory, ReadFault, Usage, WriteFault};
 
-use crate::config::{LiveConfig, WordsError};
+use crate::config::{Command, WordsError};
 use crate::fault::{LiveError, fault_text};
 use crate::run::live_run;
 use crate::session::Live;
@@ -31,33 +27,18 @@ pub fn live_cli<S: ByteSource, K: ByteSink, E: ByteSink>(
     err: &mut E,
 ) -> u8
     requires { ¬ HasEnded live.old }
-    ensures ok { result ≡ 0 → (s : State) → Holds live.old s
-        → FinishesAs (map string_bytes words.now) s live.new
-        (S.left input.old) (S.left input.new) (K.held out.old) (K.held out.new) }
-    ensures refused { IsRefusalStatus result → (s : State) → Holds live.old s
-        → (all : List ℕ) → S.left input.old ≡ Some all
-        → StopsAs (map string_bytes words.now) result s all live.new (K.held out.old) (K.held out.new) }
-
-    // Other statuses have their causes.
-    ensures usage_only { result ≡ 2 → config_of (map string_bytes words.now) ≡ None }
-    ensures usage { config_of (map string_bytes words.now) ≡ None → (result ≡ 2) ⊎ (result ≡ 1) }
-    ensures read { result ≡ 3 → Rose (S.faults input.old) (S.faults input.new) }
-    ensures write { result ≡ 4 → Rose (K.faults out.old) (K.faults out.new) }
-    ensures only { IsStatus result }
-
-    // What stands after wrong words, and what was written and taken.
-    ensures untouched { config_of (map string_bytes words.now) ≡ None
-        → (live.new ≡ live.old) × (input.new ≡ input.old) × (out.new ≡ out.old) }
-    ensures written { (s : State) → Holds live.old s → (all : List ℕ) → S.left input.old ≡ Some all
-        → (result ≡ 0) ⊎ WritesFor (map string_bytes words.now) s all (K.held out.old) (K.held out.new) }
-    ensures taken { (s : State) → Holds live.old s
-        → TakesFor (map string_bytes words.now) (S.left input.old) (S.left input.new) }
-    ensures complete { (s : State) → Holds live.old s
-        → (all : List ℕ) → S.left input.old ≡ Some all
-        → ¬ Rose (S.faults input.old) (S.faults input.new)
-        → ¬ Rose (K.faults out.old) (K.faults out.new)
-        → (config : LiveConfig) → config_of (map string_bytes words.now) ≡ Some config
-        → CompletesAs (session (configured s config) all).refusal result }
+    ensures ok { result ≡ 0 → (s : State) → Holds live.old s → FinishesAs (state_for (texts_of words.now) s)
+        live.new (S.left input.old, S.left input.new) (K.held out.old, K.held out.new) }
+    ensures err { ¬ (result ≡ 0) → FailsAs (texts_of words.now) result (live.old, live.new)
+        (S.left input.old) ((K.held out.old, K.held out.new), (E.held err.old, E.held err.new)) }
+    ensures cause { HasCause all_statuses result
+        (S.faults input.old, S.faults input.new) (K.faults out.old, K.faults out.new) }
+    ensures usage { UsageExactly (command_of (texts_of words.now)) result
+        ((live.new ≡ live.old) × (input.new ≡ input.old) × (out.new ≡ out.old)) }
+    ensures taken { TakesFor (texts_of words.now) (S.left input.old, S.left input.new) }
+    ensures complete { (s : State) → Holds live.old s → (all : List ℕ)
+        → IsFaultless (S.left input.old) all (S.faults input.old, S.faults input.new) (K.faults out.old, K.faults out.new)
+        → CompletesAs (state_for (texts_of words.now) s) all result }
 {
     match run_words(alloc, words, live, input, out) {
         Ok(()) => 0,
@@ -77,46 +58,31 @@ fn run_words<S: ByteSource, K: ByteSink>(
     out: &mut K,
 ) -> Result<(), LiveError>
     requires { ¬ HasEnded live.old }
-    ensures ok { OnOk result ((s : State) → Holds live.old s
-        → FinishesAs (map string_bytes words.now) s live.new
-        (S.left input.old) (S.left input.new) (K.held out.old) (K.held out.new)) }
-    ensures refused { IfErr result (λ e. IsRefusal e → (s : State) → Holds live.old s
-        → (all : List ℕ) → S.left input.old ≡ Some all
-        → StopsFor (map string_bytes words.now) e s all live.new (K.held out.old) (K.held out.new)) }
-    ensures usage_only { IsErrOf result Usage → config_of (map string_bytes words.now) ≡ None }
-    ensures usage { config_of (map string_bytes words.now) ≡ None
-        → IsErrOf result Usage ⊎ IsErrOf result OutOfMemory }
-    ensures read { IsErrOf result ReadFault → Rose (S.faults input.old) (S.faults input.new) }
-    ensures write { IsErrOf result WriteFault → Rose (K.faults out.old) (K.faults out.new) }
-    ensures untouched { config_of (map string_bytes words.now) ≡ None
-        → (live.new ≡ live.old) × (input.new ≡ input.old) × (out.new ≡ out.old) }
-    ensures written { OnErr result ((s : State) → Holds live.old s
-        → (all : List ℕ) → S.left input.old ≡ Some all
-        → WritesFor (map string_bytes words.now) s all (K.held out.old) (K.held out.new)) }
-    ensures taken { (s : State) → Holds live.old s
-        → TakesFor (map string_bytes words.now) (S.left input.old) (S.left input.new) }
-    ensures complete { (s : State) → Holds live.old s
-        → (all : List ℕ) → S.left input.old ≡ Some all
-        → ¬ Rose (S.faults input.old) (S.faults input.new)
-        → ¬ Rose (K.faults out.old) (K.faults out.new)
-        → (config : LiveConfig) → config_of (map string_bytes words.now) ≡ Some config
-        → Completes (session (configured s config) all).refusal result }
+    ensures ok { OnOk result ((s : State) → Holds live.old s → FinishesAs (state_for (texts_of words.now) s)
+        live.new (S.left input.old, S.left input.new) (K.held out.old, K.held out.new)) }
+    ensures err { IfErr result (λ e. (s : State) → Holds live.old s
+        → FailsFor (state_for (texts_of words.now) s) e live.new (S.left input.old) (K.held out.old, K.held out.new)) }
+    ensures cause { IfErr result (λ e. HasCause word_statuses (status_of e)
+        (S.faults input.old, S.faults input.new) (K.faults out.old, K.faults out.new)) }
+    ensures usage { UsageError (command_of (texts_of words.now)) result
+        ((live.new ≡ live.old) × (input.new ≡ input.old) × (out.new ≡ out.old)) }
+    ensures taken { TakesFor (texts_of words.now) (S.left input.old, S.left input.new) }
+    ensures complete { (s : State) → Holds live.old s → (all : List ℕ)
+        → IsFaultless (S.left input.old) all (S.faults input.old, S.faults input.new) (K.faults out.old, K.faults out.new)
+        → CompletesFor (state_for (texts_of words.now) s) all result }
 {
-    let config = match LiveConfig::of_words(alloc, words) {
-        Ok(config) => config,
+    let command = match Command::of_words(alloc, words) {
+        Ok(command) => command,
         Err(WordsError::Usage) => return Err(LiveError::Usage),
         Err(WordsError::OutOfMemory) => return Err(LiveError::OutOfMemory),
     };
-    live.configure(config);
-    match live_run(alloc, live, input, out) {
-        Ok(()) => Ok(()),
-        Err(error) => Err(error),
-    }
+    live.configure(command.into_config());
+    live_run(alloc, live, input, out)
 }
 
 /// Writes the text of an error and a newline, as far as `err` takes them and there is memory for the text.
 pub fn tell<E: ByteSink>(alloc: Global, error: &LiveError, err: &mut E)
-    ensures { AppendsFront (E.held err.old) (E.held err.new) (text_of error.now ∷ (10 ∷ []) ∷ []) }
+    ensures { AppendsFront (E.held err.old, E.held err.new) (text_of error.now ∷ (10 ∷ []) ∷ []) }
 {
     let text = match fault_text(alloc, error) {
         Ok(text) => text,
@@ -130,7 +96,7 @@ pub fn tell<E: ByteSink>(alloc: Global, error: &LiveError, err: &mut E)
 
 // Writes a newline, where the sink takes it.
 fn end_line<E: ByteSink>(err: &mut E)
-    ensures { AppendsFront (E.held err.old) (E.held err.new) ((10 ∷ []) ∷ []) }
+    ensures { AppendsFront (E.held err.old, E.held err.new) ((10 ∷ []) ∷ []) }
 {
     let _ = write_all(err, b"\n");
 }

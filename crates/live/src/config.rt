@@ -1,7 +1,8 @@
 //! What the words of the command line set.
 
 ghost use Rattle.std.specs.Prelude.{◌≡◌, ◌≤◌, ◌↔◌, IfOk, IsErrOf, IsTrue, map, string_bytes, Some, None};
-ghost use Rattle.live.specs.Config.{FitsGiven, FitsLimits, config_of, nothing_given, number_up_to, once, set_by, with_option, with_options};
+ghost use Rattle.live.specs.declared.config.Command.TheVariants.{Run};
+ghost use Rattle.live.specs.Config.{Fits, FitsCommand, FitsGiven, command_of, config_of, nothing_given, number_up_to, once, set_by, with_option, with_options};
 
 use base_text::Limits;
 use std::alloc::Global;
@@ -16,8 +17,38 @@ pub enum WordsError {
     OutOfMemory,
 }
 
+/// What the words of a command line ask for.
+#[derive(Debug, PartialEq, Eq, Drop)]
+pub enum Command {
+    /// To run a script with this configuration.
+    Run(LiveConfig),
+}
+
+impl Command {
+    /// The command that the words give. Words that are no options give none.
+    pub fn of_words(alloc: Global, words: &[String]) -> Result<Command, WordsError>
+        ensures ok { IfOk result (λ command. command_of (map string_bytes words.now) ≡ Some command) }
+        ensures fits { IfOk result FitsCommand }
+        ensures usage { IsErrOf result WordsError.Usage → command_of (map string_bytes words.now) ≡ None }
+    {
+        match LiveConfig::of_words(alloc, words) {
+            Ok(config) => Ok(Command::Run(config)),
+            Err(error) => Err(error),
+        }
+    }
+
+    /// The configuration of the session that the command works on.
+    pub fn into_config(self) -> LiveConfig
+        ensures { self ≡ Run result }
+    {
+        match self {
+            Command::Run(config) => config,
+        }
+    }
+}
+
 /// The configuration of a session.
-#[derive(Clone, Copy, Debug, PartialEq, Eq)]
+#[derive(Debug, PartialEq, Eq, Drop)]
 pub struct LiveConfig {
     pub limits: Limits,
 }
@@ -27,7 +58,7 @@ impl LiveConfig {
     /// The configuration that the words give.
     pub fn of_words(alloc: Global, words: &[String]) -> Result<LiveConfig, WordsError>
         ensures ok { IfOk result (λ config. config_of (map string_bytes words.now) ≡ Some config) }
-        ensures fits { IfOk result (λ config. FitsLimits config.limits) }
+        ensures fits { IfOk result Fits }
         ensures usage { IsErrOf result WordsError.Usage → config_of (map string_bytes words.now) ≡ None }
     {
         match read_options(alloc, words) {
@@ -38,7 +69,7 @@ impl LiveConfig {
 
     /// Whether no limit is above its greatest value.
     pub fn fits(&self) -> bool
-        ensures { IsTrue result ↔ FitsLimits self.now.limits }
+        ensures { IsTrue result ↔ Fits self.now }
     {
         let greatest = Limits::greatest();
         self.limits.bytes <= greatest.bytes
@@ -86,7 +117,7 @@ impl Given {
     fn config(self) -> LiveConfig
         requires { FitsGiven self }
         ensures set { result ≡ set_by self }
-        ensures fits { FitsLimits result.limits }
+        ensures fits { Fits result }
     {
         let greatest = Limits::greatest();
         LiveConfig {

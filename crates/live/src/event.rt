@@ -1,15 +1,12 @@
 //! Events: what a script line says.
 
-ghost use Rattle.std.specs.Prelude.{◌≡◌, IfOk, IfSome, codes, option_map};
-ghost use Rattle.std.specs.Str.{IsUtf8};
-ghost use Rattle.vfs_core.specs.Files.{bytes_of};
-ghost use Rattle.serde_json.specs.Find.{get};
-ghost use Rattle.serde_json.specs.View.{view};
-ghost use Rattle.live.specs.Event.{Tells, content_of, event, event_of, exclude_of, file_of, place_at, text_at};
+ghost use Rattle.json_fields.specs.Outcome.{Gives};
+ghost use Rattle.serde_json.specs.View.{members_view};
+ghost use Rattle.live.specs.Event.{Answers, event, exclude_at, file_at, path_under, real_path};
 
-use crate::floats::has_float;
 use base_text::{PathError, Text, TryClone};
-use serde_json::Value;
+use json_fields::{ReadError, ReadJson, members, missed, of_bytes, optional, required};
+use serde_json::{Map, Value};
 use std::alloc::{AllocError, Global};
 use thiserror::Error;
 use vfs_core::VfsPath;
@@ -21,17 +18,6 @@ pub enum EventError {
     Refused,
     #[error("OutOfMemory")]
     OutOfMemory,
-}
-
-impl From<AllocError> for EventError {
-    ghost use Rattle.std.specs.Prelude.{◌≡◌};
-    ghost use Rattle.live.specs.declared.event.EventError.TheVariants.{OutOfMemory};
-
-    ghost from_gives = { λ _ e. e ≡ OutOfMemory };
-
-    fn from(_error: AllocError) -> Self {
-        EventError::OutOfMemory
-    }
 }
 
 /// One line of a script.
@@ -46,7 +32,14 @@ pub enum Event {
 }
 
 impl TryClone for Event {
-    fn try_clone(&self, alloc: Global) -> Result<Self, AllocError> {
+    ghost use Rattle.std.specs.Prelude.{◌≡◌, IfOk, OnErr};
+    ghost use Rattle.live.specs.declared.event.Event.TheVariants.{Flush};
+
+    // A copy of a flush takes no memory.
+    fn try_clone(&self, alloc: Global) -> Result<Self, AllocError>
+        ensures same { IfOk result (λ copy. copy ≡ self.now) }
+        ensures flush { OnErr result (self.now ≡ Flush → ⊥) }
+    {
         match self {
             Event::File { path, text } => {
                 let path = path.try_clone(alloc)?;
@@ -66,98 +59,69 @@ impl Event {
     #[tactic(auto, unfolding(crate::specs::Event::event))]
     /// The event of a line, which has no newline. White space of JSON may stand around it.
     pub fn of_line(alloc: Global, line: &[u8]) -> Result<Event, EventError>
-        ensures { Tells result (event line.now) }
+        ensures { Answers result (event line.now) }
     {
-        match Value::from_slice(alloc, line) {
-            Ok(value) => of_value(alloc, &value),
-            Err(error) => {
-                if error.is_memory() {
-                    Err(EventError::OutOfMemory)
-                } else {
-                    Err(EventError::Refused)
-                }
-            }
+        match of_bytes(alloc, line) {
+            Ok(event) => Ok(event),
+            Err(ReadError::Missed(_)) => Err(EventError::Refused),
+            Err(ReadError::OutOfMemory) => Err(EventError::OutOfMemory),
         }
     }
 }
 
-// The event of a document.
-#[tactic(auto, unfolding(crate::specs::Event::event_of))]
-fn of_value(alloc: Global, value: &Value) -> Result<Event, EventError>
-    ensures { Tells result (event_of (view value.now)) }
-{
-    if has_float(value) {
-        return Err(EventError::Refused);
-    }
-    match text_of(value, "event") {
-        Some("file") => file_of(alloc, value),
-        Some("exclude") => exclude_of(alloc, value),
-        Some("flush") => Ok(Event::Flush),
-        Some(_) => Err(EventError::Refused),
-        None => Err(EventError::Refused),
+#[tactic(auto, unfolding(crate::specs::Event::event_at))]
+impl ReadJson for Event {
+    ghost use Rattle.live.specs.Event.{event_at};
+
+    ghost reads = { event_at };
+
+    fn read(alloc: Global, value: &Value) -> Result<Self, ReadError> {
+        let fields = members(alloc, value)?;
+        let name: Text = required(alloc, fields, "event")?;
+        match name.as_str() {
+            "file" => file_of(alloc, fields),
+            "exclude" => exclude_of(alloc, fields),
+            "flush" => Ok(Event::Flush),
+            _ => missed(alloc),
+        }
     }
 }
 
-// The event of a document that is named `file`.
-fn file_of(alloc: Global, value: &Value) -> Result<Event, EventError>
-    ensures { Tells result (file_of (view value.now)) }
+// The event that is named `file`.
+#[tactic(auto, unfolding(crate::specs::Event::file_at))]
+fn file_of(alloc: Global, fields: &Map<String, Value>) -> Result<Event, ReadError>
+    ensures { Gives result (file_at (members_view fields.now.entries)) }
 {
-    let path = path_of(alloc, value)?;
-    let text = content_of(alloc, value)?;
+    let path = path_of(alloc, fields)?;
+    let text = optional(alloc, fields, "text")?;
     Ok(Event::File { path, text })
 }
 
-// The event of a document that is named `exclude`.
-fn exclude_of(alloc: Global, value: &Value) -> Result<Event, EventError>
-    ensures { Tells result (exclude_of (view value.now)) }
+// The event that is named `exclude`.
+#[tactic(auto, unfolding(crate::specs::Event::exclude_at))]
+fn exclude_of(alloc: Global, fields: &Map<String, Value>) -> Result<Event, ReadError>
+    ensures { Gives result (exclude_at (members_view fields.now.entries)) }
 {
-    let path = path_of(alloc, value)?;
+    let path = path_of(alloc, fields)?;
     Ok(Event::Exclude { path })
 }
 
-// The text under a key.
-fn text_of<'a>(value: &'a Value, key: &str) -> Option<&'a str>
-    ensures { option_map (λ s. s.now) result ≡ text_at key.now (view value.now) }
-{
-    value.get(key).and_then(Value::as_str)
-}
-
 // The real path under the key `path`.
-fn path_of(alloc: Global, value: &Value) -> Result<VfsPath, EventError>
-    ensures { Tells result (place_at (view value.now)) }
+#[tactic(auto, unfolding(crate::specs::Event::path_under))]
+fn path_of(alloc: Global, fields: &Map<String, Value>) -> Result<VfsPath, ReadError>
+    ensures { Gives result (path_under (members_view fields.now.entries)) }
 {
-    match text_of(value, "path") {
-        None => Err(EventError::Refused),
-        Some(text) => match VfsPath::new_real_path(alloc, text) {
-            Ok(path) => Ok(path),
-            Err(PathError::NotAbsolute) => Err(EventError::Refused),
-            Err(PathError::OutOfMemory) => Err(EventError::OutOfMemory),
-        },
-    }
+    let text: Text = required(alloc, fields, "path")?;
+    real_path(alloc, text.as_str())
 }
 
-// The text of a file, where it has one.
-fn content_of(alloc: Global, value: &Value) -> Result<Option<Text>, EventError>
-    ensures { Tells result (content_of (get (codes "text") (view value.now))) }
+// The real path of an absolute text.
+fn real_path(alloc: Global, text: &str) -> Result<VfsPath, ReadError>
+    ensures { Gives result (real_path text.now) }
 {
-    match value.get("text") {
-        None => Ok(None),
-        Some(Value::Null) => Ok(None),
-        Some(Value::String(text)) => Ok(Some(Text::of_str(alloc, text.as_str())?)),
-        Some(_) => Err(EventError::Refused),
-    }
-}
-
-/// The bytes of a text, where there is one.
-pub(crate) fn bytes_of(alloc: Global, text: &Option<Text>) -> Result<Option<Vec<u8>>, AllocError>
-    ensures same { IfOk result (λ contents. bytes_of contents ≡ text.now) }
-    ensures valid { IfOk result (λ contents. IfSome (bytes_of contents) IsUtf8) }
-{
-    match text {
-        None => Ok(None),
-        Some(text) => {
-            let bytes = text.as_str().as_bytes().to_vec(alloc)?;
-            Ok(Some(bytes))
-        }
+    match VfsPath::new_real_path(alloc, text) {
+        Ok(path) => Ok(path),
+        Err(PathError::NotAbsolute) => missed(alloc),
+        Err(PathError::OutOfMemory) => Err(ReadError::OutOfMemory),
     }
 }

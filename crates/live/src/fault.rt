@@ -8,7 +8,7 @@ use std::alloc::{AllocError, Global};
 use thiserror::Error;
 
 /// Why a run ended before its input did, or a step was not taken.
-#[derive(Clone, Copy, Debug, PartialEq, Eq, Error)]
+#[derive(Debug, PartialEq, Eq, Drop, Error)]
 pub enum LiveError {
     /// There was no memory.
     #[error("OutOfMemory")]
@@ -58,7 +58,7 @@ impl LiveError {
 }
 
 /// Why a step was not taken.
-#[derive(Clone, Copy, Debug, PartialEq, Eq, Error)]
+#[derive(Debug, PartialEq, Eq, Drop, Error)]
 pub enum StepError {
     /// The event was refused, or memory or the sink did not serve.
     #[error("Refused")]

@@ -1,169 +1,165 @@
-//! Cuts a script into lines, and lets a session take each as soon as it is whole.
+//! A reader of lines, which knows nothing of what they say.
 
-ghost use Rattle.std.specs.Prelude.{◌≡◌, ◌+◌, ◌-◌, ◌^◌, ◌<◌, ◌≤◌, ℕ, List, [], ◌∷◌, ◌++◌, Option, length, IfErr, OnErr, OnOk};
-ghost use Rattle.std.specs.Result.{IsErrOf};
-ghost use Rattle.base_text.specs.Causes.{Rose};
-ghost use Rattle.live.specs.Event.{event};
-ghost use Rattle.live.specs.Fault.{IsLineError, IsRefusal};
-ghost use Rattle.live.specs.Lines.{script_lines, whole_lines};
-ghost use Rattle.live.specs.Run.{Ran, Runs, Stops};
-ghost use Rattle.live.specs.Session.{State, turn_of, turns};
-ghost use Rattle.live.specs.Turn.{Holds, RefusesTurn, TakesTurn};
-ghost use Rattle.live.specs.Written.{AppendsFront};
-ghost use Rattle.live.specs.declared.fault.LiveError.TheVariants.{WriteFault};
+ghost use Rattle.std.specs.Prelude.{◌≡◌, ◌+◌, ◌^◌, ◌<◌, ◌≤◌, false, ℕ, List, [], Option, Some, IsTrue, is_err, length};
+ghost use Rattle.outside.specs.Causes.{Rose};
 
-use crate::event::{Event, EventError};
-use crate::fault::LiveError;
-use crate::session::Live;
-use base_text::ByteSink;
-use std::alloc::Global;
+use crate::piece::Piece;
+use base_text::{ByteSource, Failed};
+use std::alloc::{AllocError, Global};
+use std::marker::Model;
+use std::mem;
+use thiserror::Error;
 
-/// The bytes since the last newline, and how many lines came before them.
+/// Why a line was not given.
+#[derive(Clone, Copy, Debug, PartialEq, Eq, Error)]
+pub enum LineError {
+    /// The source failed.
+    #[error("ReadFault")]
+    ReadFault,
+    /// There are more bytes than the limit, and no further line ends within it.
+    #[error("TooMany")]
+    TooMany,
+    /// There was no memory.
+    #[error("OutOfMemory")]
+    OutOfMemory,
+    /// An earlier call was refused.
+    #[error("Ended")]
+    Ended,
+}
+
+impl From<AllocError> for LineError {
+    ghost use Rattle.std.specs.Prelude.{◌≡◌};
+    ghost use Rattle.live.specs.declared.lines.LineError.TheVariants.{OutOfMemory};
+
+    ghost from_gives = { λ _ e. e ≡ OutOfMemory };
+
+    fn from(_error: AllocError) -> Self {
+        LineError::OutOfMemory
+    }
+}
+
+impl From<Failed> for LineError {
+    ghost use Rattle.std.specs.Prelude.{◌≡◌};
+    ghost use Rattle.live.specs.declared.lines.LineError.TheVariants.{ReadFault};
+
+    ghost from_gives = { λ _ e. e ≡ ReadFault };
+
+    fn from(_error: Failed) -> Self {
+        LineError::ReadFault
+    }
+}
+
+/// Gives the lines of a source one by one, each as soon as it is whole, and a last one that no newline ends
+/// where it is not empty. Of the source it takes at most one byte more than its limit.
 #[derive(Drop)]
-pub(crate) struct Lines {
-    pending: Vec<u8>,
-    count: u64,
+pub struct Lines {
+    line: Vec<u8>,
+    piece: Piece,
+    room: u64,
+    is_past: bool,
+    is_done: bool,
+    has_ended: bool,
+}
+
+impl Model for Lines {
+    ghost use Rattle.std.specs.Prelude.{◌≡◌, ◌++◌, ◌+◌, ◌^◌, ◌<◌, false};
+    ghost use Rattle.live.specs.Lines.{has_newline};
+    ghost use Rattle.live.specs.Reader.{Reader};
+
+    ghost Value = { Reader };
+
+    ghost view = { λ l. record {
+      waiting = l.line.items ++ l.piece;
+      room = l.room;
+      is_past = l.is_past;
+      is_done = l.is_done;
+      has_ended = l.has_ended;
+    } };
+
+    ghost invariant = { λ l. (has_newline l.line.items ≡ false) × (l.room + 1 < 2 ^ 64) };
 }
 
 impl Lines {
-    pub(crate) fn new(alloc: Global) -> Self
-        ensures pending { result.pending.items ≡ [] }
-        ensures count { result.count ≡ 0 }
+    ghost use Rattle.live.specs.Reader.{Answers, Gave, IsSpent, Tells, TooManyExactly, fresh, lines_after};
+    ghost use Rattle.live.specs.Lines.{has_newline};
+    ghost use Rattle.live.specs.declared.lines.LineError.TheVariants.{Ended};
+
+    /// A reader that takes nothing yet.
+    pub fn new(alloc: Global, limit: u64) -> Self
+        requires { limit + 1 < 2 ^ 64 }
+        ensures { result ≡ fresh limit }
     {
         Lines {
-            pending: Vec::new(alloc),
-            count: 0,
+            line: Vec::new(alloc),
+            piece: Piece::new(alloc),
+            room: limit,
+            is_past: false,
+            is_done: false,
+            has_ended: false,
         }
     }
 
-    // Takes bytes of the script, and steps each line that they end.
-    pub(crate) fn feed<K: ByteSink>(
-        &mut self,
-        alloc: Global,
-        piece: &[u8],
-        live: &mut Live,
-        out: &mut K,
-    ) -> Result<(), LiveError>
-        requires { self.old.count + length piece.now < 2 ^ 64 }
-        ensures ok { OnOk result ((s : State) (fed : List ℕ) (held : Option (List ℕ))
-            → Runs s fed self.old.pending.items self.old.count live.old held (K.held out.old)
-            → Runs s (fed ++ piece.now) self.new.pending.items self.new.count live.new held (K.held out.new)) }
-        ensures refused { IfErr result (λ e. IsRefusal e
-            → (s : State) (fed : List ℕ) (held : Option (List ℕ))
-            → Runs s fed self.old.pending.items self.old.count live.old held (K.held out.old)
-            → Stops (turns s (whole_lines (fed ++ piece.now))) e live.new held (K.held out.new)) }
-        ensures write { IsErrOf result WriteFault → Rose (K.faults out.old) (K.faults out.new) }
-        ensures only { IfErr result IsLineError }
-        ensures written { OnErr result ((s : State) (fed : List ℕ) (held : Option (List ℕ))
-            → Runs s fed self.old.pending.items self.old.count live.old held (K.held out.old)
-            → AppendsFront held (K.held out.new) (turns s (whole_lines (fed ++ piece.now))).pages) }
-        ensures faults { K.faults out.old ≤ K.faults out.new }
-        ensures count { self.new.count ≤ self.old.count + length piece.now }
+    /// Whether a call was refused.
+    pub fn ended(&self) -> bool
+        ensures { result ≡ self.now.has_ended }
     {
-        for byte in piece {
-            match self.take_byte(alloc, *byte, live, out) {
-                Ok(()) => {}
-                Err(error) => return Err(error),
-            }
-        }
-        Ok(())
+        self.has_ended
     }
 
-    // The script has ended: what stands after its last newline is a line where it is not empty.
-    pub(crate) fn finish<K: ByteSink>(
-        &self,
-        alloc: Global,
-        live: &mut Live,
-        out: &mut K,
-    ) -> Result<(), LiveError>
-        requires { self.now.count < 2 ^ 64 - 1 }
-        ensures ok { OnOk result ((s : State) (fed : List ℕ) (held : Option (List ℕ))
-            → Runs s fed self.now.pending.items self.now.count live.old held (K.held out.old)
-            → Ran (turns s (script_lines fed)) live.new held (K.held out.new)) }
-        ensures refused { IfErr result (λ e. IsRefusal e
-            → (s : State) (fed : List ℕ) (held : Option (List ℕ))
-            → Runs s fed self.now.pending.items self.now.count live.old held (K.held out.old)
-            → Stops (turns s (script_lines fed)) e live.new held (K.held out.new)) }
-        ensures write { IsErrOf result WriteFault → Rose (K.faults out.old) (K.faults out.new) }
-        ensures only { IfErr result IsLineError }
-        ensures written { OnErr result ((s : State) (fed : List ℕ) (held : Option (List ℕ))
-            → Runs s fed self.now.pending.items self.now.count live.old held (K.held out.old)
-            → AppendsFront held (K.held out.new) (turns s (script_lines fed)).pages) }
-        ensures faults { K.faults out.old ≤ K.faults out.new }
+    /// The next line, or none at the end of the input. After a refusal nothing is read.
+    pub fn next<S: ByteSource>(&mut self, input: &mut S) -> Result<Option<Vec<u8>>, LineError>
+        ensures gave { (limit : ℕ) (first : Option (List ℕ)) (given : List (List ℕ))
+            → Gave limit first (S.left input.old) given self.old
+            → Gave limit first (S.left input.new) (lines_after given result) self.new }
+        ensures too_many { (limit : ℕ) (given : List (List ℕ)) (all : List ℕ)
+            → Gave limit (Some all) (S.left input.old) given self.old
+            → TooManyExactly result (IsSpent limit given all) }
+        ensures answers { Answers result self.old self.new (S.faults input.old) (S.faults input.new) }
+        ensures at_once { IsTrue (has_newline self.old.waiting) → input.new ≡ input.old }
+        ensures ended { IsTrue self.old.has_ended
+            → (result ≡ Err Ended) × (self.new ≡ self.old) × (input.new ≡ input.old) }
     {
-        let line = self.pending.as_slice();
-        if line.is_empty() {
-            return Ok(());
+        if self.has_ended {
+            return Err(LineError::Ended);
         }
-        match take_line(alloc, self.count + 1, line, live, out) {
-            Ok(()) => Ok(()),
-            Err(error) => Err(error),
-        }
-    }
-
-    // One byte of the script.
-    fn take_byte<K: ByteSink>(
-        &mut self,
-        alloc: Global,
-        byte: u8,
-        live: &mut Live,
-        out: &mut K,
-    ) -> Result<(), LiveError>
-        requires { self.old.count < 2 ^ 64 - 1 }
-        ensures ok { OnOk result ((s : State) (fed : List ℕ) (held : Option (List ℕ))
-            → Runs s fed self.old.pending.items self.old.count live.old held (K.held out.old)
-            → Runs s (fed ++ byte ∷ []) self.new.pending.items self.new.count live.new held (K.held out.new)) }
-        ensures refused { IfErr result (λ e. IsRefusal e
-            → (s : State) (fed : List ℕ) (held : Option (List ℕ))
-            → Runs s fed self.old.pending.items self.old.count live.old held (K.held out.old)
-            → Stops (turns s (whole_lines (fed ++ byte ∷ []))) e live.new held (K.held out.new)) }
-        ensures write { IsErrOf result WriteFault → Rose (K.faults out.old) (K.faults out.new) }
-        ensures only { IfErr result IsLineError }
-        ensures written { OnErr result ((s : State) (fed : List ℕ) (held : Option (List ℕ))
-            → Runs s fed self.old.pending.items self.old.count live.old held (K.held out.old)
-            → AppendsFront held (K.held out.new) (turns s (whole_lines (fed ++ byte ∷ []))).pages) }
-        ensures faults { K.faults out.old ≤ K.faults out.new }
-        ensures count { self.new.count ≤ self.old.count + 1 }
-    {
-        if byte == b'\n' {
-            match take_line(alloc, self.count + 1, self.pending.as_slice(), live, out) {
-                Ok(()) => {
-                    self.pending.clear();
-                    self.count += 1;
-                    Ok(())
-                }
-                Err(error) => Err(error),
-            }
-        } else {
-            match self.pending.push(byte) {
-                Ok(()) => Ok(()),
-                Err(_) => Err(LiveError::OutOfMemory),
+        match self.read_line(input) {
+            Ok(line) => Ok(line),
+            Err(error) => {
+                self.has_ended = true;
+                Err(error)
             }
         }
     }
-}
 
-// One line of this number.
-fn take_line<K: ByteSink>(
-    alloc: Global,
-    number: u64,
-    line: &[u8],
-    live: &mut Live,
-    out: &mut K,
-) -> Result<(), LiveError>
-    ensures ok { OnOk result ((s : State) → Holds live.old s
-        → TakesTurn (turn_of s number (event line.now)) live.new (K.held out.old) (K.held out.new)) }
-    ensures refused { IfErr result (λ e. IsRefusal e → (s : State) → Holds live.old s
-        → RefusesTurn (turn_of s number (event line.now)) e live.new (K.held out.old) (K.held out.new)) }
-    ensures write { IsErrOf result WriteFault → Rose (K.faults out.old) (K.faults out.new) }
-    ensures only { IfErr result IsLineError }
-    ensures written { OnErr result ((s : State) → Holds live.old s
-        → AppendsFront (K.held out.old) (K.held out.new) (turn_of s number (event line.now)).pages) }
-    ensures faults { K.faults out.old ≤ K.faults out.new }
-{
-    match Event::of_line(alloc, line) {
-        Ok(event) => live.turn(alloc, &event, out),
-        Err(EventError::Refused) => Err(LiveError::Script(number)),
-        Err(EventError::OutOfMemory) => Err(LiveError::OutOfMemory),
+    // The next line of a reader of which no call was refused.
+    fn read_line<S: ByteSource>(&mut self, input: &mut S) -> Result<Option<Vec<u8>>, LineError>
+        requires { self.old.has_ended ≡ false }
+        ensures gave { (limit : ℕ) (first : Option (List ℕ)) (given : List (List ℕ))
+            → Gave limit first (S.left input.old) given self.old
+            → Gave limit first (S.left input.new) (lines_after given result) self.new }
+        ensures told { Tells result self.old self.new (S.faults input.old) (S.faults input.new) }
+        ensures not_ended { self.new.has_ended ≡ false }
+        ensures at_once { IsTrue (has_newline self.old.waiting) → input.new ≡ input.old }
+        ensures faults { S.faults input.old ≤ S.faults input.new }
+    {
+        if self.is_done {
+            return Ok(None);
+        }
+        let alloc = *self.line.allocator();
+        while !self.piece.move_line(&mut self.line)? {
+            if self.is_past {
+                return Err(LineError::TooMany);
+            }
+            let count = self.piece.read(alloc, input, self.room)?;
+            if count == 0 {
+                self.is_done = true;
+                let last = mem::replace(&mut self.line, Vec::new(alloc));
+                return Ok(if last.is_empty() { None } else { Some(last) });
+            }
+            self.is_past = count > self.room;
+            self.room = self.room.saturating_sub(count);
+        }
+        let line = mem::replace(&mut self.line, Vec::new(alloc));
+        Ok(Some(line))
     }
 }

@@ -6,10 +6,9 @@ ghost use Rattle.std.specs.Result.{IsErrOf};
 ghost use Rattle.serde_json.specs.Written.{compact_text, has_float};
 ghost use Rattle.serde_json.specs.Data.{item, no_items};
 ghost use Rattle.serde_json.specs.View.{items_view, view};
-ghost use Rattle.base_text.specs.Causes.{Rose};
-ghost use Rattle.live.specs.Fault.{IsFlushError};
+ghost use Rattle.live.specs.Fault.{flush_statuses};
 ghost use Rattle.live.specs.Page.{numbers_listed, page_data, page_of, paths_shown, roots_listed, set_data, set_shown, texts_data};
-ghost use Rattle.live.specs.Written.{AppendsFront};
+ghost use Rattle.live.specs.Written.{AppendsFront, AppendsProperFront, HasWriteCause};
 ghost use Rattle.live.specs.declared.fault.LiveError.TheVariants.{WriteFault};
 
 use crate::fault::LiveError;
@@ -130,11 +129,10 @@ pub(crate) fn write_page<K: ByteSink>(
     out: &mut K,
 ) -> Result<(), LiveError>
     ensures ok { OnOk result (Appends (K.held out.old) (K.held out.new) (page_of db.now)) }
-    ensures err { OnErr result
-        (AppendsFront (K.held out.old) (K.held out.new) (page_of db.now ∷ [])) }
-    ensures write { IsErrOf result WriteFault → Rose (K.faults out.old) (K.faults out.new) }
-    ensures only { IfErr result IsFlushError }
-    ensures faults { K.faults out.old ≤ K.faults out.new }
+    ensures err { OnErr result (AppendsFront (K.held out.old, K.held out.new) (page_of db.now ∷ [])) }
+    ensures cut { IsErrOf result WriteFault
+        → AppendsProperFront (K.held out.old, K.held out.new) (page_of db.now ∷ []) }
+    ensures cause { HasWriteCause result flush_statuses (K.faults out.old, K.faults out.new) }
 {
     let text = page(alloc, db)?;
     match write_all(out, text.as_str().as_bytes()) {

@@ -1,10 +1,11 @@
 //! A session that takes events one by one.
 
-ghost use Rattle.live.specs.Config.{FitsLimits};
+ghost use Rattle.live.specs.Config.{Fits};
 
 use crate::config::LiveConfig;
-use crate::event::{Event, bytes_of};
+use crate::event::Event;
 use crate::fault::{LiveError, StepError};
+use crate::live_texts::LiveTexts;
 use crate::page::write_page;
 use crate::refresh::{change_of, source_roots};
 use base_text::{ByteSink, Limit, Limits, Numbers, Text, TryClone};
@@ -18,41 +19,46 @@ use vfs_sets::FileSetConfig;
 pub struct Live {
     config: LiveConfig,
     files: Vfs,
+    texts: LiveTexts,
     db: InputDb,
     ended: bool,
-    ghost fits: { FitsLimits config.limits },
+    ghost fits: { Fits config },
 }
 
 impl Live {
-    ghost use Rattle.std.specs.Prelude.{◌≡◌, ◌↔◌, ◌≤◌, ◌^◌, [], ◌∷◌, IfOk, IfErr, IsTrue, OnErr, OnOk, Err};
-    ghost use Rattle.std.specs.Result.{IsErrOf};
-    ghost use Rattle.std.specs.Io.KnownBytes.{Appends};
-    ghost use Rattle.base_text.specs.Causes.{Rose};
-    ghost use Rattle.vfs_core.specs.Files.{Follows};
-    ghost use Rattle.live.specs.Config.{FitsLimits};
-    ghost use Rattle.live.specs.Fault.{IsFlushError, IsRefusal, IsTurnError};
-    ghost use Rattle.live.specs.Image.{ShowsShape};
+    ghost use Rattle.std.specs.Prelude.{◌≡◌, ◌↔◌, ◌⊎◌, ◌≤◌, ◌^◌, [], ◌∷◌, IfOk, IfErr, IsErrOf, IsTrue, OnErr, OnOk, Some, Err, is_err};
+    ghost use Rattle.input_db.specs.Database.{empty_database};
+    ghost use Rattle.vfs_core.specs.Files.{IsFullFor, kind_of};
+    ghost use Rattle.vfs_core.specs.declared.marks.MarkKind.TheVariants.{Out};
+    ghost use Rattle.live.specs.Config.{Fits, config_of};
+    ghost use Rattle.live.specs.Fault.{IsOneOf, flush_statuses, status_of, turn_statuses};
+    ghost use Rattle.live.specs.Marked.{AddsMarkTo, SparesFiles};
     ghost use Rattle.live.specs.Refresh.{Refreshes};
-    ghost use Rattle.live.specs.Written.{AppendsFront};
-    ghost use Rattle.live.specs.Session.{State, turn};
-    ghost use Rattle.live.specs.Turn.{HasEnded, Holds, IsStepError, PutsFile, RefusesFile, RefusesTurn, TakesTurn, first_state};
+    ghost use Rattle.live.specs.Session.{State, ended_state, flush_of, flush_turn, state_after_failure, turn};
+    ghost use Rattle.live.specs.Turn.{EndsTurn, FailsStep, HasEnded, HasStepCause, Holds, LeavesAsWas, ShowsShape, TakesTurn, first_state};
+    ghost use Rattle.live.specs.Written.{HasWriteCause};
     ghost use Rattle.live.specs.declared.event.Event.TheVariants.{Exclude, File, Flush};
-    ghost use Rattle.live.specs.declared.fault.LiveError.{LiveError};
-    ghost use Rattle.live.specs.declared.fault.LiveError.TheVariants.{WriteFault};
-    ghost use Rattle.live.specs.declared.fault.StepError.TheVariants.{Refused, Ended};
+    ghost use Rattle.live.specs.declared.fault.LiveError.TheVariants.{OutOfMemory, TooMany};
+    ghost use Rattle.live.specs.declared.fault.StepError.TheVariants.{Ended};
+    ghost use Rattle.outside.specs.declared.limits.Limit.TheVariants.{Paths};
 
-    /// A session to which nothing was said, with the greatest limits.
+    #[tactic(auto, unfolding(crate::specs::Config::config_of))]
+    /// A session to which nothing was said, with the configuration of no words and an empty database.
     pub fn new(alloc: Global) -> Result<Live, AllocError>
         ensures holds { IfOk result (λ live. Holds live first_state) }
         ensures not_ended { IfOk result (λ live. ¬ HasEnded live) }
+        ensures config { IfOk result (λ live. config_of [] ≡ Some live.config) }
+        ensures empty { IfOk result (λ live. live.db ≡ empty_database 0) }
     {
         let config = LiveConfig {
             limits: Limits::greatest(),
         };
         let nonce = Nonce::new(&mut Numbers::new()).unwrap_or(Nonce::invalid());
+        let texts = LiveTexts::new(alloc)?;
         Ok(Live {
-            config,
             files: Vfs::new(alloc, config.limits.paths),
+            config,
+            texts,
             db: InputDb::new(alloc, nonce),
             ended: false,
         })
@@ -60,9 +66,12 @@ impl Live {
 
     /// Changes the configuration alone. Paths that have a number keep it.
     pub fn configure(&mut self, config: LiveConfig)
-        requires { FitsLimits config.limits }
+        requires { Fits config }
         ensures holds { (s : State) → Holds self.old s → Holds self.new (record s { config = config }) }
         ensures ended { HasEnded self.new ↔ HasEnded self.old }
+        ensures config { self.new.config ≡ config }
+        ensures files { self.new.files ≡ record self.old.files { limit = config.limits.paths } }
+        ensures kept { (self.new.db ≡ self.old.db) × (self.new.texts ≡ self.old.texts) }
     {
         self.files.set_limit(config.limits.paths);
         self.config = config;
@@ -77,9 +86,16 @@ impl Live {
 
     /// The files of which the events spoke.
     pub fn files(&self) -> &Vfs
-        ensures { (s : State) → Holds self.now s → Follows result.now s.marks }
+        ensures { result.now ≡ self.now.files }
     {
         &self.files
+    }
+
+    /// The texts of the files that live, by file number.
+    pub fn texts(&self) -> &LiveTexts
+        ensures { result.now ≡ self.now.texts }
+    {
+        &self.texts
     }
 
     /// The database that the last flush made.
@@ -106,33 +122,22 @@ impl Live {
         out: &mut K,
     ) -> Result<(), StepError>
         ensures ok { OnOk result ((s : State) → Holds self.old s
-            → TakesTurn (turn s event.now) self.new (K.held out.old) (K.held out.new)) }
-
-        // A refusal leaves the state.
-        ensures refused { IfErr result (λ e. (r : LiveError) → e ≡ Refused r → IsRefusal r
-            → (s : State) → Holds self.old s
-            → RefusesTurn (turn s event.now) r self.new (K.held out.old) (K.held out.new)) }
-
-        // Other errors have their causes.
+            → TakesTurn (turn s event.now) self.new (K.held out.old, K.held out.new)) }
+        ensures err { IfErr result (λ e. (s : State) → Holds self.old s
+            → FailsStep s event.now e self.new (K.held out.old, K.held out.new)) }
         ensures ended { (result ≡ Err Ended) ↔ HasEnded self.old }
-        ensures write { IsErrOf result (Refused WriteFault)
-            → Rose (K.faults out.old) (K.faults out.new) }
-        ensures only { IfErr result IsStepError }
-
-        // The database after a flush.
+        ensures cause { HasStepCause result (K.faults out.old, K.faults out.new) }
         ensures image { OnOk result (event.now ≡ Flush
-            → (s : State) → Holds self.old s → ShowsShape self.new s.marks) }
-
-        // What stands after an error.
-        ensures kept { OnErr result ((event.now ≡ Flush → ⊥) → self.new ≡ self.old) }
-        ensures written { OnErr result ((s : State) → Holds self.old s
-            → AppendsFront (K.held out.old) (K.held out.new) (turn s event.now).pages) }
-        ensures ends { OnErr result (event.now ≡ Flush → HasEnded self.new) }
-        ensures faults { K.faults out.old ≤ K.faults out.new }
+            → (s : State) → Holds self.old s → ShowsShape self.new s) }
+        ensures rest { LeavesAsWas event.now (is_err result) self.old self.new }
     {
         if self.ended {
             return Err(StepError::Ended);
         }
+        let event = match event.try_clone(alloc) {
+            Ok(event) => event,
+            Err(error) => return Err(StepError::Refused(LiveError::from(error))),
+        };
         match self.turn(alloc, event, out) {
             Ok(()) => Ok(()),
             Err(error) => Err(StepError::Refused(error)),
@@ -144,68 +149,57 @@ impl Live {
     pub(crate) fn turn<K: ByteSink>(
         &mut self,
         alloc: Global,
-        event: &Event,
+        event: Event,
         out: &mut K,
     ) -> Result<(), LiveError>
+        requires { ¬ HasEnded self.old }
         ensures ok { OnOk result ((s : State) → Holds self.old s
-            → TakesTurn (turn s event.now) self.new (K.held out.old) (K.held out.new)) }
-        ensures refused { IfErr result (λ r. IsRefusal r → (s : State) → Holds self.old s
-            → RefusesTurn (turn s event.now) r self.new (K.held out.old) (K.held out.new)) }
-        ensures write { IsErrOf result WriteFault → Rose (K.faults out.old) (K.faults out.new) }
-        ensures only { IfErr result IsTurnError }
-        ensures image { OnOk result (event.now ≡ Flush
-            → (s : State) → Holds self.old s → ShowsShape self.new s.marks) }
-        ensures kept { OnErr result ((event.now ≡ Flush → ⊥) → self.new ≡ self.old) }
-        ensures written { OnErr result ((s : State) → Holds self.old s
-            → AppendsFront (K.held out.old) (K.held out.new) (turn s event.now).pages) }
-        ensures ends { OnErr result (event.now ≡ Flush → HasEnded self.new) }
-        ensures faults { K.faults out.old ≤ K.faults out.new }
+            → TakesTurn (turn s event) self.new (K.held out.old, K.held out.new)) }
+        ensures err { IfErr result (λ e. (s : State) → Holds self.old s
+            → EndsTurn (turn s event) (state_after_failure s event) e
+            self.new (K.held out.old, K.held out.new)) }
+        ensures cause { HasWriteCause result turn_statuses (K.faults out.old, K.faults out.new) }
+        ensures image { OnOk result (event ≡ Flush
+            → (s : State) → Holds self.old s → ShowsShape self.new s) }
+        ensures rest { LeavesAsWas event (is_err result) self.old self.new }
     {
         match event {
             Event::File { path, text } => self.put_file(alloc, path, text),
-            Event::Exclude { path } => self.exclude(alloc, path),
+            Event::Exclude { path } => self.exclude(path),
             Event::Flush => self.flush(alloc, out),
         }
     }
 
-    // Says of a file that it has a text, or is deleted.
-    #[tactic(auto, unfolding(crate::specs::Session::turn))]
+    // Sets the text of a file, or deletes it where there is none.
     fn put_file(
         &mut self,
         alloc: Global,
-        path: &VfsPath,
-        text: &Option<Text>,
+        path: VfsPath,
+        text: Option<Text>,
     ) -> Result<(), LiveError>
-        ensures ok { OnOk result ((s : State) → Holds self.old s
-            → PutsFile (turn s (File path.now text.now)) self.new) }
-        ensures refused { IfErr result (λ r. IsRefusal r → (s : State) → Holds self.old s
-            → RefusesFile (turn s (File path.now text.now)) r self.new) }
-        ensures only { IfErr result IsTurnError }
-        ensures no_write { IsErrOf result WriteFault → ⊥ }
-        ensures unchanged { OnErr result (self.new ≡ self.old) }
+        ensures ok { OnOk result (AddsMarkTo self.old self.new
+            (record { path = path; kind = kind_of text })) }
+        ensures room { OnOk result (¬ (IsFullFor self.old.files path)) }
+        ensures too_many { IsErrOf result (TooMany Paths) → IsFullFor self.old.files path }
+        ensures only { IfErr result (λ e. (e ≡ OutOfMemory) ⊎ (e ≡ TooMany Paths)) }
+        ensures err { OnErr result (self.new ≡ self.old) }
     {
-        let path = path.try_clone(alloc)?;
-        let contents = bytes_of(alloc, text)?;
-        match self.files.set_file_contents(path, contents) {
-            Ok(_) => Ok(()),
+        match self.texts.put(alloc, &mut self.files, path, text) {
+            Ok(()) => Ok(()),
             Err(VfsError::TooMany) => Err(LiveError::TooMany(Limit::Paths)),
             Err(VfsError::OutOfMemory) => Err(LiveError::OutOfMemory),
         }
     }
 
-    // Says of a file that it is left out.
-    #[tactic(auto, unfolding(crate::specs::Session::turn))]
-    fn exclude(&mut self, alloc: Global, path: &VfsPath) -> Result<(), LiveError>
-        ensures ok { OnOk result ((s : State) → Holds self.old s
-            → PutsFile (turn s (Exclude path.now)) self.new) }
-        ensures refused { IfErr result (λ r. IsRefusal r → (s : State) → Holds self.old s
-            → RefusesFile (turn s (Exclude path.now)) r self.new) }
-        ensures only { IfErr result IsTurnError }
-        ensures no_write { IsErrOf result WriteFault → ⊥ }
-        ensures unchanged { OnErr result (self.new ≡ self.old) }
+    // Leaves a file out.
+    fn exclude(&mut self, path: VfsPath) -> Result<(), LiveError>
+        ensures ok { OnOk result (AddsMarkTo self.old self.new (record { path = path; kind = Out })) }
+        ensures room { OnOk result (¬ (IsFullFor self.old.files path)) }
+        ensures too_many { IsErrOf result (TooMany Paths) → IsFullFor self.old.files path }
+        ensures only { IfErr result (λ e. (e ≡ OutOfMemory) ⊎ (e ≡ TooMany Paths)) }
+        ensures err { OnErr result (self.new ≡ self.old) }
     {
-        let path = path.try_clone(alloc)?;
-        match self.files.insert_excluded_file(path) {
+        match self.texts.exclude(&mut self.files, path) {
             Ok(()) => Ok(()),
             Err(VfsError::TooMany) => Err(LiveError::TooMany(Limit::Paths)),
             Err(VfsError::OutOfMemory) => Err(LiveError::OutOfMemory),
@@ -215,15 +209,14 @@ impl Live {
     // Brings the files into the database and writes a page. A flush that is refused, or whose page
     // does not reach the sink whole, ends the session.
     fn flush<K: ByteSink>(&mut self, alloc: Global, out: &mut K) -> Result<(), LiveError>
+        requires { ¬ HasEnded self.old }
         ensures ok { OnOk result ((s : State) → Holds self.old s
-            → TakesTurn (turn s Flush) self.new (K.held out.old) (K.held out.new)) }
-        ensures image { OnOk result ((s : State) → Holds self.old s → ShowsShape self.new s.marks) }
-        ensures written { OnErr result ((s : State) → Holds self.old s
-            → AppendsFront (K.held out.old) (K.held out.new) (turn s Flush).pages) }
-        ensures write { IsErrOf result WriteFault → Rose (K.faults out.old) (K.faults out.new) }
-        ensures only { IfErr result IsFlushError }
-        ensures ends { OnErr result (HasEnded self.new) }
-        ensures faults { K.faults out.old ≤ K.faults out.new }
+            → TakesTurn (flush_turn s) self.new (K.held out.old, K.held out.new)) }
+        ensures image { OnOk result ((s : State) → Holds self.old s → ShowsShape self.new s) }
+        ensures err { IfErr result (λ e. (s : State) → Holds self.old s
+            → EndsTurn (flush_turn s) (ended_state s) e self.new (K.held out.old, K.held out.new)) }
+        ensures cause { HasWriteCause result flush_statuses (K.faults out.old, K.faults out.new) }
+        ensures rest { LeavesAsWas Flush (is_err result) self.old self.new }
     {
         match self.refresh(alloc) {
             Ok(()) => {}
@@ -243,7 +236,8 @@ impl Live {
 
     // Brings the files that exist, and what has changed of them, into the database.
     fn refresh(&mut self, alloc: Global) -> Result<(), AllocError>
-        ensures { OnOk result (Refreshes self.old self.new) }
+        ensures ok { OnOk result (Refreshes self.old self.new) }
+        ensures err { OnErr result (SparesFiles self.old self.new) }
     {
         let sets = FileSetConfig::new(alloc)?.partition(alloc, &self.files)?;
         let roots = source_roots(alloc, sets)?;

@@ -1,13 +1,26 @@
 -- What the program did, from the state of a new session.
-use Rattle.std.specs.Prelude.{ℕ, List, Option}
+use Rattle.std.specs.Prelude.{◌≡◌, ℕ, List, [], ◌∷◌, Option, Some}
+use Rattle.live.specs.declared.fault.LiveError.{LiveError}
 use Rattle.live.specs.declared.session.Live.{Live}
-use Rattle.live.specs.Cli.{FinishesAs, StopsAs}
+use Rattle.live.specs.Cli.{FinishesAs, state_for}
+use Rattle.live.specs.Fault.{IsRefusal, status_of, text_of}
+use Rattle.live.specs.Run.{Stops}
+use Rattle.live.specs.Session.{Outcome, State, session}
 use Rattle.live.specs.Turn.{first_state}
+use Rattle.live.specs.Written.{AppendsFront, Told}
 
 -- the session of the whole input was run to its end by some session
-abbrev pub FinishesTop : List (List ℕ) → Option (List ℕ) → Option (List ℕ) → Option (List ℕ) → Option (List ℕ) → Type 0
-FinishesTop words left left' old new = (live : Live) × FinishesAs words first_state live left left' old new
+abbrev pub FinishesTop : Option State → Told → Told → Type 0
+FinishesTop start left held = (live : Live) × FinishesAs start live left held
 
--- the session of the input is refused with this status
-abbrev pub StopsTop : List (List ℕ) → ℕ → List ℕ → Option (List ℕ) → Option (List ℕ) → Type 0
-StopsTop words status all old new = (live : Live) × StopsAs words status first_state all live old new
+-- an error ends the session of the input: a front of its pages was appended, and a refusal is the session's own
+pub record FailsNew (o : Outcome) (error : LiveError) (held : Told) : Type 0 where
+  pub written : AppendsFront held o.pages
+  pub refused : IsRefusal error → (live : Live) × Stops o error live held
+
+-- the program failed with an error of this status, of whose text and a newline a front was appended to the second output
+pub record FailsTop (words : List (List ℕ)) (status : ℕ) (left : Option (List ℕ)) (outputs : Told × Told) : Type 0 where
+  pub error : LiveError
+  pub told : status_of error ≡ status
+  pub text : AppendsFront outputs.1 (text_of error ∷ (10 ∷ []) ∷ [])
+  pub fails : (s : State) → state_for words first_state ≡ Some s → (all : List ℕ) → left ≡ Some all → FailsNew (session s all) error outputs.0

@@ -1,8 +1,9 @@
-//! Readers and writers of std as sources and sinks. They tell no bytes: what a stream of the system
-//! gave or took is not known here.
+//! Readers and writers of std as sources and sinks. A source tells what its reader has left, where std knows it;
+//! what a stream of the system gives is not known. A sink tells no bytes, since a flush may fail after a write.
 
-ghost use Rattle.std.specs.Prelude.{◌≡◌};
+ghost use Rattle.std.specs.Prelude.{◌≡◌, IfOk, take};
 ghost use Rattle.std.specs.Io.{WritesAtMost};
+ghost use Rattle.std.specs.Io.KnownBytes.{Appends};
 
 use base_text::{ByteSink, ByteSource, Failed, SinkError};
 use std::io::{Read, Write};
@@ -23,9 +24,7 @@ impl<R> ReaderSource<R> {
 }
 
 impl<R: Read> ByteSource for ReaderSource<R> {
-    ghost use Rattle.std.specs.Prelude.{None};
-
-    ghost left = { λ _. None };
+    ghost left = { λ s. R.remaining s.reader };
 
     ghost faults = { λ s. s.faults };
 
@@ -80,9 +79,10 @@ impl<W: Write> ByteSink for WriterSink<W> {
     }
 }
 
-// One write, and a flush behind it.
+// One write, and a flush after it. What it answers was written, where the writer tells its bytes.
 fn write_through<W: Write>(writer: &mut W, piece: &[u8]) -> Result<usize, SinkError>
     ensures bound { WritesAtMost result piece.now }
+    ensures taken { IfOk result (λ count. Appends (W.contents writer.old) (W.contents writer.new) (take count piece.now)) }
 {
     match writer.write(piece) {
         Ok(count) => match writer.flush() {

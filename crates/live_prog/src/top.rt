@@ -1,13 +1,12 @@
 //! The program as one call over any source and sinks.
 
-ghost use Rattle.std.specs.Prelude.{◌≡◌, ◌⊎◌, ℕ, List, Option, Some, None, map, string_bytes};
-ghost use Rattle.base_text.specs.Causes.{Rose};
-ghost use Rattle.live.specs.Cli.{CompletesAs, IsRefusalStatus, IsStatus, TakesFor, WritesFor, configured};
-ghost use Rattle.live.specs.Config.{config_of};
-ghost use Rattle.live.specs.Session.{session};
+ghost use Rattle.std.specs.Prelude.{◌≡◌, ℕ, List};
+ghost use Rattle.live.specs.Cli.{CompletesAs, TakesFor, UsageExactly, state_for, texts_of};
+ghost use Rattle.live.specs.Config.{command_of};
+ghost use Rattle.live.specs.Fault.{all_statuses};
+ghost use Rattle.live.specs.Run.{HasCause, IsFaultless};
 ghost use Rattle.live.specs.Turn.{first_state};
-ghost use Rattle.live.specs.declared.config.LiveConfig.{LiveConfig};
-ghost use Rattle.live_prog.specs.Top.{FinishesTop, StopsTop};
+ghost use Rattle.live_prog.specs.Top.{FailsTop, FinishesTop};
 
 use base_text::{ByteSink, ByteSource};
 use live::{Live, LiveError, live_cli};
@@ -22,29 +21,18 @@ pub fn live_top<S: ByteSource, K: ByteSink, E: ByteSink>(
     out: &mut K,
     err: &mut E,
 ) -> u8
-    ensures ok { result ≡ 0 → FinishesTop (map string_bytes words.now)
-        (S.left input.old) (S.left input.new) (K.held out.old) (K.held out.new) }
-    ensures refused { IsRefusalStatus result → (all : List ℕ) → S.left input.old ≡ Some all
-        → StopsTop (map string_bytes words.now) result all (K.held out.old) (K.held out.new) }
-
-    // Other statuses have their causes.
-    ensures usage_only { result ≡ 2 → config_of (map string_bytes words.now) ≡ None }
-    ensures usage { config_of (map string_bytes words.now) ≡ None → (result ≡ 2) ⊎ (result ≡ 1) }
-    ensures read { result ≡ 3 → Rose (S.faults input.old) (S.faults input.new) }
-    ensures write { result ≡ 4 → Rose (K.faults out.old) (K.faults out.new) }
-    ensures only { IsStatus result }
-
-    // What stands after wrong words, and what was written and taken.
-    ensures untouched { config_of (map string_bytes words.now) ≡ None
-        → (input.new ≡ input.old) × (out.new ≡ out.old) }
-    ensures written { (all : List ℕ) → S.left input.old ≡ Some all
-        → (result ≡ 0) ⊎ WritesFor (map string_bytes words.now) first_state all (K.held out.old) (K.held out.new) }
-    ensures taken { TakesFor (map string_bytes words.now) (S.left input.old) (S.left input.new) }
-    ensures complete { (all : List ℕ) → S.left input.old ≡ Some all
-        → ¬ Rose (S.faults input.old) (S.faults input.new)
-        → ¬ Rose (K.faults out.old) (K.faults out.new)
-        → (config : LiveConfig) → config_of (map string_bytes words.now) ≡ Some config
-        → CompletesAs (session (configured first_state config) all).refusal result }
+    ensures ok { result ≡ 0 → FinishesTop (state_for (texts_of words.now) first_state)
+        (S.left input.old, S.left input.new) (K.held out.old, K.held out.new) }
+    ensures err { ¬ (result ≡ 0) → FailsTop (texts_of words.now) result
+        (S.left input.old) ((K.held out.old, K.held out.new), (E.held err.old, E.held err.new)) }
+    ensures cause { HasCause all_statuses result
+        (S.faults input.old, S.faults input.new) (K.faults out.old, K.faults out.new) }
+    ensures usage { UsageExactly (command_of (texts_of words.now)) result
+        ((input.new ≡ input.old) × (out.new ≡ out.old)) }
+    ensures taken { TakesFor (texts_of words.now) (S.left input.old, S.left input.new) }
+    ensures complete { (all : List ℕ)
+        → IsFaultless (S.left input.old) all (S.faults input.old, S.faults input.new) (K.faults out.old, K.faults out.new)
+        → CompletesAs (state_for (texts_of words.now) first_state) all result }
 {
     match Live::new(alloc) {
         Ok(mut live) => live_cli(alloc, words, &mut live, input, out, err),

@@ -1,11 +1,22 @@
-use Rattle.std.proofs.Common.{subst, sym}
-use Rattle.live.specs.Cli.{CompletesAs, IsStatus}
-use Rattle.live.proofs.Words.{completes_as, status_known}
+use Rattle.std.proofs.Common.{sym}
+use Rattle.live.proofs.Words.{cause_result, status_completes, usage_err, usage_ok, zero_completes}
 use Rattle.live.proofs.cli.live_cli.Goals as goal
 
-pub returns-in-Err-clause-complete : goal.returns-in-Err-clause-complete
-returns-in-Err-clause-complete g c = λ s h all known read write config given.
-    subst (CompletesAs _) (sym c.status.ensures) (completes_as _ c.in-Err.error (c.in-Err.ensures.complete s h all known read write config given))
+pub returns-in-Ok-clause-usage : goal.returns-in-Ok-clause-usage
+returns-in-Ok-clause-usage g c = usage_ok _ c.in-Ok.ensures.usage
 
-pub returns-in-Err-clause-only : goal.returns-in-Err-clause-only
-returns-in-Err-clause-only g c = subst IsStatus (sym c.status.ensures) (status_known c.in-Err.error)
+pub returns-in-Ok-clause-complete : goal.returns-in-Ok-clause-complete
+returns-in-Ok-clause-complete g c = λ s h all faultless. zero_completes _ all (c.in-Ok.ensures.complete s h all faultless)
+
+pub returns-in-Err-clause-err : goal.returns-in-Err-clause-err
+returns-in-Err-clause-err g c = λ _. record { error = c.in-Err.error; told = sym c.status.ensures; text = c.tell.ensures; fails = c.in-Err.ensures.err }
+
+pub returns-in-Err-clause-cause : goal.returns-in-Err-clause-cause
+returns-in-Err-clause-cause g c =
+    cause_result c.in-Err.error _ _ _ _ _ c.status.ensures c.in-Err.ensures.cause
+
+pub returns-in-Err-clause-usage : goal.returns-in-Err-clause-usage
+returns-in-Err-clause-usage g c = usage_err _ c.in-Err.error _ c.status.ensures c.in-Err.ensures.usage
+
+pub returns-in-Err-clause-complete : goal.returns-in-Err-clause-complete
+returns-in-Err-clause-complete g c = λ s h all faultless. status_completes _ all c.in-Err.error _ c.status.ensures (c.in-Err.ensures.complete s h all faultless)

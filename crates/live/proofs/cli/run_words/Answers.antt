@@ -1,25 +1,28 @@
-use Rattle.std.proofs.Common.{Err}
-use Rattle.live.proofs.Words.{completes_given, takes_given, writes_given, writes_nothing}
+use Rattle.std.proofs.Common.{Some, ap, subst, ◌∙◌}
+use Rattle.live.specs.Config.{FitsCommand}
+use Rattle.live.proofs.Words.{cause_words, completes_given, completes_wrong, fails_early, fails_given, finishes_given, if_err, on_ok, takes_given, usage_given}
 use Rattle.live.proofs.cli.run_words.Goals as goal
 
-pub returns-in-Err-Usage-clause-written : goal.returns-in-Err-Usage-clause-written
-returns-in-Err-Usage-clause-written g c = λ s h all known. writes_nothing _ s all _
+pub returns-clause-ok : goal.returns-clause-ok
+returns-clause-ok g c =
+    on_ok c.live_run.result (λ finishes. λ s h. finishes_given _ s _ _ _ _ _ c.into_config.result (c.in-Ok.ensures.ok ∙ ap Some c.into_config.ensures) (finishes _ (c.configure.ensures.holds s h))) c.live_run.ensures.ok
 
-pub returns-in-Err-OutOfMemory-clause-written : goal.returns-in-Err-OutOfMemory-clause-written
-returns-in-Err-OutOfMemory-clause-written g c = λ s h all known. writes_nothing _ s all _
+pub returns-clause-err : goal.returns-clause-err
+returns-clause-err g c =
+    if_err c.live_run.result (λ e fails. λ s h. fails_given _ s e _ _ _ _ c.into_config.result (c.in-Ok.ensures.ok ∙ ap Some c.into_config.ensures) (fails _ (c.configure.ensures.holds s h))) c.live_run.ensures.err
 
-pub returns-in-Err-clause-written : goal.returns-in-Err-clause-written
-returns-in-Err-clause-written g c = λ s h all known.
-    writes_given _ s all _ _ c.in-Ok.config c.in-Ok.ensures.ok (c.in-Err.ensures.written _ (c.configure.ensures.holds s h) all known)
+pub returns-clause-cause : goal.returns-clause-cause
+returns-clause-cause g c = if_err c.live_run.result (λ e cause. cause_words e _ _ _ _ cause) c.live_run.ensures.cause
 
-pub returns-in-Err-clause-complete : goal.returns-in-Err-clause-complete
-returns-in-Err-clause-complete g c = λ s h all known read write config given.
-    completes_given _ s all c.in-Ok.config c.in-Ok.ensures.ok (Err c.in-Err.error) (c.in-Err.ensures.complete _ (c.configure.ensures.holds s h) all known read write) config given
+pub returns-clause-usage : goal.returns-clause-usage
+returns-clause-usage g c = usage_given _ c.into_config.result _ _ _ _ _ (c.in-Ok.ensures.ok ∙ ap Some c.into_config.ensures) c.live_run.ensures.cause
 
-pub returns-in-Ok-live_run-clause-taken : goal.returns-in-Ok-live_run-clause-taken
-returns-in-Ok-live_run-clause-taken g c = λ s h.
-    takes_given _ _ _ c.in-Ok.config c.in-Ok.ensures.ok (c.in-Ok-live_run.ensures.taken _ (c.configure.ensures.holds s h))
+pub returns-clause-taken : goal.returns-clause-taken
+returns-clause-taken g c = takes_given _ _ _ c.into_config.result (c.in-Ok.ensures.ok ∙ ap Some c.into_config.ensures) (rw c.configure.ensures.config at c.live_run.ensures.taken)
 
-pub returns-in-Err-clause-taken : goal.returns-in-Err-clause-taken
-returns-in-Err-clause-taken g c = λ s h.
-    takes_given _ _ _ c.in-Ok.config c.in-Ok.ensures.ok (c.in-Err.ensures.taken _ (c.configure.ensures.holds s h))
+pub returns-clause-complete : goal.returns-clause-complete
+returns-clause-complete g c = λ s h all faultless.
+    completes_given _ s all c.into_config.result _ (c.in-Ok.ensures.ok ∙ ap Some c.into_config.ensures) (c.live_run.ensures.complete _ (c.configure.ensures.holds s h) all faultless)
+
+pub configure-requires : goal.configure-requires
+configure-requires g c = subst FitsCommand c.into_config.ensures c.in-Ok.ensures.fits

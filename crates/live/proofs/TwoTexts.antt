@@ -1,0 +1,181 @@
+-- The session of a text that another follows: its lines are those of both, and the outcome of more lines stands on that of the first.
+use Rattle.std.proofs.Common.{◌≡◌, ℕ, ◌+◌, ◌<◌, ◌≤◌, Bool, true, false, cond, List, [], ◌∷◌, ◌++◌, ◌==◌, Option, Some, None, length, refl, sym, ap, subst, ◌∙◌, append_assoc, append-nil, length-append, add-zero, arith, if◌then◌else◌}
+use Rattle.std.specs.List.{fold, onto_first, slice_split}
+use Rattle.std.specs.Option.{option_map}
+use Rattle.std.proofs.lemmas.List.Sums.{fold-append}
+use Rattle.vfs_core.specs.VfsPath.{PathContent}
+use Rattle.vfs_core.specs.declared.marks.MarkKind.{MarkKind}
+use Rattle.live.specs.declared.config.LiveConfig.{LiveConfig}
+use Rattle.live.specs.declared.event.Event.{Event}
+use Rattle.live.specs.declared.event.Event.TheVariants.{Exclude, File, Flush}
+use Rattle.live.specs.declared.fault.LiveError.{LiveError}
+use Rattle.live.specs.declared.fault.LiveError.TheVariants.{Script, TooMany}
+use Rattle.live.specs.Event.{event}
+use Rattle.live.specs.Laws.{AreJoinable, IsJoined, SessionsJoin, counted_on}
+use Rattle.live.specs.Lines.{final, front, last_line, newline, pieces, script_lines, unfinished, whole_lines}
+use Rattle.live.specs.Session.{Outcome, State, has_room, marked, session, start, take_line, take_line_after, then_turn, turn, turn_of, turns}
+use Rattle.live.proofs.Cuts.{parts_of}
+use Rattle.live.proofs.Deciding.{session-within}
+
+-- the pieces of a text, the first of which goes on a piece before it
+abbrev onto_piece : List ℕ → List (List ℕ) → List (List ℕ)
+onto_piece piece [] = piece ∷ []
+onto_piece piece (first ∷ others) = (piece ++ first) ∷ others
+
+-- one more byte on the first piece
+more-split : (byte : ℕ) (first : List ℕ) (others : List (List ℕ)) (second : List ℕ)
+    → onto_first byte (front (first ∷ others) ++ onto_piece (final (first ∷ others)) (pieces second))
+    ≡ front (onto_first byte (first ∷ others)) ++ onto_piece (final (onto_first byte (first ∷ others))) (pieces second)
+more-split byte first [] second = let r = parts_of (λ b. b == newline) second in rw r.is refl
+more-split byte first (other ∷ others) second = refl
+
+pieces-append : (first second : List ℕ) → pieces (first ++ second) ≡ front (pieces first) ++ onto_piece (final (pieces first)) (pieces second)
+pieces-append [] second = let r = parts_of (λ b. b == newline) second in rw r.is refl
+pieces-append (byte ∷ first) second =
+    let r = parts_of (λ b. b == newline) first in
+    rw (pieces-append first second)
+    (elim (byte == newline) as (λ v. cond v ([] ∷ (front (pieces first) ++ onto_piece (final (pieces first)) (pieces second))) (onto_first byte (front (pieces first) ++ onto_piece (final (pieces first)) (pieces second)))
+    ≡ front (cond v ([] ∷ pieces first) (onto_first byte (pieces first))) ++ onto_piece (final (cond v ([] ∷ pieces first) (onto_first byte (pieces first)))) (pieces second)) [
+      | true ↦ rw r.is refl
+      | false ↦ rw r.is (more-split byte r.first r.others second)
+    ])
+
+front-behind : (ps : List (List ℕ)) (first : List ℕ) (others : List (List ℕ)) → front (ps ++ first ∷ others) ≡ ps ++ front (first ∷ others)
+front-behind [] first others = refl
+front-behind (p ∷ []) first others = refl
+front-behind (p ∷ q ∷ ps) first others = ap (λ l. p ∷ l) (front-behind (q ∷ ps) first others)
+
+final-behind : (ps : List (List ℕ)) (first : List ℕ) (others : List (List ℕ)) → final (ps ++ first ∷ others) ≡ final (first ∷ others)
+final-behind [] first others = refl
+final-behind (p ∷ []) first others = refl
+final-behind (p ∷ q ∷ ps) first others = final-behind (q ∷ ps) first others
+
+-- a text that ends in a newline and one that follows it have the lines of both
+module _ (first second : List ℕ) (whole : unfinished first ≡ []) where
+  pieces-both : pieces (first ++ second) ≡ front (pieces first) ++ pieces second
+  unfolding unfinished
+  pieces-both =
+      let r = parts_of (λ b. b == newline) second in
+      pieces-append first second ∙ ap (λ p. front (pieces first) ++ onto_piece p (pieces second)) whole
+      ∙ ap (λ ps. front (pieces first) ++ onto_piece [] ps) r.is ∙ ap (λ ps. front (pieces first) ++ ps) (sym r.is)
+
+  script_lines-append : script_lines (first ++ second) ≡ script_lines first ++ script_lines second
+  unfolding script_lines whole_lines unfinished
+  script_lines-append =
+      let r = parts_of (λ b. b == newline) second in
+      let fronts : front (pieces (first ++ second)) ≡ front (pieces first) ++ front (pieces second) =
+      ap front (pieces-both ∙ ap (λ ps. front (pieces first) ++ ps) r.is) ∙ front-behind (front (pieces first)) r.first r.others ∙ ap (λ ps. front (pieces first) ++ front ps) (sym r.is) in
+      let finals : final (pieces (first ++ second)) ≡ final (pieces second) =
+      ap final (pieces-both ∙ ap (λ ps. front (pieces first) ++ ps) r.is) ∙ final-behind (front (pieces first)) r.first r.others ∙ ap final (sym r.is) in
+      let own : front (pieces first) ++ last_line (final (pieces first)) ≡ front (pieces first) =
+      ap (λ p. front (pieces first) ++ last_line p) whole ∙ append-nil (front (pieces first)) in
+      ap (λ ls. ls ++ last_line (final (pieces (first ++ second)))) fronts ∙ ap (λ p. (front (pieces first) ++ front (pieces second)) ++ last_line p) finals
+      ∙ append_assoc (front (pieces first)) (front (pieces second)) (last_line (final (pieces second)))
+      ∙ ap (λ ls. ls ++ (front (pieces second) ++ last_line (final (pieces second)))) (sym own)
+
+-- an outcome that stands on another: the lines of both, the pages of both, and the state and the refusal of the second
+abbrev behind : Outcome → Outcome → Outcome
+behind o q = record { state = q.state; pages = o.pages ++ q.pages; lines = o.lines + q.lines; refusal = option_map (counted_on o.lines) q.refusal }
+
+-- an event's refusal names no line
+marked-split : (s : State) (path : PathContent) (kind : MarkKind) (lines : ℕ) (room : Bool) → has_room s path ≡ room → option_map (counted_on lines) (marked s path kind).refusal ≡ (marked s path kind).refusal
+marked-split s path kind lines true e = rw e refl
+marked-split s path kind lines false e = rw e refl
+
+turn-counted : (s : State) (e : Event) (lines : ℕ) → option_map (counted_on lines) (turn s e).refusal ≡ (turn s e).refusal
+unfolding turn
+turn-counted s (File path text) lines = marked-split s path _ lines (has_room s path) refl
+turn-counted s (Exclude path) lines = marked-split s path _ lines (has_room s path) refl
+turn-counted s Flush lines = refl
+
+-- a line's turn by another number
+turn_of-counted : (s : State) (e : Option Event) (lines number : ℕ) → (turn_of s (lines + number) e).refusal ≡ option_map (counted_on lines) (turn_of s number e).refusal
+turn_of-counted s None lines number = refl
+turn_of-counted s (Some e) lines number = sym (turn-counted s e lines)
+
+turn_of-state : (s : State) (e : Option Event) (number other : ℕ) → (turn_of s number e).state ≡ (turn_of s other e).state
+turn_of-state s None number other = refl
+turn_of-state s (Some e) number other = refl
+
+turn_of-pages : (s : State) (e : Option Event) (number other : ℕ) → (turn_of s number e).pages ≡ (turn_of s other e).pages
+turn_of-pages s None number other = refl
+turn_of-pages s (Some e) number other = refl
+
+behind-split : (o q : Outcome) (line : List ℕ) (r : Option LiveError) → q.refusal ≡ r
+    → take_line_after (option_map (counted_on o.lines) r) (behind o q) line ≡ behind o (take_line_after r q line)
+behind-split o q line (Some error) is = refl
+behind-split o q line None is =
+    let number : (o.lines + q.lines) + 1 ≡ o.lines + (q.lines + 1) = omega arith in
+    λ i. record {
+      state = turn_of-state q.state (event line) ((o.lines + q.lines) + 1) (q.lines + 1) i;
+      pages = (ap (λ ps. (o.pages ++ q.pages) ++ ps) (turn_of-pages q.state (event line) ((o.lines + q.lines) + 1) (q.lines + 1))
+          ∙ append_assoc o.pages q.pages (turn_of q.state (q.lines + 1) (event line)).pages) i;
+      lines = number i;
+      refusal = (ap (λ n. (turn_of q.state n (event line)).refusal) number ∙ turn_of-counted q.state (event line) o.lines (q.lines + 1)) i;
+    }
+
+take_line-behind : (o q : Outcome) (line : List ℕ) → take_line (behind o q) line ≡ behind o (take_line q line)
+take_line-behind o q line = behind-split o q line q.refusal refl
+
+lines-behind : (o q : Outcome) (ls : List (List ℕ)) → fold take_line (behind o q) ls ≡ behind o (fold take_line q ls)
+lines-behind o q [] = refl
+lines-behind o q (line ∷ ls) = ap (λ p. fold take_line p ls) (take_line-behind o q line) ∙ lines-behind o (take_line q line) ls
+
+start-behind : (o : Outcome) → o.refusal ≡ None → o ≡ behind o (start o.state)
+start-behind o accepted = λ i. record {
+  state = o.state;
+  pages = sym (append-nil o.pages) i;
+  lines = sym (add-zero o.lines) i;
+  refusal = accepted i;
+}
+
+turns-behind : (s : State) (ls more : List (List ℕ)) → (turns s ls).refusal ≡ None → turns s (ls ++ more) ≡ behind (turns s ls) (turns (turns s ls).state more)
+unfolding turns
+turns-behind s ls more accepted =
+    let o = fold take_line (start s) ls in
+    fold-append take_line (start s) ls more ∙ ap (λ p. fold take_line p more) (start-behind o accepted) ∙ lines-behind o (start o.state) more
+
+-- no line changes the configuration
+marked-config : (s : State) (path : PathContent) (kind : MarkKind) (room : Bool) → has_room s path ≡ room → (marked s path kind).state.config ≡ s.config
+marked-config s path kind true e = rw e refl
+marked-config s path kind false e = rw e refl
+
+turn-config : (s : State) (e : Event) → (turn s e).state.config ≡ s.config
+unfolding turn
+turn-config s (File path text) = marked-config s path _ (has_room s path) refl
+turn-config s (Exclude path) = marked-config s path _ (has_room s path) refl
+turn-config s Flush = refl
+
+turn_of-config : (s : State) (number : ℕ) (e : Option Event) → (turn_of s number e).state.config ≡ s.config
+turn_of-config s number None = refl
+turn_of-config s number (Some e) = turn-config s e
+
+line-config : (o : Outcome) (line : List ℕ) (r : Option LiveError) → (take_line_after r o line).state.config ≡ o.state.config
+line-config o line None = turn_of-config o.state (o.lines + 1) (event line)
+line-config o line (Some error) = refl
+
+lines-config : (o : Outcome) (ls : List (List ℕ)) → (fold take_line o ls).state.config ≡ o.state.config
+lines-config o [] = refl
+lines-config o (line ∷ ls) = lines-config (take_line o line) ls ∙ line-config o line o.refusal
+
+turns-config : (s : State) (ls : List (List ℕ)) → (turns s ls).state.config ≡ s.config
+unfolding turns
+turns-config s ls = lines-config (start s) ls
+
+pub sessions_join : SessionsJoin
+sessions_join s first second h =
+    let long : length (first ++ second) ≡ length first + length second = length-append first second in
+    let own : session s first ≡ turns s (script_lines first) = session-within s first (omega (arith, h.within, long)) in
+    let o = turns s (script_lines first) in
+    let accepted : o.refusal ≡ None = ap (λ (p : Outcome). p.refusal) (sym own) ∙ h.accepted in
+    let limit : o.state.config.limits.bytes ≡ s.config.limits.bytes = ap (λ (c : LiveConfig). c.limits.bytes) (turns-config s (script_lines first)) in
+    let next : session o.state second ≡ turns o.state (script_lines second) = session-within o.state second (omega (arith, h.within, long, limit)) in
+    let both : session s (first ++ second) ≡ behind o (session o.state second) =
+    session-within s (first ++ second) h.within ∙ ap (turns s) (script_lines-append first second h.whole)
+    ∙ turns-behind s (script_lines first) (script_lines second) accepted ∙ ap (behind o) (sym next) in
+    let joined : IsJoined o (session o.state second) (session s (first ++ second)) = record {
+      pages = ap (λ (p : Outcome). p.pages) both;
+      state = ap (λ (p : Outcome). p.state) both;
+      refusal = ap (λ (p : Outcome). p.refusal) both;
+    } in
+    subst (λ (p : Outcome). IsJoined p (session p.state second) (session s (first ++ second))) (sym own) joined

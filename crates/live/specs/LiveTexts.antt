@@ -1,0 +1,53 @@
+-- The texts of the files that live, beside the table of files: a row for each path, in order of first mention.
+use Rattle.std.specs.Prelude.{◌≡◌, ℕ, Bool, true, List, [], ◌∷◌, ◌++◌, Option, Some, None, map, if◌then◌else◌}
+use Rattle.std.proofs.Common.{set}
+use Rattle.std.specs.Str.{is_utf8}
+use Rattle.vfs_core.specs.declared.marks.Mark.{Mark}
+use Rattle.vfs_core.specs.Files.{Files, Follows, TakesMark, TakesOut}
+use Rattle.vfs_core.specs.Marks.{live_text, mentioned_paths}
+use Rattle.vfs_core.specs.Texts.{BringsMark, BringsOut, BringsTo, KeepsPassing, all_pass}
+use Rattle.vfs_core.specs.VfsPath.{PathContent}
+
+-- the row of each path that marks speak of: the text of its file, where the file lives
+abbrev pub rows_of : List Mark → List (Option (List ℕ))
+rows_of marks = map (live_text marks) (mentioned_paths marks)
+
+-- files and rows of texts are what marks make of them
+pub record KeepsTexts (files : Files) (rows : List (Option (List ℕ))) (marks : List Mark) : Type 0 where
+  pub follows : Follows files marks
+  pub texts : rows ≡ rows_of marks
+
+-- the rows after a text, or none, came for the path of a number, or for a path that has no number yet
+abbrev pub with_text : List (Option (List ℕ)) → Option ℕ → Bool → Option (List ℕ) → List (Option (List ℕ))
+with_text rows None is_changed text = rows ++ (if is_changed then text else None) ∷ []
+with_text rows (Some number) is_changed text = if is_changed then set rows number text else rows
+
+-- the files whose texts stand in rows, by the paths of their numbers
+abbrev pub files_kept : List PathContent → List (Option (List ℕ)) → List (PathContent × List ℕ)
+files_kept [] rows = []
+files_kept (place ∷ places) [] = []
+files_kept (place ∷ places) (None ∷ rows) = files_kept places rows
+files_kept (place ∷ places) (Some text ∷ rows) = (place, text) ∷ files_kept places rows
+
+-- contents, or a deletion where there are none, came for a path
+pub record TakesContents (old new : Files) (path : PathContent) (contents : Option (List ℕ)) : Type 0 where
+  pub limit : new.limit ≡ old.limit
+  pub follows : TakesMark old new path contents
+  pub brings : BringsMark old new path contents
+  pub passing : KeepsPassing old new contents
+
+-- a path was left out
+pub record TakesExclusion (old new : Files) (path : PathContent) : Type 0 where
+  pub limit : new.limit ≡ old.limit
+  pub follows : TakesOut old new path
+  pub brings : BringsOut old new path
+  pub batch : new.batch ≡ old.batch
+
+-- whatever marks files and rows were made of, they are made of these and one more; and what the changes of the files
+-- brought to the texts that live, they bring to them still
+pub record AddsMark (old new : Files) (rows rows' : List (Option (List ℕ))) (mark : Mark) : Type 0 where
+  pub limit : new.limit ≡ old.limit
+  pub keeps : (marks : List Mark) → KeepsTexts old rows marks → KeepsTexts new rows' (mark ∷ marks)
+  pub brings : (known : ℕ → Option (List ℕ)) (marks : List Mark) → Follows old marks → BringsTo old known marks
+      → BringsTo new known (mark ∷ marks)
+  pub texts : all_pass is_utf8 old.batch ≡ true → all_pass is_utf8 new.batch ≡ true

@@ -1,0 +1,153 @@
+//! The rows of the table of texts. Each file number has one, with the text of its file where that lives.
+
+ghost use Rattle.std.specs.Prelude.{◌≡◌, ◌++◌, ◌<◌, ◌∷◌, [], IfOk, IsErrOf, OnErr, OnOk, None, true, vec_len, vec_capacity};
+ghost use Rattle.std.proofs.Common.{set};
+ghost use Rattle.vfs_core.specs.Files.{IsFullFor, bytes_of, is_change_at, number_of};
+ghost use Rattle.live.specs.LiveTexts.{TakesContents, TakesExclusion, with_text};
+
+use crate::shared_text::SharedText;
+use base_text::TryClone;
+use std::alloc::{AllocError, Global};
+use std::marker::Model;
+use vfs_core::{Vfs, VfsError, VfsPath};
+
+/// A row for each file number, with the text of a file that lives. A copy shares the texts.
+#[derive(Drop)]
+pub(crate) struct Rows {
+    texts: Vec<Option<SharedText>>,
+}
+
+impl Model for Rows {
+    ghost use Rattle.std.specs.Prelude.{ℕ, List, Option};
+
+    ghost Value = { List (Option (List ℕ)) };
+
+    ghost view = { λ r. r.texts.items };
+}
+
+impl Clone for Rows {
+    ghost use Rattle.std.specs.Prelude.{◌≡◌};
+
+    ghost is_clone = { λ rows copy. copy ≡ rows };
+
+    fn clone(&self) -> Result<Self, AllocError> {
+        let alloc = *self.texts.allocator();
+        let mut texts = Vec::new(alloc);
+        for text in &self.texts {
+            texts.push(text.try_clone(alloc)?)?;
+        }
+        Ok(Rows { texts })
+    }
+}
+
+impl Rows {
+    /// No row.
+    pub(crate) fn new(alloc: Global) -> Self
+        ensures { result ≡ [] }
+    {
+        Rows {
+            texts: Vec::new(alloc),
+        }
+    }
+
+    /// Sets the contents of a file, and stores its text where that changed something. Room is made first.
+    pub(crate) fn put(
+        &mut self,
+        files: &mut Vfs,
+        path: VfsPath,
+        contents: Option<Vec<u8>>,
+        text: Option<SharedText>,
+    ) -> Result<(), VfsError>
+        ensures rows { OnOk result (self.new ≡ with_text self.old
+            (number_of files.old path) (is_change_at files.old path (bytes_of contents)) text) }
+        ensures files { OnOk result (TakesContents files.old files.new path (bytes_of contents)) }
+        ensures room { OnOk result (¬ (IsFullFor files.old path)) }
+        ensures too_many { IsErrOf result VfsError.TooMany → IsFullFor files.old path }
+        ensures err { OnErr result ((files.new ≡ files.old) × (self.new ≡ self.old)) }
+    {
+        put_row(files, &mut self.texts, path, contents, text)
+    }
+
+    /// Leaves a file out, and empties its row. Room is made first.
+    pub(crate) fn exclude(&mut self, files: &mut Vfs, path: VfsPath) -> Result<(), VfsError>
+        ensures rows { OnOk result (self.new ≡ with_text self.old (number_of files.old path) true None) }
+        ensures files { OnOk result (TakesExclusion files.old files.new path) }
+        ensures room { OnOk result (¬ (IsFullFor files.old path)) }
+        ensures too_many { IsErrOf result VfsError.TooMany → IsFullFor files.old path }
+        ensures err { OnErr result ((files.new ≡ files.old) × (self.new ≡ self.old)) }
+    {
+        exclude_row(files, &mut self.texts, path)
+    }
+}
+
+// Sets the contents of a file, and stores its text in the rows.
+fn put_row(
+    files: &mut Vfs,
+    rows: &mut Vec<Option<SharedText>>,
+    path: VfsPath,
+    contents: Option<Vec<u8>>,
+    text: Option<SharedText>,
+) -> Result<(), VfsError>
+    ensures rows { OnOk result (rows.new.items ≡ with_text rows.old.items
+        (number_of files.old path) (is_change_at files.old path (bytes_of contents)) text) }
+    ensures files { OnOk result (TakesContents files.old files.new path (bytes_of contents)) }
+    ensures room { OnOk result (¬ (IsFullFor files.old path)) }
+    ensures too_many { IsErrOf result VfsError.TooMany → IsFullFor files.old path }
+    ensures err { OnErr result ((files.new ≡ files.old) × (rows.new.items ≡ rows.old.items)) }
+{
+    rows.reserve(1)?;
+    let number = files.number_of(&path);
+    let changed = files.set_file_contents(path, contents)?;
+    match number {
+        Some(id) => {
+            if changed {
+                store(rows, id.index() as usize, text);
+            }
+        }
+        None => push_row(rows, if changed { text } else { None }),
+    }
+    Ok(())
+}
+
+// Leaves a file out, and empties its row.
+fn exclude_row(
+    files: &mut Vfs,
+    rows: &mut Vec<Option<SharedText>>,
+    path: VfsPath,
+) -> Result<(), VfsError>
+    ensures rows { OnOk result (rows.new.items
+        ≡ with_text rows.old.items (number_of files.old path) true None) }
+    ensures files { OnOk result (TakesExclusion files.old files.new path) }
+    ensures room { OnOk result (¬ (IsFullFor files.old path)) }
+    ensures too_many { IsErrOf result VfsError.TooMany → IsFullFor files.old path }
+    ensures err { OnErr result ((files.new ≡ files.old) × (rows.new.items ≡ rows.old.items)) }
+{
+    rows.reserve(1)?;
+    let number = files.number_of(&path);
+    files.insert_excluded_file(path)?;
+    match number {
+        Some(id) => store(rows, id.index() as usize, None),
+        None => push_row(rows, None),
+    }
+    Ok(())
+}
+
+// Stores a text in the row of a number.
+fn store(rows: &mut Vec<Option<SharedText>>, number: usize, text: Option<SharedText>)
+    ensures { rows.new.items ≡ set rows.old.items number text }
+{
+    if number < rows.len() {
+        rows[number] = text;
+    }
+}
+
+// One row more, for which there is room.
+fn push_row(rows: &mut Vec<Option<SharedText>>, text: Option<SharedText>)
+    requires { vec_len rows.old < vec_capacity rows.old }
+    ensures { rows.new.items ≡ rows.old.items ++ text ∷ [] }
+{
+    match rows.push(text) {
+        Ok(()) => {}
+        Err(_) => unreachable!(),
+    }
+}

@@ -1,0 +1,39 @@
+-- What a call on a new session does, and what stands where there was no memory for one.
+use Rattle.std.proofs.Common.{◌≡◌, ℕ, List, Option, Some, None, refl, sym, subst, inl, inr, arith}
+use Rattle.live.specs.declared.fault.LiveError.TheVariants.{OutOfMemory}
+use Rattle.live.specs.declared.fault.LiveError.{LiveError}
+use Rattle.live.specs.declared.session.Live.{Live}
+use Rattle.live.specs.Cli.{CompletesAs, FailsAs, StatusOf}
+use Rattle.live.specs.Fault.{status_of}
+use Rattle.live.specs.Session.{State, session}
+use Rattle.live.specs.Turn.{Holds, first_state}
+use Rattle.live.proofs.Outcomes.{AppendsFront-nil}
+use Rattle.live_prog.specs.Top.{FailsTop}
+
+-- a call on a session that holds the first state
+pub fails_new : (words : List (List ℕ)) (status : ℕ) (live live' : Live) (left old new told told' : Option (List ℕ)) → Holds live first_state
+    → FailsAs words status (live, live') left ((old, new), (told, told')) → FailsTop words status left ((old, new), (told, told'))
+fails_new words status live live' left old new told told' h fails = record {
+  error = fails.error;
+  told = fails.told;
+  text = fails.text;
+  fails = λ s given all known.
+      let failed = fails.fails first_state h s given all known in
+      record { written = failed.written; refused = λ r. (live', failed.refused r) };
+}
+
+-- no memory for a session: nothing was touched
+pub memory_top : (words : List (List ℕ)) (status : ℕ) (left held told : Option (List ℕ)) → status ≡ 1 → FailsTop words status left ((held, held), (told, told))
+memory_top words status left held told is = record {
+  error = OutOfMemory;
+  told = sym is;
+  text = AppendsFront-nil told _;
+  fails = λ s given all known. record { written = AppendsFront-nil held (session s all).pages; refused = λ refusal. absurd (omega (arith, refusal)) };
+}
+
+memory_as : (refusal : Option LiveError) → StatusOf refusal 1
+memory_as None = inr refl
+memory_as (Some error) = inr refl
+
+pub memory_completes : (start : Option State) (all : List ℕ) (status : ℕ) → status ≡ 1 → CompletesAs start all status
+memory_completes start all status is s given = subst (StatusOf (session s all).refusal) (sym is) (memory_as (session s all).refusal)
