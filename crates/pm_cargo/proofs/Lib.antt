@@ -1,0 +1,5 @@
+pub mod ListLemmas
+pub mod ClosureLemmas
+pub mod TrailLemmas
+pub mod GraphLemmas
+pub mod ManifestLemmas

@@ -1,0 +1,4 @@
+pub mod Closure
+pub mod Errors
+pub mod ManifestPath
+pub mod Trail
