@@ -1,11 +1,5 @@
-//! Tests of `cargo_meta` through its public calls.
+//! Tests of `cargo_meta` through its public calls: what is printed, compared and indexed.
 #![tactic(auto)]
 
-#[cfg(test)]
-mod commands;
-#[cfg(test)]
-mod documents;
-#[cfg(test)]
-mod sample;
 #[cfg(test)]
 mod values;

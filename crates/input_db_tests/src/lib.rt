@@ -1,5 +1,7 @@
-//! Tests of the list of crates of a database, through public calls.
+//! Tests of `input_db` through its public calls: setters, nonces, copies, and identities with data.
 #![tactic(auto)]
 
 #[cfg(test)]
 mod crates;
+#[cfg(test)]
+mod values;

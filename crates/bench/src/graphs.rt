@@ -1,0 +1,179 @@
+//! The graphs: a chain, whose dependencies are added from its front or from its end, layers of crates, each of
+//! which depends on all of the next layer, a chain that takes an equal one in, and chains that are set in a
+//! database.
+
+use anyhow::{Result, bail};
+use base_text::{AbsPathBuf, CfgOptions, Edition, FileId, Text};
+use crate_graph::target::TargetLoadError;
+use crate_graph::{
+    CrateBuilderId, CrateGraphBuilder, CrateName, CrateOrigin, CrateWorkspaceData, Dependency, Env,
+    LangCrateOrigin, ProcMacroPaths, TargetKind,
+};
+use input_db::{InputDb, Nonce, SourceDatabase, set_in_db};
+use std::alloc::Global;
+use std::rc::Rc;
+
+/// How many crates a chain has.
+const CHAIN: u32 = 4096;
+
+/// How many crates each of two chains has of which one takes the other in.
+const JOINED: u32 = 2000;
+
+/// How many crates a chain has that is set in a database.
+const SET: u32 = 200_000;
+
+/// How many layers there are, and how many crates each of them has.
+const LAYERS: u32 = 16;
+
+const WIDTH: u32 = 32;
+
+/// Which graph is built.
+#[derive(Clone, Copy, Debug, PartialEq, Eq)]
+pub enum Kind {
+    /// A chain, each crate of which gets its dependency before the next one does.
+    Forward,
+    /// A chain, each crate of which gets its dependency after the next one did.
+    Backward,
+    Layers,
+    /// A chain that takes an equal one in.
+    Joined,
+    /// A chain that is set in a database, each crate of which has a root file of its own.
+    Set,
+    /// A chain that is set in a database, all crates of which have one root file.
+    SetApart,
+}
+
+impl Kind {
+    /// The kind that a word of the command line names.
+    pub fn of_word(word: &str) -> Option<Kind> {
+        match word {
+            "forward" => Some(Kind::Forward),
+            "backward" => Some(Kind::Backward),
+            "layers" => Some(Kind::Layers),
+            "joined" => Some(Kind::Joined),
+            "set" => Some(Kind::Set),
+            "set-apart" => Some(Kind::SetApart),
+            _ => None,
+        }
+    }
+}
+
+/// Builds a graph, and returns how many crates its first one reaches.
+pub fn build(alloc: Global, kind: Kind) -> Result<usize> {
+    let graph = match kind {
+        Kind::Forward => chain(alloc, crates(alloc, CHAIN, false)?, true)?,
+        Kind::Backward => chain(alloc, crates(alloc, CHAIN, false)?, false)?,
+        Kind::Layers => layers(alloc)?,
+        Kind::Joined => joined(alloc)?,
+        Kind::Set => return set(alloc, true),
+        Kind::SetApart => return set(alloc, false),
+    };
+    let first = CrateBuilderId::from_raw(0);
+    if !graph.contains(first) {
+        bail!("no crates");
+    }
+    let reached = graph.transitive_deps(alloc, first)?;
+    Ok(reached.len())
+}
+
+// Lets each crate of a graph depend on the next.
+fn chain(alloc: Global, crates: CrateGraphBuilder, forward: bool) -> Result<CrateGraphBuilder> {
+    let mut graph = crates;
+    let count = graph.len() as u32;
+    for place in 1..count {
+        let from = if forward {
+            place - 1
+        } else {
+            count - 1 - place
+        };
+        depend(alloc, &mut graph, from, from + 1)?;
+    }
+    Ok(graph)
+}
+
+fn joined(alloc: Global) -> Result<CrateGraphBuilder> {
+    let mut graph = chain(alloc, crates(alloc, JOINED, false)?, true)?;
+    let other = chain(alloc, crates(alloc, JOINED, false)?, true)?;
+    let mut proc_macros = ProcMacroPaths::new(alloc);
+    graph.extend(alloc, other, &mut proc_macros)?;
+    Ok(graph)
+}
+
+// Sets a chain in a database, and returns how many crates its first one reaches there.
+fn set(alloc: Global, own_files: bool) -> Result<usize> {
+    let graph = chain(alloc, crates(alloc, SET, own_files)?, true)?;
+    let mut db = InputDb::new(alloc, Nonce::invalid());
+    let ids = set_in_db(alloc, graph, &mut db)?;
+    let Some(first) = ids.get(&CrateBuilderId::from_raw(0)) else {
+        bail!("no crates");
+    };
+    let first = *first;
+    if !db.has_crate(first) {
+        bail!("no such crate");
+    }
+    let reached = first.transitive_deps(alloc, &db)?;
+    Ok(reached.len())
+}
+
+fn layers(alloc: Global) -> Result<CrateGraphBuilder> {
+    let mut graph = crates(alloc, LAYERS * WIDTH, false)?;
+    for layer in 0..LAYERS - 1 {
+        for from in 0..WIDTH {
+            for to in 0..WIDTH {
+                let base = layer * WIDTH;
+                depend(alloc, &mut graph, base + from, base + WIDTH + to)?;
+            }
+        }
+    }
+    Ok(graph)
+}
+
+// A graph of so many crates that depend on nothing, of one root file or each of a root file of its own.
+fn crates(alloc: Global, count: u32, own_files: bool) -> Result<CrateGraphBuilder> {
+    let mut graph = CrateGraphBuilder::new(alloc, count);
+    for place in 0..count {
+        let file = if own_files { place } else { 1 };
+        if file > 0x7fff_ffff {
+            bail!("too many crates");
+        }
+        add(alloc, &mut graph, FileId::from_raw(file))?;
+    }
+    Ok(graph)
+}
+
+fn add(alloc: Global, graph: &mut CrateGraphBuilder, file: FileId) -> Result<()> {
+    let Ok(directory) = AbsPathBuf::new(alloc, "/w") else {
+        bail!("no directory");
+    };
+    let workspace = CrateWorkspaceData {
+        target: Err(TargetLoadError(Text::of_str(alloc, "no rustc")?)),
+        toolchain: None,
+    };
+    let workspace = Rc::new(alloc, workspace)?;
+    graph.add_crate_root(
+        file,
+        Edition::CURRENT,
+        None,
+        None,
+        CfgOptions::new(alloc),
+        None,
+        Env::new(alloc),
+        CrateOrigin::Lang(LangCrateOrigin::Core),
+        Vec::new(alloc),
+        TargetKind::Bin,
+        directory,
+        workspace,
+    )?;
+    Ok(())
+}
+
+fn depend(alloc: Global, graph: &mut CrateGraphBuilder, from: u32, to: u32) -> Result<()> {
+    let name = CrateName::normalize_dashes(alloc, "dep")?;
+    let from = CrateBuilderId::from_raw(from);
+    let to = CrateBuilderId::from_raw(to);
+    if !graph.contains(from) || !graph.contains(to) {
+        bail!("no such crate");
+    }
+    graph.add_dep(from, Dependency::new(name, to))?;
+    Ok(())
+}

@@ -1,0 +1,46 @@
+-- the table of a release, with a row of each kind
+use Rattle.std.specs.Prelude.{[], codes, false, Ok}
+use Rattle.serde_json.specs.Data.{Data, object, no_members, null, boolean, number, string, unsigned}
+use Rattle.json_fields.specs.Fields.{any_at, defaulted, flag_at, list_at, map_at, members_at, number_at, optional, required, text_at}
+use Rattle.json_fields.specs.Outcome.{Reading, ◌>>=◌}
+use Rattle.json_fields.specs.Versions.{bare_at, requirement_at, version_at, version_data}
+use Rattle.json_fields.specs.Written.{list_data, map_data, option_data, set_member}
+use Rattle.json_fields_tests.specs.declared.release.Release.{Release}
+
+-- a release as its document tells it
+unfoldable pub release_at : Data → Reading Release
+release_at d = do
+  ms ← members_at d
+  name ← required (codes "name") text_at ms
+  version ← required (codes "version") version_at ms
+  size ← required (codes "size") number_at ms
+  summary ← optional (codes "summary") text_at ms
+  rust_version ← optional (codes "rust-version") bare_at ms
+  yanked ← defaulted (codes "yanked") false flag_at ms
+  tags ← defaulted (codes "tags") [] (list_at text_at) ms
+  dependencies ← defaulted (codes "dependencies") [] (map_at requirement_at) ms
+  extra ← defaulted (codes "extra") null any_at ms
+  Ok (record {
+    name = name;
+    version = version;
+    size = size;
+    summary = summary;
+    rust_version = rust_version;
+    yanked = yanked;
+    tags = tags;
+    dependencies = dependencies;
+    extra = extra;
+  })
+
+-- the document of a release
+unfoldable pub release_data : Release → Data
+release_data r =
+    object (set_member (codes "extra") r.extra
+    (set_member (codes "dependencies") (map_data string r.dependencies)
+    (set_member (codes "tags") (list_data string r.tags)
+    (set_member (codes "yanked") (boolean r.yanked)
+    (set_member (codes "rust-version") (option_data version_data r.rust_version)
+    (set_member (codes "summary") (option_data string r.summary)
+    (set_member (codes "size") (number (unsigned r.size))
+    (set_member (codes "version") (version_data r.version)
+    (set_member (codes "name") (string r.name) no_members)))))))))
