@@ -66,8 +66,7 @@ impl<K, V: Drop> ArenaMap<K, V> {
         ensures put { OnOk result (self.new ≡ map.insert self.old (number_of id) value) }
         ensures unchanged { OnErr result (self.new ≡ self.old) }
     {
-        let old = self.values.insert(id.into_raw(), value)?;
-        Ok(old)
+        Ok(self.values.insert(id.into_raw(), value)?)
     }
 }
 

@@ -14,6 +14,7 @@ pub same_map_per : {X : Type 0} {eq : X → X → Bool} → IsPartialEquivalence
 same_map_per laws =
     on_per entries (lists_per (and_per (on_per (λ p. p.0) (partial_equiv_from_equiv nat_eq_equiv)) (on_per (λ p. p.1) laws)))
 
+-- it is an equivalence where that of the values is
 pub same_map_equiv : {X : Type 0} {eq : X → X → Bool} → IsEquivalence eq → IsEquivalence (same_map eq)
 same_map_equiv laws =
     on_equiv entries (lists_equiv (and_equiv (on_equiv (λ p. p.0) nat_eq_equiv) (on_equiv (λ p. p.1) laws)))

@@ -60,8 +60,7 @@ impl<V: Drop> ByNumber<V> {
         ensures ok { OnOk result (self.new ≡ map.insert self.old number value) }
         ensures err { OnErr result (self.new ≡ self.old) }
     {
-        let before = self.values.insert(number, value)?;
-        Ok(before)
+        Ok(self.values.insert(number, value)?)
     }
 }
 

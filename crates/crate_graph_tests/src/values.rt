@@ -13,8 +13,7 @@ use std::rc::Rc;
 use std::test::Fail;
 
 fn name(alloc: Global, text: &str) -> Result<CrateName, Fail> {
-    let name = CrateName::normalize_dashes(alloc, text)?;
-    Ok(name)
+    Ok(CrateName::normalize_dashes(alloc, text)?)
 }
 
 fn dependency(alloc: Global, id: u32) -> Result<DependencyBuilder, Fail> {

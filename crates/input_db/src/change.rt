@@ -119,8 +119,7 @@ impl FileChange {
             (applied self (D.seen db.old)) (D.seen db.new)) }
     {
         let graph = self.make(alloc, db)?;
-        let ids = set_crates(alloc, graph, db)?;
-        Ok(ids)
+        Ok(set_crates(alloc, graph, db)?)
     }
 
     // Makes the change except for the crates, and returns their graph.

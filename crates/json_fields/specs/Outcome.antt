@@ -11,6 +11,7 @@ Reading T = Result T (List ℕ)
 
 -- the next field is read where this one did not miss
 infixl 10 ◌>>=◌
+-- a reading, and what is read with its value
 abbrev pub ◌>>=◌ : {A B : Type 0} → Reading A → (A → Reading B) → Reading B
 Ok x >>= f = f x
 Err p >>= f = Err p

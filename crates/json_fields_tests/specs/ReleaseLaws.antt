@@ -9,6 +9,7 @@ use Rattle.json_fields.specs.RoundTrip.{RoundTrips}
 use Rattle.json_fields.specs.Written.{set_member}
 use Rattle.json_fields_tests.specs.Release.{release_at, release_data}
 
+-- a release is read again from what is written of it
 pub release-round_trips : RoundTrips release_at release_data 2
 unfolding release_at release_data required optional defaulted set_member
 release-round_trips = table-round_trips _ release_data 2 λ ms.

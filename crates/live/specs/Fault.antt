@@ -42,22 +42,27 @@ IsRefusal error = 5 ≤ status_of error
 abbrev pub IsOneOf : List ℕ → ℕ → Type 0
 IsOneOf statuses status = list_any (nat_eq status) statuses ≡ true
 
--- the statuses of the errors that a flush may give, an event, a line, a run, and a call with words; and all statuses
+-- the statuses of the errors that a flush may give
 abbrev pub flush_statuses : List ℕ
 flush_statuses = 1 ∷ 4 ∷ []
 
+-- those of the errors of one event
 abbrev pub turn_statuses : List ℕ
 turn_statuses = 1 ∷ 4 ∷ 17 ∷ []
 
+-- those of reading lines
 abbrev pub line_statuses : List ℕ
 line_statuses = 1 ∷ 4 ∷ 5 ∷ 17 ∷ []
 
+-- those of a run over a script
 abbrev pub run_statuses : List ℕ
 run_statuses = 1 ∷ 3 ∷ 4 ∷ 5 ∷ 17 ∷ []
 
+-- those of the words
 abbrev pub word_statuses : List ℕ
 word_statuses = 1 ∷ 2 ∷ 3 ∷ 4 ∷ 5 ∷ 17 ∷ []
 
+-- all statuses, that of success among them
 abbrev pub all_statuses : List ℕ
 all_statuses = 0 ∷ word_statuses
 

@@ -17,6 +17,7 @@ Reading T = Result T WorkspaceError
 
 -- the next part is read where this one is not refused
 infixl 10 ◌>>=◌
+-- a reading, and what is read with its value
 abbrev pub ◌>>=◌ : {A B : Type 0} → Reading A → (A → Reading B) → Reading B
 Ok x >>= f = f x
 Err e >>= f = Err e

@@ -54,8 +54,7 @@ impl VfsPath {
         ensures not_absolute { IsErrOf result PathError.NotAbsolute ↔ ¬ (IsAbsolute path.now) }
     {
         let path = AbsPathBuf::new(alloc, path)?;
-        let made = VfsPath::from_abs(alloc, path)?;
-        Ok(made)
+        Ok(VfsPath::from_abs(alloc, path)?)
     }
 
     /// The real path of an absolute path, which is normalized.

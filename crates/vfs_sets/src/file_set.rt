@@ -159,6 +159,5 @@ fn sibling_path(alloc: Global, path: &VfsPath, tail: &str) -> Result<Option<VfsP
 {
     let mut base = path.try_clone(alloc)?;
     let _ = base.pop();
-    let joined = base.join(alloc, tail)?;
-    Ok(joined)
+    Ok(base.join(alloc, tail)?)
 }

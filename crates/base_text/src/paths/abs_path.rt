@@ -51,8 +51,7 @@ impl<'a> AbsPath<'a> {
     {
         let mut slashed = self.row_before(alloc, tail)?;
         push_components(&mut slashed, tail)?;
-        let path = AbsPathBuf::of_slashed(slashed)?;
-        Ok(path)
+        Ok(AbsPathBuf::of_slashed(slashed)?)
     }
 
     /// The row of components that stay before a tail.
@@ -63,8 +62,7 @@ impl<'a> AbsPath<'a> {
         if tail.starts_with('/') {
             Ok(String::new(alloc))
         } else {
-            let row = String::from_str(alloc, row_of(self.text))?;
-            Ok(row)
+            Ok(String::from_str(alloc, row_of(self.text))?)
         }
     }
 
@@ -78,8 +76,7 @@ impl<'a> AbsPath<'a> {
     {
         let mut slashed = String::new(alloc);
         push_resolved(&mut slashed, self.text)?;
-        let path = AbsPathBuf::of_slashed(slashed)?;
-        Ok(path)
+        Ok(AbsPathBuf::of_slashed(slashed)?)
     }
 
     /// The normal path with a tail behind it: each `..` of both is resolved.
@@ -91,7 +88,6 @@ impl<'a> AbsPath<'a> {
         ensures resolved { IfOk result IsResolved }
     {
         let whole = self.join(alloc, tail)?;
-        let path = whole.as_path().normalize(alloc)?;
-        Ok(path)
+        Ok(whole.as_path().normalize(alloc)?)
     }
 }

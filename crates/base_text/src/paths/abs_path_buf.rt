@@ -45,8 +45,7 @@ impl AbsPathBuf {
         }
         let mut slashed = String::new(alloc);
         push_components(&mut slashed, text)?;
-        let path = AbsPathBuf::of_slashed(slashed)?;
-        Ok(path)
+        Ok(AbsPathBuf::of_slashed(slashed)?)
     }
 
     pub fn as_path(&self) -> AbsPath<'_>

@@ -11,6 +11,7 @@ use Rattle.cargo_meta.specs.Dependency.{dependency_at, dependency_data}
 use Rattle.cargo_meta.specs.laws.Kinds.{dependency_kind-of_text, dependency_kind-round_trips}
 use Rattle.cargo_meta.specs.laws.Names.{source-round_trips}
 
+-- a dependency that a package declares
 pub dependency-round_trips : RoundTrips dependency_at dependency_data 0
 unfolding dependency_at dependency_data required optional set_member
 dependency-round_trips = table-round_trips _ dependency_data 0 λ ms.

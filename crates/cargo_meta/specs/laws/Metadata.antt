@@ -22,6 +22,7 @@ none-or_not : (ids : Option (List PackageId))
 none-or_not None = refl
 none-or_not (Some ids) = refl
 
+-- a whole document
 pub metadata-round_trips : RoundTrips metadata_at metadata_data 7
 unfolding metadata_at metadata_data metadata_from metadata_members
 metadata-round_trips = table-round_trips _ metadata_data 7 λ ms.

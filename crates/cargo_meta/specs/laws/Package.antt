@@ -49,10 +49,12 @@ record HeadKept (may_float : Bool) (n : ℕ) (p : Package) : Type 0 where
   pub again : (ms : Members) → head_from (head_set p ms) ≡ Ok (with_head p)
   pub written : (ws : Members) → AreWritten may_float n ws → AreWritten may_float n (head_set p ws)
 
+-- the middle group
 record BodyKept (may_float : Bool) (n : ℕ) (p : Package) : Type 0 where
   pub again : (q : Package) (ms : Members) → body_from q (body_set p ms) ≡ Ok (with_body q p)
   pub written : (ws : Members) → AreWritten may_float n ws → AreWritten may_float n (body_set p ws)
 
+-- the last group
 record TailKept (may_float : Bool) (n : ℕ) (p : Package) : Type 0 where
   pub again : (q : Package) → tail_from q (tail_set p no_members) ≡ Ok (with_tail q p)
   pub written : (ws : Members) → AreWritten may_float n ws → AreWritten may_float n (tail_set p ws)
@@ -164,6 +166,7 @@ package-kept ms p kept =
     let written = kept.0.written _ (kept.1.written _ (kept.2.written _ (no_members-written _ _))) in
     record { again = package_from-again p kept.0.again kept.1.again kept.2.again; clean = written.clean; nests = omega (arith, written.nests) }
 
+-- a package
 pub package-round_trips : RoundTrips package_at package_data 4
 unfolding package_at package_from
 package-round_trips = table-round_trips _ package_data 4 λ ms.

@@ -10,6 +10,7 @@ use Rattle.cargo_meta.specs.Resolve.{dep_kind_at, dep_kind_data, node_at, node_d
 use Rattle.cargo_meta.specs.laws.Kinds.{dependency_kind-of_text, dependency_kind-round_trips}
 use Rattle.cargo_meta.specs.laws.Names.{package_id-round_trips}
 
+-- the kind of a resolved dependency
 pub dep_kind-round_trips : RoundTrips dep_kind_at dep_kind_data 0
 unfolding dep_kind_at dep_kind_data required optional set_member
 dep_kind-round_trips = table-round_trips _ dep_kind_data 0 λ ms.
@@ -29,6 +30,7 @@ dep_kind-round_trips = table-round_trips _ dep_kind_data 0 λ ms.
       nests = omega (arith, written.nests);
     })
 
+-- a resolved dependency
 pub node_dep-round_trips : RoundTrips node_dep_at node_dep_data 2
 unfolding node_dep_at node_dep_data required defaulted set_member
 node_dep-round_trips = table-round_trips _ node_dep_data 2 λ ms.
@@ -51,6 +53,7 @@ node_dep-round_trips = table-round_trips _ node_dep_data 2 λ ms.
       nests = omega (arith, written.nests);
     })
 
+-- a node of the resolved graph
 pub node-round_trips : RoundTrips node_at node_data 4
 unfolding node_at node_data required defaulted set_member
 node-round_trips = table-round_trips _ node_data 4 λ ms.
@@ -75,6 +78,7 @@ node-round_trips = table-round_trips _ node_data 4 λ ms.
       nests = omega (arith, written.nests);
     })
 
+-- the resolved graph
 pub resolve-round_trips : RoundTrips resolve_at resolve_data 6
 unfolding resolve_at resolve_data required optional set_member
 resolve-round_trips = table-round_trips _ resolve_data 6 λ ms.

@@ -11,6 +11,7 @@ use Rattle.cargo_meta.specs.Target.{target_at, target_data}
 use Rattle.cargo_meta.specs.declared.kinds.Edition.TheVariants.{E2015}
 use Rattle.cargo_meta.specs.laws.Kinds.{crate_type-round_trips, edition-round_trips, target_kind-round_trips}
 
+-- a target of a package
 pub target-round_trips : RoundTrips target_at target_data 2
 unfolding target_at target_data required defaulted set_member edition_of
 target-round_trips = table-round_trips _ target_data 2 λ ms.

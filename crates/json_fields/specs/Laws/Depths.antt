@@ -18,6 +18,7 @@ set_member-within n k d no_members h within = omega (arith, h)
 set_member-within n k d (member l e ms) h within =
     at_order n (slice_cmp nat_cmp k l) _ _ _ (omega (arith, h, within)) (omega (arith, h, within)) (omega (arith, within, set_member-within n k d ms h (omega (arith, within))))
 
+-- so do members after a value that is left out where it is null
 pub set_unless_null-within : (n : ℕ) (k : List ℕ) (d : Data) (ms : Members) → depth d ≤ n → members_depth ms ≤ n → members_depth (set_unless_null k d ms) ≤ n
 unfolding set_unless_null
 set_unless_null-within n k d ms h within = elim (cases_Bool (is_null d)) [

@@ -6,6 +6,7 @@ use Rattle.json_fields.specs.Outcome.{Reading}
 use Rattle.json_fields.specs.RoundTrip.{RoundTrips}
 use Rattle.json_fields.specs.Written.{option_data}
 
+-- a table over itself keeps its values to each depth, where one level keeps those of the level below
 pub nested-round_trips : {T : Type 0} (row : (Data → Reading T) → Data → Reading T) (writes : T → Data) (height : ℕ)
     → ((inner : Data → Reading T) → RoundTrips inner writes height → RoundTrips (row inner) writes height)
     → (n : ℕ) → RoundTrips (nested row n) writes height

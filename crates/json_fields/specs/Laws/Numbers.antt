@@ -27,6 +27,7 @@ u32-keeps (string s) = tt
 u32-keeps (array ds) = tt
 u32-keeps (object ms) = tt
 
+-- numbers below 2 ^ 32
 pub u32-round_trips : RoundTrips u32_at (λ n. number (unsigned n)) 0
 u32-round_trips = record { keeps = u32-keeps }
 
@@ -53,8 +54,10 @@ i64-keeps (string s) = tt
 i64-keeps (array ds) = tt
 i64-keeps (object ms) = tt
 
+-- signed numbers of 64 bits
 pub i64-round_trips : RoundTrips i64_at i64_data 0
 i64-round_trips = record { keeps = i64-keeps }
 
+-- a signed number is not written as null
 pub i64-present : (z : ℤ) → is_null (i64_data z) ≡ false
 i64-present z = refl

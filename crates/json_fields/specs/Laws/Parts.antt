@@ -8,10 +8,12 @@ use Rattle.serde_json.specs.Data.{Data, Members, no_members, member, depth, memb
 use Rattle.serde_json.specs.Find.{get_member}
 use Rattle.serde_json.specs.Written.{has_float, members_have_float}
 
+-- of two flags that are both down the first is
 pub first_of_none : (a b : Bool) → (a || b) ≡ false → a ≡ false
 first_of_none true b h = h
 first_of_none false b h = refl
 
+-- and the second
 pub rest_of_none : (a b : Bool) → (a || b) ≡ false → b ≡ false
 rest_of_none true b h = absurd (true≢false h)
 rest_of_none false b h = h

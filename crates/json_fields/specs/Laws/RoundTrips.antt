@@ -23,17 +23,21 @@ pub and_then : {A B : Type 0} {P : A → Type 0} {Q : B → Type 0} {r : Reading
 and_then {r = Ok x} h next = next x h.holds
 and_then {r = Err place} h next = record { holds = tt }
 
+-- what is read at the end of a table
 pub at_last : {A : Type 0} {P : A → Type 0} {x : A} → P x → ReadsAs (Ok x) P
 at_last h = record { holds = h }
 
+-- what holds of a reading holds of each value under it
 pub under-as : {A B : Type 0} {Q : B → Type 0} (f : A → B) {r : Reading A} → ReadsAs r (λ x. Q (f x)) → ReadsAs (under f r) Q
 under-as f {r = Ok x} h = record { holds = h.holds }
 under-as f {r = Err place} h = record { holds = tt }
 
+-- a reading below a key gives the same value
 pub below_key-as : {A : Type 0} {P : A → Type 0} (k : List ℕ) {r : Reading A} → ReadsAs r P → ReadsAs (below_key k r) P
 below_key-as k {r = Ok x} h = record { holds = h.holds }
 below_key-as k {r = Err place} h = record { holds = tt }
 
+-- and one below a position
 pub below_position-as : {A : Type 0} {P : A → Type 0} (n : ℕ) {r : Reading A} → ReadsAs r P → ReadsAs (below_position n r) P
 below_position-as n {r = Ok x} h = record { holds = h.holds }
 below_position-as n {r = Err place} h = record { holds = tt }
@@ -70,12 +74,15 @@ number-kept (string s) = tt
 number-kept (array ds) = tt
 number-kept (object ms) = tt
 
+-- texts
 pub text-round_trips : RoundTrips text_at string 0
 text-round_trips = record { keeps = text-kept }
 
+-- truth values
 pub flag-round_trips : RoundTrips flag_at boolean 0
 flag-round_trips = record { keeps = flag-kept }
 
+-- whole numbers
 pub number-round_trips : RoundTrips number_at (λ n. number (unsigned n)) 0
 number-round_trips = record { keeps = number-kept }
 
@@ -233,6 +240,7 @@ pub record AreWritten (may_float : Bool) (n : ℕ) (ws : Members) : Type 0 where
   pub clean : may_float ≡ false → members_have_float ws ≡ false
   pub nests : members_depth ws ≤ n
 
+-- an object begins with no members
 pub no_members-written : (may_float : Bool) (n : ℕ) → AreWritten may_float n no_members
 no_members-written may_float n = record { clean = λ _. refl; nests = omega arith }
 

@@ -101,6 +101,7 @@ set_member-no_float k d (member l e ms) h none =
     (neither (has_float d) _ h rest)
     (neither (has_float e) _ (first_of_none (has_float e) (members_have_float ms) none) (set_member-no_float k d ms h rest))
 
+-- a value with no float, left out where it is null, adds none
 pub set_unless_null-no_float : (k : List ℕ) (d : Data) (ms : Members) → has_float d ≡ false → members_have_float ms ≡ false → members_have_float (set_unless_null k d ms) ≡ false
 unfolding set_unless_null
 set_unless_null-no_float k d ms h none = elim (cases_Bool (is_null d)) [
@@ -113,6 +114,7 @@ pub optional-no_members : {T : Type 0} (k : List ℕ) (reads : Data → Reading 
 unfolding optional
 optional-no_members k reads = refl
 
+-- a row of an empty object gives its default
 pub defaulted-no_members : {T : Type 0} (k : List ℕ) (default : T) (reads : Data → Reading T) → defaulted k default reads no_members ≡ Ok default
 unfolding defaulted
 defaulted-no_members k default reads = refl

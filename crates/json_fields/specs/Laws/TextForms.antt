@@ -23,11 +23,14 @@ module _ {T : Type 0} (of_text : List ℕ → Reading T) (text_of : T → List �
   pub text_form-round_trips : RoundTrips (text_form_at of_text) (text_form_data text_of) 0
   text_form-round_trips = record { keeps = text_form-kept }
 
+-- versions
 pub version-round_trips : RoundTrips version_at version_data 0
 version-round_trips = text_form-round_trips version_of version_text version_of-again
 
+-- version requirements
 pub requirement-round_trips : RoundTrips requirement_at requirement_data 0
 requirement-round_trips = text_form-round_trips requirement_of (λ text. text) requirement_of-again
 
+-- bare versions
 pub bare-round_trips : RoundTrips bare_at version_data 0
 bare-round_trips = text_form-round_trips bare_of version_text bare_of-again

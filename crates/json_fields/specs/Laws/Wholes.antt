@@ -32,6 +32,7 @@ pub bytes_document-text : {T : Type 0} (reads : Data → Reading T) (bytes : Lis
 unfolding bytes_document
 bytes_document-text reads bytes h = rw (is_utf8-from_IsUtf8 bytes h) refl
 
+-- bytes that are not UTF-8 are refused as no JSON
 pub bytes_document-no_text : {T : Type 0} (reads : Data → Reading T) (bytes : List ℕ) → (IsUtf8 bytes → ⊥) → bytes_document reads bytes ≡ Err (codes "syntax")
 unfolding bytes_document
 bytes_document-no_text reads bytes h = elim (cases_Bool (is_utf8 bytes)) [

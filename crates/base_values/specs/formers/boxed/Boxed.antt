@@ -22,19 +22,24 @@ use Rattle.base_values.specs.declared.boxed.Boxed.TheView.{view, invariant}
 use Rattle.base_values.specs.contracts.boxed.Boxed as C
 use Rattle.base_values.specs.contracts.boxed.Boxed.TheInside as I
 
+-- a box holds one value of what it boxes
 abbrev pub the_former : Former {0} → Former {0}
 the_former g = g
 
+-- whose size is that of the value
 abbrev pub the_weighed : {g : Former {0}} → Weighed g → Weighed (the_former g)
 the_weighed w = w
 
+-- the fields of the code's struct: pointer and allocator, and the value
 abbrev fields : Former {0}
 fields = via (pair (const (Ptr × Global)) this) Inside (λ X a. ((a.inner.ptr, a.inner.alloc), a.inner.value))
     (λ X v. record { inner = record { ptr = v.0.0; alloc = v.0.1; value = v.1 } }) (λ X a. refl) (λ X v. refl)
 
+-- the box with another value
 abbrev with_value : {X Y : Type 0} → Box X Global → Y → Box Y Global
 with_value b y = record { ptr = b.ptr; alloc = b.alloc; value = y }
 
+-- the kit's box over a type, in the global allocator
 abbrev box_of : RattleType → RattleType
 box_of R = box.the_row R heap.the_row ghosts
 

@@ -19,21 +19,27 @@ use Rattle.base_values.specs.declared.items.Items.TheView.{view, invariant}
 use Rattle.base_values.specs.contracts.items.Items as C
 use Rattle.base_values.specs.contracts.items.Items.TheInside as I
 
+-- the items are a list
 abbrev pub the_former : Former {0} → Former {0}
 the_former g = list g
 
+-- whose size is that of its items
 abbrev pub the_weighed : {g : Former {0}} → Weighed g → Weighed (the_former g)
 the_weighed w = w_list w
 
+-- no items
 pub the_empty : List ⊥
 the_empty = []
 
+-- the items themselves
 abbrev pub the_items : (X : Type 0) → List X → List X
 the_items X d = d
 
+-- they are the children of the list in order
 pub the_items_listed : (X : Type 0) (d : List X) → listed _ (children (the_former this) X d) ≡ the_items X d
 the_items_listed X d = list-listed X d
 
+-- the fields of the code's struct: one vector
 abbrev fields : Former {0}
 fields = via (vec.the_former this Global) Inside (λ X a. a.inner) (λ X v. record { inner = v }) (λ X a. refl) (λ X v. refl)
 

@@ -1,6 +1,6 @@
 use Rattle.std.proofs.Common.{◌<◌, ◌≤◌, ◌∙◌, ap, arith, length}
 use Rattle.graph_base.specs.Trail.{empty_trail, after_edge}
-use Rattle.graph_base.proofs.TrailLemmas.{searched_none, searched_more, searched_all}
+use Rattle.graph_base.proofs.SearchLemmas.{searched_none, searched_more, searched_all}
 use Rattle.graph_base.proofs.search.search.Goals as goal
 
 pub loop-place-init : goal.loop-place-init

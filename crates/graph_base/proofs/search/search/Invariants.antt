@@ -1,5 +1,5 @@
 use Rattle.std.proofs.Common.{◌-◌, length}
-use Rattle.graph_base.proofs.TrailLemmas.{IsSearched}
+use Rattle.graph_base.proofs.SearchLemmas.{IsSearched}
 use Rattle.graph_base.proofs.search.search.Given as goal
 
 abbrev pub invariant-loop-place : goal.invariant-loop-place

@@ -7,7 +7,7 @@ use Rattle.base_values.proofs.by_number.ByNumber.insert.Goals as goal
 pub returns-clause-ok : goal.returns-clause-ok
 returns-clause-ok g c =
     rw (← c.self.view_is)
-    (insert_view nat_cmp nat_cmp_total nat_cmp-IsAntisymmetric _ _ _ _ c.in_ok-before.ensures.updates.0)
+    (insert_view nat_cmp nat_cmp_total nat_cmp-IsAntisymmetric _ _ _ _ c.in_ok-insert.ensures.updates.0)
 
 pub returns-clause-before : goal.returns-clause-before
-returns-clause-before g c = rw (← c.self.view_is, get-view nat_cmp nat_cmp_total) c.in_ok-before.ensures.old
+returns-clause-before g c = rw (← c.self.view_is, get-view nat_cmp nat_cmp_total) c.in_ok-insert.ensures.old

@@ -6,9 +6,9 @@ use Rattle.base_text.proofs.paths.abs_path.AbsPath.join.Goals as goal
 pub returns-clause-ok : goal.returns-clause-ok
 returns-clause-ok c =
     let row = row_joined _ _ _ _ c.in_ok-slashed.ensures c.in_ok-push_components.ensures in
-    c.in_ok-path.ensures.ok ∙ ap path_text row.components_are
+    c.in_ok-of_slashed.ensures.ok ∙ ap path_text row.components_are
 
 pub returns-clause-same_components : goal.returns-clause-same_components
 returns-clause-same_components c =
     let row = row_joined _ _ _ _ c.in_ok-slashed.ensures c.in_ok-push_components.ensures in
-    c.in_ok-path.ensures.same_components ∙ row.components_are
+    c.in_ok-of_slashed.ensures.same_components ∙ row.components_are

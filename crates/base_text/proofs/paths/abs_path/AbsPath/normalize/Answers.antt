@@ -13,14 +13,14 @@ of_slashed-requires c = row_slashed _ _ c.in_ok-push_resolved.ensures
 pub returns-clause-ok : goal.returns-clause-ok
 returns-clause-ok c =
     let row = row_resolved _ _ _ c.new-slashed.ensures.bytes c.in_ok-push_resolved.ensures in
-    c.in_ok-path.ensures.ok ∙ ap path_text row.components_are
+    c.in_ok-of_slashed.ensures.ok ∙ ap path_text row.components_are
 
 pub returns-clause-same_components : goal.returns-clause-same_components
 returns-clause-same_components c =
     let row = row_resolved _ _ _ c.new-slashed.ensures.bytes c.in_ok-push_resolved.ensures in
-    c.in_ok-path.ensures.same_components ∙ row.components_are
+    c.in_ok-of_slashed.ensures.same_components ∙ row.components_are
 
 pub returns-clause-resolved : goal.returns-clause-resolved
 returns-clause-resolved c =
     let row = row_resolved _ _ _ c.new-slashed.ensures.bytes c.in_ok-push_resolved.ensures in
-    normal_again _ _ (c.in_ok-path.ensures.same_components ∙ row.components_are)
+    normal_again _ _ (c.in_ok-of_slashed.ensures.same_components ∙ row.components_are)
