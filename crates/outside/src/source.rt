@@ -1,6 +1,6 @@
 //! Where bytes come from.
 
-ghost use Rattle.std.specs.Prelude.{◌≡◌, ℕ, List, Option, Some, Ok, IfOk, is_err, if◌then◌else◌};
+ghost use Rattle.std.specs.Prelude.{◌≡◌, ℕ, List, Option, Some, Ok, Err, if◌then◌else◌};
 ghost use Rattle.std.specs.Io.{ReadsAtMost};
 ghost use Rattle.std.specs.Io.KnownBytes.{ReadConsumes};
 ghost use Rattle.outside.specs.Causes.{HasCause};
@@ -128,8 +128,8 @@ impl ByteSource for FaultSource {
         ensures bound { ReadsAtMost result buf.new }
         ensures bytes { ReadConsumes (Some self.old.bytes) (Some self.new.bytes) result buf.new }
         ensures cause { HasCause self.old.faults self.new.faults result }
-        ensures failed { is_err result ≡ fails_next self.old }
-        ensures count { IfOk result (λ n. n ≡ read_count self.old.bytes buf.old) }
+        ensures answer { result ≡ (if fails_next self.old then Err (record {})
+            else Ok (read_count self.old.bytes buf.old)) }
         ensures next { self.new ≡ (if fails_next self.old then after_fault self.old
             else after_service self.old (left_after self.old.bytes buf.old)) }
         ensures buffer { buf.new ≡ (if fails_next self.old then buf.old
