@@ -11,7 +11,8 @@ use Rattle.vfs_core.specs.Marks.{with_path}
 use Rattle.vfs_core.specs.VfsPath.{PathContent, vfs_path_eq}
 use Rattle.vfs_core.proofs.BatchLemmas.{IsBatch_called, batch_of_none}
 use Rattle.vfs_core.proofs.FileLemmas.{Follows_mark, Follows_out}
-use Rattle.vfs_core.proofs.TextLemmas.{BringsTo_mark, BringsTo_out, BringsTo_taken, KeepsPassing_call}
+use Rattle.vfs_core.proofs.TextLemmas.{BringsTo_mark, BringsTo_out, BringsTo_taken}
+use Rattle.vfs_core.proofs.PassLemmas.{KeepsPassing_call}
 
 -- contents came for a path
 pub SetsContents_from : (old new : Files) (path : PathContent) (contents : Option (List ℕ))

@@ -7,6 +7,7 @@ pub mod MarkLemmas
 pub mod NormalLemmas
 pub mod NumberLemmas
 pub mod PartLemmas
+pub mod PassLemmas
 pub mod RoomLemmas
 pub mod TextLemmas
 pub mod TrimLemmas

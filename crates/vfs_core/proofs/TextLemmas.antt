@@ -1,5 +1,5 @@
 -- The batch brings what was known before it to the texts that live: one more call, a path left out, a batch taken.
-use Rattle.std.proofs.Common.{◌≡◌, ℕ, ◌+◌, ◌<◌, ◌≤◌, Bool, true, false, cond, not, ◌&&◌, ◌||◌, List, [], ◌∷◌, ◌++◌, Option, Some, None, refl, sym, ◌∙◌, ap, subst, arith, nat_eq, nat_lt, eqb, eqb-true, eq-eqb, true≢false, slice_get, position, length, length-append, if◌then◌else◌}
+use Rattle.std.proofs.Common.{◌≡◌, ℕ, ◌+◌, ◌<◌, ◌≤◌, Bool, true, false, cond, not, ◌||◌, List, [], ◌∷◌, ◌++◌, Option, Some, None, refl, sym, ◌∙◌, ap, subst, arith, nat_eq, nat_lt, eqb, eqb-true, eq-eqb, true≢false, slice_get, position, length, length-append, if◌then◌else◌}
 use Rattle.std.proofs.lemmas.Bool.{false_from_ne_true}
 use Rattle.std.proofs.lemmas.Bool.Decides.{nat_tests}
 use Rattle.std.proofs.lemmas.List.Folds.{prefix_len-append}
@@ -22,7 +22,7 @@ use Rattle.vfs_core.specs.Files.{Files, Follows, call_made, entry_state, kind_of
 use Rattle.vfs_core.specs.Hash.{content_hash}
 use Rattle.vfs_core.specs.Marks.{is_out, kept_text, live_text_after, live_text, same_hash, with_path}
 use Rattle.vfs_core.specs.VfsPathOrder.{vfs_path_eq-same, vfs_path_equiv}
-use Rattle.vfs_core.specs.Texts.{BringsTo, KeepsPassing, all_pass, contents_after, contents_by, contents_left, contents_pass, passes}
+use Rattle.vfs_core.specs.Texts.{BringsTo, contents_after, contents_by, contents_left, passes}
 use Rattle.vfs_core.specs.VfsPath.{PathContent, vfs_path_eq}
 use Rattle.vfs_core.proofs.BatchLemmas.{found_insert_entry}
 use Rattle.vfs_core.proofs.FileLemmas.{position-at, position-in}
@@ -59,14 +59,6 @@ own-number path paths file false known h =
 
 below : (a b : ℕ) → a ≤ b → eqb a b ≡ false → a < b
 below a b few apart = grind (arith, nat_tests)
-
-and-left : (a b : Bool) → a && b ≡ true → a ≡ true
-and-left true b h = refl
-and-left false b h = absurd (true≢false (sym h))
-
-and-right : (a b : Bool) → a && b ≡ true → b ≡ true
-and-right true b h = h
-and-right false b h = absurd (true≢false (sym h))
 
 -- the number of another path is the one that it had
 pub other-number : (each_path path : PathContent) (paths : List PathContent) (file : ℕ) (is_known is_behind : Bool)
@@ -274,55 +266,6 @@ BringsTo_out old new path numbers batch known marks brings = record {
       (sym (live_text_mark (record { path = path; kind = Out }) marks each_path) ∙ live);
 }
 
--- a batch with one more change passes: the same by whether the change is of the first file
-passes-split : (test : List ℕ → Bool) (file : ℕ) (call : ChangedFile) (first : ℕ × ChangedFile) (rest : List (ℕ × ChangedFile)) (is_first : Bool)
-    → passes test call.change ≡ true → passes test first.1.change && all_pass test rest ≡ true
-    → (all_pass test rest ≡ true → all_pass test (insert_entry nat_eq rest file call) ≡ true)
-    → all_pass test (if is_first then (first.0, call) ∷ rest else first ∷ insert_entry nat_eq rest file call) ≡ true
-passes-split test file call first rest true passed all more = rw passed (and-right (passes test first.1.change) (all_pass test rest) all)
-passes-split test file call first rest false passed all more =
-    rw (and-left (passes test first.1.change) (all_pass test rest) all, more (and-right (passes test first.1.change) (all_pass test rest) all)) refl
-
-passes-insert : (test : List ℕ → Bool) (batch : List (ℕ × ChangedFile)) (file : ℕ) (call : ChangedFile)
-    → passes test call.change ≡ true → all_pass test batch ≡ true → all_pass test (insert_entry nat_eq batch file call) ≡ true
-passes-insert test [] file call passed all = rw passed refl
-passes-insert test (entry ∷ rest) file call passed all =
-    passes-split test file call entry rest (nat_eq file entry.0) passed all (passes-insert test rest file call passed)
-
--- a change in place of an earlier one, and another, passes as that other
-passes-merged : (test : List ℕ → Bool) (earlier : Option ChangeKind) (change : Change)
-    → passes test (merged_change earlier change) ≡ passes test change
-passes-merged test None change = refl
-passes-merged test (Some CreateKind) (Create bytes hash) = refl
-passes-merged test (Some CreateKind) (Modify bytes hash) = refl
-passes-merged test (Some CreateKind) Delete = refl
-passes-merged test (Some ModifyKind) (Create bytes hash) = refl
-passes-merged test (Some ModifyKind) (Modify bytes hash) = refl
-passes-merged test (Some ModifyKind) Delete = refl
-passes-merged test (Some DeleteKind) (Create bytes hash) = refl
-passes-merged test (Some DeleteKind) (Modify bytes hash) = refl
-passes-merged test (Some DeleteKind) Delete = refl
-
--- the change that contents make of a file passes with them
-made-split : (test : List ℕ → Bool) (bytes : List ℕ) (batch : List (ℕ × ChangedFile)) (file hash : ℕ) (same : Bool)
-    → test bytes ≡ true → all_pass test batch ≡ true
-    → all_pass test (with_changed_file (option_map (changed_file file) (if same then None else Some (Modify bytes hash))) batch) ≡ true
-made-split test bytes batch file hash true passed all = all
-made-split test bytes batch file hash false passed all =
-    passes-insert test batch file _ (passes-merged test (kind_in batch file) (Modify bytes hash) ∙ passed) all
-
-passes-made : (test : List ℕ → Bool) (contents : Option (List ℕ)) (state : FileState) (batch : List (ℕ × ChangedFile)) (file : ℕ)
-    → contents_pass test contents ≡ true → all_pass test batch ≡ true
-    → all_pass test (with_changed_file (option_map (changed_file file) (change_made state contents)) batch) ≡ true
-passes-made test contents Excluded batch file passed all = all
-passes-made test None Deleted batch file passed all = all
-passes-made test (Some bytes) Deleted batch file passed all =
-    passes-insert test batch file _ (passes-merged test (kind_in batch file) (Create bytes (content_hash bytes)) ∙ passed) all
-passes-made test None (Exists hash) batch file passed all =
-    passes-insert test batch file _ (passes-merged test (kind_in batch file) Delete) all
-passes-made test (Some bytes) (Exists hash) batch file passed all =
-    made-split test bytes batch file (content_hash bytes) (nat_eq hash (content_hash bytes)) passed all
-
 -- once the batch is taken, what it made is what is known
 pub BringsTo_taken : (old new : Files) → paths_of new ≡ paths_of old → new.batch ≡ []
     → (known : ℕ → Option (List ℕ)) (marks : List Mark) → BringsTo old known marks
@@ -348,11 +291,3 @@ BringsTo_none files known = record { each = λ path file text number live. none 
   where
     none : {R : Type 0} → (t : Option (List ℕ)) {text : List ℕ} → t ≡ None → t ≡ Some text → R
     none t e h = cc
-
--- what passed in the batch passes with these contents, where they do
-pub KeepsPassing_call : (old new : Files) (path : PathContent) (contents : Option (List ℕ))
-    → new.batch ≡ with_changed_file (call_made old path contents) old.batch → KeepsPassing old new contents
-KeepsPassing_call old new path contents batch = record {
-  each = λ test passed all.
-      ap (all_pass test) batch ∙ passes-made test contents (state_at old path) old.batch (number_for old path) passed all;
-}
