@@ -1,10 +1,7 @@
 //! The names of packages and features, and the ids and sources of packages.
 
-ghost use Rattle.std.specs.Prelude.{◌≡◌, ℕ, List, bytes_eq, refl};
-ghost use Rattle.std.specs.Cmp.Lexicographic.{slice_cmp};
-ghost use Rattle.std.specs.Hash as fed;
-ghost use Rattle.std.specs.Ordering.{nat_cmp};
-ghost use Rattle.cargo_meta.specs.Names.{is_crates_io, package_id_of, package_id_text, source_of, source_text};
+ghost use Rattle.std.specs.Prelude.{◌≡◌, ℕ, List, refl};
+ghost use Rattle.cargo_meta.specs.Names.{ComparesAsText, is_crates_io, package_id_of, package_id_text, source_of, source_text};
 
 use base_text::{Name, Text, TryClone};
 use json_fields::{ReadError, TextJson};
@@ -14,15 +11,12 @@ use std::hash::Hash;
 
 /// Names and ids are equal, ordered and hashed as their texts.
 pub fn names_compare_as_texts()
-    ensures packages { (x y : List ℕ) → ⟦<PackageName as PartialEq>⟧.eq x y ≡ bytes_eq x y }
-    ensures features { (x y : List ℕ) → ⟦<FeatureName as PartialEq>⟧.eq x y ≡ bytes_eq x y }
-    ensures ids { (x y : PackageId) → ⟦<PackageId as PartialEq>⟧.eq x y ≡ bytes_eq x.repr y.repr }
-    ensures package_order { (x y : List ℕ) → ⟦<PackageName as Ord>⟧.cmp x y ≡ slice_cmp nat_cmp x y }
-    ensures feature_order { (x y : List ℕ) → ⟦<FeatureName as Ord>⟧.cmp x y ≡ slice_cmp nat_cmp x y }
-    ensures id_order { (x y : PackageId) → ⟦<PackageId as Ord>⟧.cmp x y ≡ slice_cmp nat_cmp x.repr y.repr }
-    ensures package_hash { (x : List ℕ) → ⟦<PackageName as Hash>⟧.hash_input x ≡ fed.str x }
-    ensures feature_hash { (x : List ℕ) → ⟦<FeatureName as Hash>⟧.hash_input x ≡ fed.str x }
-    ensures id_hash { (x : PackageId) → ⟦<PackageId as Hash>⟧.hash_input x ≡ fed.str x.repr }
+    ensures packages { ComparesAsText {T = List ℕ} (λ x. x) ⟦<PackageName as PartialEq>⟧.eq
+        ⟦<PackageName as Ord>⟧.cmp ⟦<PackageName as Hash>⟧.hash_input }
+    ensures features { ComparesAsText {T = List ℕ} (λ x. x) ⟦<FeatureName as PartialEq>⟧.eq
+        ⟦<FeatureName as Ord>⟧.cmp ⟦<FeatureName as Hash>⟧.hash_input }
+    ensures ids { ComparesAsText (λ x. x.repr) ⟦<PackageId as PartialEq>⟧.eq
+        ⟦<PackageId as Ord>⟧.cmp ⟦<PackageId as Hash>⟧.hash_input }
 {}
 
 /// What `PackageName` names.
