@@ -5,6 +5,7 @@ pub mod Rows
 pub mod ReadAgain
 pub mod RoundTrips
 pub mod TextForms
+pub mod Cfgs
 pub mod Numbers
 pub mod Pairs
 pub mod Names

@@ -10,6 +10,7 @@ pub mod Written
 pub mod Document
 pub mod DataCode
 pub mod Versions
+pub mod Cfg
 pub mod Equal
 pub mod Laws
 pub mod Printed

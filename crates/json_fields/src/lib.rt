@@ -3,6 +3,7 @@
 
 pub mod any_value;
 pub mod bare;
+pub mod cfg;
 pub mod document;
 pub mod equal;
 pub mod floats;
