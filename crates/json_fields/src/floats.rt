@@ -8,6 +8,7 @@ use serde_json::{Map, Value};
 
 /// A float is a number that is no whole number of 64 bits.
 #[cycle(floats)]
+#[inline(always)]
 pub fn holds_float(value: &Value) -> bool
     ensures { result ≡ has_float (view value.now) }
 {
@@ -20,6 +21,7 @@ pub fn holds_float(value: &Value) -> bool
 }
 
 #[cycle(floats)]
+#[inline(never)]
 fn items_hold_float(items: &[Value]) -> bool
     ensures { result ≡ items_have_float (items_view items.now) }
 {
@@ -32,6 +34,7 @@ fn items_hold_float(items: &[Value]) -> bool
 }
 
 #[cycle(floats)]
+#[inline(never)]
 fn members_hold_float(members: &Map<String, Value>) -> bool
     ensures { result ≡ members_have_float (members_view members.now.entries) }
 {

@@ -32,7 +32,7 @@ impl<A: Json, B: Json> Json for (A, B) {
     ghost height = { max (raised A.height) (raised B.height) };
 
     fn write(&self, alloc: Global) -> Result<Value, AllocError> {
-        let mut values = Vec::new(alloc);
+        let mut values = Vec::with_capacity(alloc, 2)?;
         values.push(self.0.write(alloc)?)?;
         values.push(self.1.write(alloc)?)?;
         Ok(Value::Array(values))

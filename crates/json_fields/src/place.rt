@@ -66,6 +66,7 @@ impl<T: Drop> From<AllocFailed<T>> for ReadError {
 }
 
 /// A miss below a member, as a place of the object that holds it.
+#[inline(always)]
 pub fn below<T>(alloc: Global, key: &str, answer: Result<T, ReadError>) -> Result<T, ReadError>
     ensures exact { (reading : Reading T) → Gives answer reading
         → Gives result (below_key key.now reading) }
@@ -82,6 +83,7 @@ pub fn below<T>(alloc: Global, key: &str, answer: Result<T, ReadError>) -> Resul
 }
 
 /// A miss below an item, as a place of the list that holds it.
+#[inline(always)]
 pub fn below_item<T>(
     alloc: Global,
     position: usize,
@@ -101,6 +103,8 @@ pub fn below_item<T>(
     }
 }
 
+#[cold]
+#[inline(never)]
 fn key_before(alloc: Global, key: &str, place: &Text) -> Result<Text, AllocError>
     ensures { IfOk result (λ whole. whole ≡ (46 ∷ key.now) ++ place.now) }
 {
@@ -109,6 +113,8 @@ fn key_before(alloc: Global, key: &str, place: &Text) -> Result<Text, AllocError
     Ok(Text::new(whole))
 }
 
+#[cold]
+#[inline(never)]
 fn position_before(alloc: Global, position: usize, place: &Text) -> Result<Text, AllocError>
     ensures { IfOk result (λ whole. whole ≡ 91 ∷ (decimal position ++ (93 ∷ place.now))) }
 {

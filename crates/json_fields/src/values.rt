@@ -15,6 +15,10 @@ use base_text::{Items, Name, Text};
 use serde_json::Value;
 use std::alloc::{AllocError, Global};
 
+/// A list gets room for at most so many items before the first of them is read, since a list that
+/// misses its table at its front may be far longer than what is read of it.
+const FIRST_ROOM: usize = 1024;
+
 impl ReadJson for Text {
     ghost reads = { text_at };
 
@@ -163,8 +167,9 @@ impl<T: Json> Json for Items<T> {
     ghost height = { raised T.height };
 
     fn write(&self, alloc: Global) -> Result<Value, AllocError> {
-        let mut values = Vec::new(alloc);
-        for item in self.as_slice() {
+        let items = self.as_slice();
+        let mut values = Vec::with_capacity(alloc, items.len())?;
+        for item in items {
             values.push(item.write(alloc)?)?;
         }
         Ok(Value::Array(values))
@@ -180,7 +185,7 @@ impl<T: Json> Present for Items<T> {
 fn read_items<T: ReadJson>(alloc: Global, values: &[Value]) -> Result<Items<T>, ReadError>
     ensures exact { Gives result (items_from T.reads 0 (items_view values.now)) }
 {
-    let mut items = Vec::new(alloc);
+    let mut items = Vec::with_capacity(alloc, values.len().min(FIRST_ROOM))?;
     for (position, value) in values.iter().enumerate() {
         items.push(below_item(alloc, position, T::read(alloc, value))?)?;
     }

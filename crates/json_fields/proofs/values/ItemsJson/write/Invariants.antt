@@ -3,4 +3,4 @@ use Rattle.serde_json.specs.View.{view}
 use Rattle.json_fields.proofs.values.ItemsJson.write.Given as goal
 
 abbrev pub invariant-loop-item : goal.invariant-loop-item
-invariant-loop-item g l = map view l.values.items ≡ map g.T.Json.writes (take l.item-index l.item-items)
+invariant-loop-item g l = map view l.values.items ≡ map g.T.Json.writes (take l.item-index l.items)
