@@ -1,22 +1,19 @@
 -- a map of values that are each read again is read again, and is read and written in the order of its keys
-use Rattle.std.proofs.Common.{◌≡◌, ℕ, List, [], ◌∷◌, ◌++◌, Bool, true, false, Ok, Err, Ordering, Less, Equal, Greater, String, string_bytes, string_cmp, refl, sym, ap, ◌∙◌, subst, append_assoc}
+use Rattle.std.proofs.Common.{◌≡◌, ℕ, List, [], ◌∷◌, ◌++◌, Ok, Err, Less, Greater, String, string_bytes, string_cmp, refl, sym, ap, ◌∙◌, subst, append_assoc}
 use Rattle.std.specs.declared.alloc.Global.{Global}
 use Rattle.std.specs.Cmp.Lexicographic.{slice_cmp, nat_list_cmp_total}
-use Rattle.std.specs.List.{All, AllByRecursion}
+use Rattle.std.specs.List.{AllByRecursion}
 use Rattle.std.specs.List.Sorted.{IsStrictlySortedBy}
 use Rattle.std.specs.Map.{keys_of}
-use Rattle.std.specs.Ordering.{nat_cmp, match_ordering, ordering_reverse}
+use Rattle.std.specs.Ordering.{nat_cmp, ordering_reverse}
 use Rattle.std.proofs.lemmas.List.{map-append}
-use Rattle.std.proofs.lemmas.List.Elements.{All-head, All-tail, All-nil, All-push}
-use Rattle.serde_json.specs.Data.{Data, Members, no_members, member, put}
+use Rattle.serde_json.specs.Data.{Data, member}
 use Rattle.serde_json.specs.View.{view, members_view}
-use Rattle.serde_json.specs.Written.{has_float, members_have_float}
 use Rattle.serde_json.specs.declared.value.Value.{Value}
-use Rattle.base_values.specs.ByText.{HasAscendingKeys, IsAboveKeys, text_cmp, text_entries}
+use Rattle.base_values.specs.ByText.{IsAboveKeys, text_cmp, text_entries}
 use Rattle.base_values.proofs.TextMaps.{text_entries-ascending}
-use Rattle.json_fields.specs.Laws.Parts.{first_of_none, rest_of_none}
 use Rattle.json_fields.specs.Fields.{members_from, under}
-use Rattle.json_fields.specs.Outcome.{Reading, ◌>>=◌, HasNoFloat, IsReadAgain, below_key}
+use Rattle.json_fields.specs.Outcome.{Reading, below_key}
 use Rattle.json_fields.specs.Written.{entries_data, set_member}
 
 -- among ascending keys each is above those before it

@@ -1,5 +1,5 @@
 -- how the logic stores a JSON value: a tag and what the value holds, so that no two values are stored alike
-use Rattle.std.specs.Prelude.{◌≡◌, ℕ, Bool, List, ℤ, Float, refl}
+use Rattle.std.specs.Prelude.{◌≡◌, ℕ, List, refl}
 use Rattle.std.specs.Coded.{Coded, coded_ℕ, coded_ℤ, coded_bool, coded_list}
 use Rattle.std.proofs.Common.{ap, arith}
 use base.Stored.{Gv, gnil, gnum, gcons, num, coded_float}
@@ -35,6 +35,7 @@ num_inj _ _ p = absurd (omega (arith, ap (λ g. num (first g)) p))
 
 -- a value, its items and its members as they are stored
 abbrev mutual
+  -- a value
   pub stored : Data → Gv
   stored null = gcons (gnum 0) gnil
   stored (boolean b) = gcons (gnum 1) (coded_bool.code b)
@@ -43,15 +44,18 @@ abbrev mutual
   stored (array ds) = gcons (gnum 4) (items_stored ds)
   stored (object ms) = gcons (gnum 5) (members_stored ms)
 
+  -- items
   pub items_stored : Items → Gv
   items_stored no_items = gnil
   items_stored (item d ds) = gcons (gcons (gnum 1) (stored d)) (items_stored ds)
 
+  -- members
   pub members_stored : Members → Gv
   members_stored no_members = gnil
   members_stored (member k d ms) = gcons (gcons (gnum 1) (gcons (text_code.code k) (stored d))) (members_stored ms)
 
 mutual
+  -- values that are stored alike are equal
   pub stored_inj : (x y : Data) → stored x ≡ stored y → x ≡ y
   stored_inj null null p = refl
   stored_inj (boolean a) (boolean b) p = ap boolean (coded_bool.inj a b (ap rest p))

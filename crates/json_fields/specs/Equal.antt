@@ -1,6 +1,5 @@
 -- when two JSON values are equal: the same kind, whole numbers by value, floats as numbers, and all within alike
-use Rattle.std.specs.Prelude.{◌≡◌, ◌&&◌, ℕ, ℤ, List, Bool, true, false, Option, Some, None, Float, refl, nat_eq}
-use Rattle.std.proofs.Common.{sym, ap, ◌∙◌}
+use Rattle.std.specs.Prelude.{◌≡◌, ◌&&◌, Bool, true, false, Float, refl, nat_eq}
 use Rattle.std.proofs.lemmas.Bool.{false≢true}
 use Rattle.std.specs.Bool.{beq}
 use Rattle.std.specs.Cmp.{IsEquivalence, and_equiv, on_equiv, eq_by_cmp_equiv, int_eq_equiv, bool_eq_equiv}
@@ -37,11 +36,13 @@ abbrev mutual
   data_eq (object ms) (object ns) = members_eq ms ns
   data_eq _ _ = false
 
+  -- equal items
   pub items_eq : Items → Items → Bool
   items_eq no_items no_items = true
   items_eq (item d ds) (item e es) = data_eq d e && items_eq ds es
   items_eq _ _ = false
 
+  -- equal members
   pub members_eq : Members → Members → Bool
   members_eq no_members no_members = true
   members_eq (member k d ms) (member l e ns) = pointwise nat_eq k l && (data_eq d e && members_eq ms ns)

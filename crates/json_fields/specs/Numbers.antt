@@ -1,5 +1,5 @@
 -- whole numbers within the range of a type, as `num` is what 64 bits hold without a sign
-use Rattle.std.specs.Prelude.{◌^◌, if◌then◌else◌, ℕ, ℤ, pos, negsuc, Bool, List, [], nat_lt, Result, Ok, Err}
+use Rattle.std.specs.Prelude.{◌^◌, if◌then◌else◌, ℕ, ℤ, pos, negsuc, Bool, [], nat_lt, Ok, Err}
 use Rattle.serde_json.specs.Data.{Data, null, boolean, number, string, array, object, Num, unsigned, negative, float}
 use Rattle.serde_json.specs.Find.{of_integer}
 use Rattle.json_fields.specs.Fields.{number_at}

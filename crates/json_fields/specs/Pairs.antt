@@ -1,5 +1,5 @@
 -- a pair as a list of exactly two
-use Rattle.std.specs.Prelude.{List, [], Ok, Err}
+use Rattle.std.specs.Prelude.{[], Ok, Err}
 use Rattle.serde_json.specs.Data.{Data, null, boolean, number, string, array, object, Items, no_items, item}
 use Rattle.json_fields.specs.Outcome.{Reading, ◌>>=◌, below_position}
 

@@ -1,5 +1,5 @@
 -- versions, requirements and bare versions as tables read and write them: Semantic Versioning as `semver` reads it
-use Rattle.std.specs.Prelude.{◌≡◌, ◌==◌, ◌||◌, ◌++◌, if◌then◌else◌, ℕ, Bool, List, [], false, refl, codes, count_by, find, Option, Some, None, Result, Ok, Err}
+use Rattle.std.specs.Prelude.{◌≡◌, ◌==◌, ◌||◌, ◌++◌, if◌then◌else◌, ℕ, List, [], codes, count_by, find, Option, Some, None, Result, Ok, Err}
 use Rattle.serde_json.specs.Data.{Data}
 use Rattle.semver.specs.Identifiers.{parts_text}
 use Rattle.semver.specs.Parse.{Parts, req_of, version_parts}

@@ -1,7 +1,7 @@
 -- what a table's rows write: each value under its key
 use Rattle.std.specs.Prelude.{if◌then◌else◌, ℕ, Bool, true, false, List, [], ◌∷◌, map, Option, Some, None}
 use Rattle.serde_json.specs.View.{items_of}
-use Rattle.serde_json.specs.Data.{Data, null, boolean, number, string, array, object, unsigned, Items, Members, no_members, member, put}
+use Rattle.serde_json.specs.Data.{Data, null, boolean, number, string, array, object, Items, Members, no_members, member, put}
 
 -- the members, with the value under the key
 unfoldable pub set_member : List ℕ → Data → Members → Members

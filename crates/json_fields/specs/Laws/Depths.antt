@@ -1,9 +1,9 @@
 -- how deep members nest in which values were set
-use Rattle.std.proofs.Common.{◌≡◌, ◌≤◌, ◌-◌, ◌+◌, ℕ, suc, max, arith, inl, inr, List, Ordering, Less, Equal, Greater}
+use Rattle.std.proofs.Common.{◌≤◌, ℕ, arith, inl, inr, List, Ordering, Less, Equal, Greater}
 use Rattle.std.proofs.lemmas.Bool.{cases_Bool}
 use Rattle.std.specs.Cmp.Lexicographic.{slice_cmp}
 use Rattle.std.specs.Ordering.{nat_cmp, match_ordering}
-use Rattle.serde_json.specs.Data.{Data, Members, no_members, member, put, depth, members_depth}
+use Rattle.serde_json.specs.Data.{Data, Members, no_members, member, depth, members_depth}
 use Rattle.json_fields.specs.Written.{is_null, set_member, set_unless_null}
 
 at_order : (n : ℕ) (o : Ordering) (a b c : Members) → members_depth a ≤ n → members_depth b ≤ n → members_depth c ≤ n → members_depth (match_ordering o a b c) ≤ n

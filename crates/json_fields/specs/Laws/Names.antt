@@ -1,5 +1,5 @@
 -- a value of a closed table is read again from its name
-use Rattle.std.proofs.Common.{◌≡◌, ◌∙◌, ℕ, List, [], ◌∷◌, Bool, true, false, cond, bytes_eq, Ok, Err, refl, sym, ap, subst}
+use Rattle.std.proofs.Common.{◌≡◌, ◌∙◌, ℕ, List, [], ◌∷◌, Bool, true, false, cond, bytes_eq, Ok, refl, sym, ap, subst}
 use Rattle.std.proofs.lemmas.Slice.Eq.{bytes_eq-Decides}
 use Rattle.std.specs.Result.{IfOk}
 use Rattle.json_fields.specs.Laws.ReadAgain.{read-as}
@@ -20,6 +20,7 @@ module _ {T : Type 0} (name_of : T → List ℕ) where
   value_named-name [] text = tt
   value_named-name (x ∷ xs) text = at_name (bytes_eq text (name_of x)) text x (value_named name_of xs text) (named_as text x) (value_named-name xs text)
 
+  -- a value is read again from its name
   pub value_named-again : (xs : List T) (text : List ℕ) → IfOk (value_named name_of xs text) (λ x. value_named name_of xs (name_of x) ≡ Ok x)
   value_named-again xs text = read-as (value_named name_of xs text) λ x h.
       let name : name_of x ≡ text = subst (λ r. IfOk r (λ y. name_of y ≡ text)) h (value_named-name xs text) in
@@ -36,6 +37,7 @@ module _ {T : Type 0} (name_of : T → List ℕ) where
   value_named_or-name (x ∷ xs) unknown keeps text =
       or_name (bytes_eq text (name_of x)) text x (value_named_or name_of xs unknown text) (named_as text x) (value_named_or-name xs unknown keeps text)
 
+  -- where an unknown value keeps its text, each value is read again from its name
   pub value_named_or-again : (xs : List T) (unknown : List ℕ → T) → ((text : List ℕ) → name_of (unknown text) ≡ text)
       → (text : List ℕ) → value_named_or name_of xs unknown (name_of (value_named_or name_of xs unknown text)) ≡ value_named_or name_of xs unknown text
   value_named_or-again xs unknown keeps text = ap (value_named_or name_of xs unknown) (value_named_or-name xs unknown keeps text)

@@ -1,14 +1,10 @@
 -- whole numbers within the range of a type are kept
-use Rattle.std.proofs.Common.{◌≡◌, ◌≤◌, ◌<◌, ◌^◌, ℕ, ℤ, pos, negsuc, max, arith, List, [], Bool, true, false, cond, nat_lt, Option, Some, None, Ok, Err, Result, refl, inl, inr}
-use Rattle.std.proofs.lemmas.Bool.{cases_Bool}
+use Rattle.std.proofs.Common.{◌≡◌, ◌^◌, ℕ, ℤ, pos, negsuc, max, arith, [], Bool, true, false, cond, nat_lt, Ok, Err, refl}
 use Rattle.std.specs.Result.{IfOk}
-use Rattle.serde_json.specs.Data.{Data, null, boolean, number, string, array, object, Num, unsigned, negative, float, depth}
-use Rattle.serde_json.specs.Find.{as_i64, of_integer}
+use Rattle.serde_json.specs.Data.{Data, null, boolean, number, string, array, object, unsigned, negative, float, depth}
 use Rattle.serde_json.specs.Written.{has_float}
-use Rattle.json_fields.specs.Laws.RoundTrips.{ReadsAs, and_then}
-use Rattle.json_fields.specs.Fields.{number_at}
-use Rattle.json_fields.specs.Numbers.{fits_i64, i64_at, i64_data, integer_at, integer_of, u32_at}
-use Rattle.json_fields.specs.Outcome.{Reading, ◌>>=◌}
+use Rattle.json_fields.specs.Numbers.{fits_i64, i64_at, i64_data, integer_at, u32_at}
+use Rattle.json_fields.specs.Outcome.{Reading}
 use Rattle.json_fields.specs.RoundTrip.{IsKept, RoundTrips}
 use Rattle.json_fields.specs.Written.{is_null}
 

@@ -1,13 +1,13 @@
 -- a pair of what is kept is kept
-use Rattle.std.proofs.Common.{◌≡◌, ◌≤◌, ℕ, zero, suc, max, arith, List, [], ◌∷◌, length, Bool, true, false, Ok, Err, refl}
+use Rattle.std.proofs.Common.{◌≡◌, ℕ, max, arith, List, [], ◌∷◌, length, Err, refl}
 use Rattle.std.specs.Result.{IfOk}
-use Rattle.serde_json.specs.Data.{Data, null, boolean, number, string, array, object, Items, no_items, item, depth}
+use Rattle.serde_json.specs.Data.{Data, null, boolean, number, string, array, object, no_items, item, depth}
 use Rattle.serde_json.specs.View.{items_view}
 use Rattle.serde_json.specs.declared.value.Value.{Value}
-use Rattle.serde_json.specs.Written.{has_float, items_have_float}
+use Rattle.serde_json.specs.Written.{has_float}
 use Rattle.json_fields.specs.Laws.Parts.{first_of_none, rest_of_none}
 use Rattle.json_fields.specs.Laws.RoundTrips.{ReadsAs, and_then, at_last, below_position-as, raised-above}
-use Rattle.json_fields.specs.Outcome.{Reading, ◌>>=◌}
+use Rattle.json_fields.specs.Outcome.{Reading}
 use Rattle.json_fields.specs.Pairs.{pair_at, pair_data, two_items}
 use Rattle.json_fields.specs.RoundTrip.{IsKept, RoundTrips, raised}
 
@@ -40,6 +40,7 @@ module _ {A B : Type 0} (ra : Data → Reading A) (wa : A → Data) (ha : ℕ) (
   pair-kept (array (item d (item e (item f ds)))) = tt
   pair-kept (object ms) = tt
 
+  -- pairs
   pub pair-round_trips : RoundTrips (pair_at ra rb) (pair_data wa wb) (max (raised ha) (raised hb))
   pair-round_trips = record { keeps = pair-kept }
 

@@ -1,6 +1,6 @@
 -- a part of a value that holds no float holds none
-use Rattle.std.proofs.Common.{◌≡◌, ◌≤◌, arith, ℕ, List, Bool, true, false, ◌||◌, Option, Some, None, Ordering, Less, Equal, Greater, refl, sym, ap, ◌∙◌}
-use Rattle.std.proofs.lemmas.Bool.{cases_Bool, true≢false}
+use Rattle.std.proofs.Common.{◌≡◌, ◌≤◌, arith, ℕ, List, Bool, true, false, ◌||◌, Option, Some, Ordering, Less, Equal, Greater, refl}
+use Rattle.std.proofs.lemmas.Bool.{true≢false}
 use Rattle.std.specs.Ordering.{nat_cmp, match_ordering}
 use Rattle.std.specs.Cmp.Lexicographic.{slice_cmp}
 use Rattle.std.specs.Option.{IfSome}

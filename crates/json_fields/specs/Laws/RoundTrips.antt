@@ -1,16 +1,16 @@
 -- the types that a table is made of keep what they are read from, and so does a table whose rows do
-use Rattle.std.proofs.Common.{◌≡◌, ◌≤◌, ℕ, zero, suc, max, arith, List, [], ◌∷◌, Bool, true, false, ◌||◌, Option, Some, None, Ok, Err, refl, ap, sym, ◌∙◌}
+use Rattle.std.proofs.Common.{◌≡◌, ◌≤◌, ℕ, zero, suc, max, arith, List, [], ◌∷◌, Bool, false, Option, Some, None, Ok, Err, refl, ap}
 use Rattle.std.proofs.lemmas.Bool.{true≢false}
 use Rattle.std.specs.Option.{IfSome}
 use Rattle.std.specs.Result.{IfOk}
-use Rattle.serde_json.specs.Data.{Data, null, boolean, number, string, array, object, Num, unsigned, negative, float, Items, no_items, item, Members, no_members, member, depth, items_depth, members_depth}
+use Rattle.serde_json.specs.Data.{Data, null, boolean, number, string, array, object, unsigned, negative, float, Items, no_items, item, Members, no_members, member, depth, items_depth, members_depth}
 use Rattle.serde_json.specs.Find.{get_member}
 use Rattle.serde_json.specs.Written.{has_float, items_have_float, members_have_float}
 use Rattle.json_fields.specs.Laws.Depths.{set_member-within, set_unless_null-within}
 use Rattle.json_fields.specs.Laws.Parts.{first_of_none, rest_of_none, get_member-no_float, get_member-within}
 use Rattle.json_fields.specs.Laws.Rows.{set_member-no_float, set_unless_null-no_float}
-use Rattle.json_fields.specs.Fields.{any_at, defaulted, flag_at, found, items_from, list_at, map_at, members_at, members_from, number_at, option_at, optional, required, text_at, under, whole_number}
-use Rattle.json_fields.specs.Outcome.{Reading, ◌>>=◌, HasNoFloat, IsReadAgain, below_key, below_position}
+use Rattle.json_fields.specs.Fields.{any_at, defaulted, flag_at, found, items_from, list_at, map_at, members_at, members_from, number_at, option_at, optional, required, text_at, under}
+use Rattle.json_fields.specs.Outcome.{Reading, ◌>>=◌, below_key, below_position}
 use Rattle.json_fields.specs.RoundTrip.{IsKept, RoundTrips, raised}
 use Rattle.json_fields.specs.Written.{entries_data, is_null, items_data, list_data, map_data, option_data, set_member, set_unless_null}
 
@@ -122,6 +122,7 @@ module _ {T : Type 0} (reads : Data → Reading T) (writes : T → Data) (height
   option-kept present (array ds) = some-kept present (array ds)
   option-kept present (object ms) = some-kept present (object ms)
 
+  -- null, or a value
   pub option-round_trips : ((x : T) → is_null (writes x) ≡ false) → RoundTrips (option_at reads) (option_data writes) height
   option-round_trips present = record { keeps = option-kept present }
 
@@ -152,6 +153,7 @@ module _ {T : Type 0} (reads : Data → Reading T) (writes : T → Data) (height
       (weaker (λ xs all. record { again = all.again 0; clean = all.clean; nests = raised-above height (items_depth ds) _ all.nests }) (items-kept 0 ds)).holds
   list-kept (object ms) = tt
 
+  -- lists
   pub list-round_trips : RoundTrips (list_at reads) (list_data writes) (raised height)
   list-round_trips = record { keeps = list-kept }
 
@@ -182,6 +184,7 @@ module _ {T : Type 0} (reads : Data → Reading T) (writes : T → Data) (height
   map-kept (object ms) =
       (weaker (λ es all. record { again = all.again; clean = all.clean; nests = raised-above height (members_depth ms) _ all.nests }) (entries-kept ms)).holds
 
+  -- maps
   pub map-round_trips : RoundTrips (map_at reads) (map_data writes) (raised height)
   map-round_trips = record { keeps = map-kept }
 
@@ -205,16 +208,19 @@ pub record AreWithin (n : ℕ) (ms : Members) : Type 0 where
 
 -- a row keeps what its values do
 module _ {T : Type 0} {reads : Data → Reading T} {writes : T → Data} {height : ℕ} (kept : RoundTrips reads writes height) {n : ℕ} {ms : Members} (low : height ≤ n) (within : AreWithin n ms) where
+  -- a member that must be there
   pub required-kept : (k : List ℕ) → ReadsAs (required k reads ms) (IsKept reads writes (members_have_float ms) n)
   unfolding required
   required-kept k = row-kept reads writes height kept k (Err []) n ms low within.within (record { holds = tt })
 
+  -- a member whose default is kept
   pub defaulted-kept : (k : List ℕ) (default : T) → IsKept reads writes false n default
       → ReadsAs (defaulted k default reads ms) (IsKept reads writes (members_have_float ms) n)
   unfolding defaulted
   defaulted-kept k default h =
       row-kept reads writes height kept k (Ok default) n ms low within.within (record { holds = record { again = h.again; clean = λ _. h.clean refl; nests = h.nests } })
 
+  -- a member that may be missing or null
   pub optional-kept : ((x : T) → is_null (writes x) ≡ false) → (k : List ℕ)
       → ReadsAs (optional k reads ms) (IsKept (option_at reads) (option_data writes) (members_have_float ms) n)
   unfolding optional
@@ -223,12 +229,14 @@ module _ {T : Type 0} {reads : Data → Reading T} {writes : T → Data} {height
       (record { holds = record { again = refl; clean = λ _. refl; nests = omega arith } })
 
 module _ {T : Type 0} {reads : Data → Reading T} {writes : T → Data} {height : ℕ} (kept : RoundTrips reads writes height) {n : ℕ} {ms : Members} (low : raised height ≤ n) (some : 1 ≤ n) (within : AreWithin n ms) where
+  -- a list that may be missing
   pub listed-kept : (k : List ℕ) → ReadsAs (defaulted k [] (list_at reads) ms) (IsKept (list_at reads) (list_data writes) (members_have_float ms) n)
   unfolding defaulted
   listed-kept k =
       row-kept (list_at reads) (list_data writes) (raised height) (list-round_trips reads writes height kept) k (Ok []) n ms low within.within
       (record { holds = record { again = refl; clean = λ _. refl; nests = some } })
 
+  -- a map that may be missing
   pub mapped-kept : (k : List ℕ) → ReadsAs (defaulted k [] (map_at reads) ms) (IsKept (map_at reads) (map_data writes) (members_have_float ms) n)
   unfolding defaulted
   mapped-kept k =
@@ -245,12 +253,14 @@ pub no_members-written : (may_float : Bool) (n : ℕ) → AreWritten may_float n
 no_members-written may_float n = record { clean = λ _. refl; nests = omega arith }
 
 module _ {T : Type 0} {reads : Data → Reading T} {writes : T → Data} {may_float : Bool} {n : ℕ} {x : T} {ws : Members} where
+  -- one more member
   pub set_member-written : (k : List ℕ) → IsKept reads writes may_float n x → AreWritten may_float n ws → AreWritten may_float n (set_member k (writes x) ws)
   set_member-written k h before = record {
     clean = λ none. set_member-no_float k (writes x) ws (h.clean none) (before.clean none);
     nests = set_member-within n k (writes x) ws h.nests before.nests;
   }
 
+  -- one more member, unless it is null
   pub set_unless_null-written : (k : List ℕ) → IsKept reads writes may_float n x → AreWritten may_float n ws
       → AreWritten may_float n (set_unless_null k (writes x) ws)
   set_unless_null-written k h before = record {
@@ -269,5 +279,6 @@ module _ {T : Type 0} (from : Members → Reading T) (writes : T → Data) (heig
   table-kept (array ds) = tt
   table-kept (object ms) = (rows ms).holds
 
+  -- a table whose rows are kept
   pub table-round_trips : RoundTrips (λ d. members_at d >>= from) writes height
   table-round_trips = record { keeps = table-kept }

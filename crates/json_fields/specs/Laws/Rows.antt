@@ -1,8 +1,8 @@
 -- what a row reads of members that were set one after another: the rewriting names for tables
-use Rattle.std.proofs.Common.{◌≡◌, ℕ, List, Bool, true, false, cond, ◌||◌, bytes_eq, Option, Some, None, Ok, Err, refl, sym, ap, ◌∙◌, inl, inr, subst}
+use Rattle.std.proofs.Common.{◌≡◌, ℕ, List, Bool, true, false, cond, ◌||◌, bytes_eq, Option, Some, None, Ok, Err, refl, sym, ◌∙◌, inl, inr}
 use Rattle.std.proofs.lemmas.Bool.{cases_Bool, false≢true}
 use Rattle.std.proofs.lemmas.Slice.Eq.{bytes_eq-Decides}
-use Rattle.serde_json.specs.Data.{Data, null, boolean, number, string, array, object, Members, no_members, member, put}
+use Rattle.serde_json.specs.Data.{Data, null, boolean, number, string, array, object, Members, no_members, member}
 use Rattle.std.specs.declared.cmp.Ordering.{Ordering}
 use Rattle.std.specs.declared.cmp.Ordering.TheVariants.{Less, Equal, Greater}
 use Rattle.std.specs.Cmp.Lexicographic.{slice_cmp}
@@ -39,18 +39,22 @@ same_either true x = refl
 same_either false x = refl
 
 module _ {T : Type 0} (reads : Data → Reading T) (k l : List ℕ) (d : Data) (ms : Members) where
+  -- a member that must be there, after a member was put
   pub required-set_member : required k reads (set_member l d ms) ≡ cond (bytes_eq k l) (below_key k (reads d)) (required k reads ms)
   unfolding required
   required-set_member = rw (get_member-set_member k l d ms) (required_by reads k (bytes_eq k l) d (get_member k ms) _)
 
+  -- a member that may be missing or null, after a member was put
   pub optional-set_member : optional k reads (set_member l d ms) ≡ cond (bytes_eq k l) (below_key k (option_at reads d)) (optional k reads ms)
   unfolding optional
   optional-set_member = rw (get_member-set_member k l d ms) (required_by (option_at reads) k (bytes_eq k l) d (get_member k ms) _)
 
+  -- a member with a default, after a member was put
   pub defaulted-set_member : (default : T) → defaulted k default reads (set_member l d ms) ≡ cond (bytes_eq k l) (below_key k (reads d)) (defaulted k default reads ms)
   unfolding defaulted
   defaulted-set_member default = rw (get_member-set_member k l d ms) (required_by reads k (bytes_eq k l) d (get_member k ms) _)
 
+  -- a member that must be there, after a member was put unless it is null
   pub required-set_unless_null : required k reads (set_unless_null l d ms) ≡ cond (bytes_eq k l) (cond (is_null d) (required k reads ms) (below_key k (reads d))) (required k reads ms)
   unfolding set_unless_null
   required-set_unless_null = elim (cases_Bool (is_null d)) [
@@ -58,6 +62,7 @@ module _ {T : Type 0} (reads : Data → Reading T) (k l : List ℕ) (d : Data) (
     | inr some ↦ rw some required-set_member
   ]
 
+  -- a member that may be missing or null, after a member was put unless it is null
   pub optional-set_unless_null : optional k reads (set_unless_null l d ms) ≡ cond (bytes_eq k l) (cond (is_null d) (optional k reads ms) (below_key k (option_at reads d))) (optional k reads ms)
   unfolding set_unless_null
   optional-set_unless_null = elim (cases_Bool (is_null d)) [
@@ -65,6 +70,7 @@ module _ {T : Type 0} (reads : Data → Reading T) (k l : List ℕ) (d : Data) (
     | inr some ↦ rw some optional-set_member
   ]
 
+  -- a member with a default, after a member was put unless it is null
   pub defaulted-set_unless_null : (default : T)
       → defaulted k default reads (set_unless_null l d ms) ≡ cond (bytes_eq k l) (cond (is_null d) (defaulted k default reads ms) (below_key k (reads d))) (defaulted k default reads ms)
   unfolding set_unless_null

@@ -1,5 +1,5 @@
 -- what is read of a text is kept where it is read again from its own text
-use Rattle.std.proofs.Common.{◌≡◌, ◌≤◌, ℕ, max, arith, List, Bool, false, Ok, Err, refl}
+use Rattle.std.proofs.Common.{◌≡◌, ℕ, max, arith, List, Ok, refl}
 use Rattle.std.specs.Result.{IfOk}
 use Rattle.serde_json.specs.Data.{Data, null, boolean, number, string, array, object, depth}
 use Rattle.serde_json.specs.Written.{has_float}
@@ -20,6 +20,7 @@ module _ {T : Type 0} (of_text : List ℕ → Reading T) (text_of : T → List �
   text_form-kept (array ds) = tt
   text_form-kept (object ms) = tt
 
+  -- a type whose JSON is a text
   pub text_form-round_trips : RoundTrips (text_form_at of_text) (text_form_data text_of) 0
   text_form-round_trips = record { keeps = text_form-kept }
 

@@ -1,13 +1,12 @@
 -- a whole document that was read is read again from what is written of it
-use Rattle.std.proofs.Common.{◌≡◌, ◌≤◌, ℕ, List, codes, inl, inr, max, Bool, true, false, cond, Result, Ok, Err, ap, subst, sym, refl}
+use Rattle.std.proofs.Common.{◌≡◌, ◌≤◌, ℕ, List, codes, inl, inr, max, false, Result, Ok, Err, subst, refl}
 use Rattle.std.specs.Result.{IfOk}
 use Rattle.std.specs.Str.{IsUtf8, is_utf8}
 use Rattle.std.proofs.lemmas.Bool.{cases_Bool}
 use Rattle.std.proofs.lemmas.Str.{IsUtf8-from_is_utf8, is_utf8-from_IsUtf8}
 use Rattle.serde_json.specs.Data.{Data, depth}
 use Rattle.serde_json.specs.Written.{has_float}
-use Rattle.json_fields.specs.Laws.ReadAgain.{read-as}
-use Rattle.json_fields.specs.Document.{IsWholeAgain, bytes_document, document, whole}
+use Rattle.json_fields.specs.Document.{bytes_document, document, whole}
 use Rattle.json_fields.specs.Outcome.{Reading}
 use Rattle.json_fields.specs.RoundTrip.{IsKept, RoundTrips}
 
@@ -20,10 +19,12 @@ module _ {T : Type 0} (reads : Data → Reading T) (writes : T → Data) (height
   kept_at : IsKept reads writes (has_float d) (max height (depth d)) x
   kept_at = subst (λ r. IfOk r (IsKept reads writes (has_float d) (max height (depth d)))) read (kept.keeps d)
 
+  -- a document is read again from what is written of it
   pub whole-again : whole reads (writes x) ≡ Ok x
   unfolding whole
   whole-again = rw (kept_at.clean clean, kept_at.again) refl
 
+  -- what is written nests no deeper than the document or the defaults
   pub whole-nests : depth (writes x) ≤ max height (depth d)
   whole-nests = kept_at.nests
 

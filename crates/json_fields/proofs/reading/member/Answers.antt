@@ -1,5 +1,5 @@
 use Rattle.std.proofs.Common.{ap, ◌∙◌, option_map}
-use Rattle.serde_json.specs.View.{view, members_view}
+use Rattle.serde_json.specs.View.{view}
 use Rattle.serde_json.proofs.Views.{view_of_ref, view-lookup}
 use Rattle.json_fields.proofs.reading.member.Goals as goal
 
