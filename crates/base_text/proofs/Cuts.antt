@@ -11,7 +11,7 @@ use Rattle.base_text.specs.Rows.{IsCutAtLast, IsRow, IsSlashed, Lacks}
 use Rattle.base_text.proofs.Names.{components_are_names, row_of_names, slashed-push, AreNames, IsName}
 
 -- a text in which a search finds no `at` lacks it
-Lacks-from_reads : (at : ℕ) (text : List ℕ) → ((k : ℕ) → k < length text → get_or text k 0 ≢ at) → Lacks at text
+pub Lacks-from_reads : (at : ℕ) (text : List ℕ) → ((k : ℕ) → k < length text → get_or text k 0 ≢ at) → Lacks at text
 Lacks-from_reads at text h =
     recursion_from_All (λ b. (b == at) ≡ false) text (All-from_get_or (λ b. (b == at) ≡ false) text 0 (λ k l. ne_eqb _ at (h k l)))
 

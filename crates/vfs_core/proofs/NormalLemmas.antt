@@ -4,6 +4,7 @@ use Rattle.std.proofs.lemmas.List.Elements.{All-from_recursion, recursion_from_A
 use Rattle.std.specs.List.{All, AllByRecursion, fold}
 use Rattle.std.specs.Prelude.{codes, bytes_eq}
 use Rattle.base_text.specs.Paths.{components, path_text, resolve, resolved, without_last, IsClean}
+use Rattle.base_text.proofs.Resolving.{resolved_again}
 use Rattle.vfs_core.specs.RealPath.{IsNormal}
 
 -- a component that is not `..`
@@ -33,12 +34,6 @@ resolved-down (part ∷ parts) taken down =
     ap (λ (ts : List (List ℕ)). fold resolve ts parts) one ∙ resolved-down parts (taken ++ part ∷ []) down.1
     ∙ append_assoc taken (part ∷ []) parts
 
--- resolved components are resolved for good
-pub resolved-again : (parts : List (List ℕ)) → resolved (resolved parts) ≡ resolved parts
-unfolding resolved
-resolved-again parts =
-    resolved-down (fold resolve [] parts) [] (recursion_from_All IsDown (fold resolve [] parts) (All-resolved parts [] (All-from_recursion IsDown [] tt)))
-
 -- the text of a path is clean
 clean_from : (text : List ℕ) (parts : List (List ℕ)) → text ≡ path_text parts → components text ≡ parts
     → IsClean text
@@ -49,7 +44,7 @@ pub normal_from : (text : List ℕ) (parts : List (List ℕ)) → text ≡ path_
     → components text ≡ resolved parts → IsNormal text
 normal_from text parts made e = record {
   clean = clean_from text (resolved parts) made e;
-  resolved = ap resolved e ∙ resolved-again parts ∙ sym e;
+  resolved = ap resolved e ∙ resolved_again parts ∙ sym e;
 }
 
 -- no `..` is among the components of a normal path

@@ -13,13 +13,9 @@ use Rattle.std.specs.List.{after_first, before_first, filter, join_with_byte, on
 use Rattle.std.specs.Str.{NoCharPasses}
 use Rattle.base_text.specs.Paths.{components, is_component, is_prefix, is_slash}
 use Rattle.base_text.specs.Rows.{IsCutAtLast, Lacks}
+use Rattle.base_text.proofs.Cuts.{Lacks-from_reads}
 use Rattle.vfs_core.specs.RealPath.{is_text_prefix}
 use Rattle.vfs_core.specs.VirtualPath.{trim_back, from_component, trim_front, parts_behind, text_behind, virtual_rest, TakesComponent}
-
--- a text in which a search finds no `at` lacks it
-Lacks-from_reads : (at : ℕ) (text : List ℕ) → ((k : ℕ) → k < length text → get_or text k 0 ≢ at) → Lacks at text
-Lacks-from_reads at text h =
-    recursion_from_All (λ b. (b == at) ≡ false) text (All-from_get_or (λ b. (b == at) ≡ false) text 0 (λ k l. ne_eqb _ at (h k l)))
 
 -- a text in which a search finds no slash lacks it
 pub lacks_slash : (text : List ℕ) → NoCharPasses (λ d. d == 47) text → Lacks 47 text
