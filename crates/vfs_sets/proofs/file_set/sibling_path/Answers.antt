@@ -6,6 +6,6 @@ use Rattle.vfs_sets.proofs.file_set.sibling_path.Goals as goal
 
 pub returns : goal.returns
 returns c =
-    beside_is c.in_ok-base.base c.pop.new.self c.args.tail.now c.in_ok-joined.joined
-    c.pop.ensures.path c.pop.ensures.virtual_path c.in_ok-joined.ensures.real c.in_ok-joined.ensures.virtual_path
+    beside_is c.in_ok-base.base c.pop.new.self c.args.tail.now _
+    c.pop.ensures.path c.pop.ensures.virtual_path c.in_ok-join.ensures.real c.in_ok-join.ensures.virtual_path
     ∙ ap (λ (p : PathContent). sibling_path p c.args.tail.now) c.in_ok-base.ensures
