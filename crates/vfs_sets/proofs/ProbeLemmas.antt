@@ -7,11 +7,11 @@ use Rattle.std.specs.Bool.{beq}
 use Rattle.std.specs.Cmp.Lexicographic.{bytes_decides, pointwise}
 use Rattle.std.specs.List.{list_any, position_from}
 use Rattle.std.specs.Str.{bytes_eq}
-use Rattle.outside.specs.Causes.{raised}
 use Rattle.vfs_core.specs.VfsPath.{PathContent}
 use Rattle.vfs_sets.specs.Placement.{FitsNoRoot, IsFit, IsPlaceOf, fits, place_of, placed_text}
-use Rattle.vfs_sets.specs.Probes.{CountsFiles, CountsPlacing, CountsProbes, IsLongestFit, most_probes, raised_by}
+use Rattle.vfs_sets.specs.Probes.{CountsProbes, IsLongestFit, raised_by}
 use Rattle.vfs_sets.specs.RootMaps.{HasNoPrefix, IsOfLongestPrefix, MapsRoots, first_set_of, is_root_of, number_at}
+use Rattle.vfs_sets.proofs.CountLemmas.{raised_by-most}
 use Rattle.vfs_sets.proofs.FitLemmas.{fits_no_root, place_of_is, IsPlaceOf-one}
 use Rattle.vfs_sets.proofs.PlaceLemmas.{place_within}
 
@@ -214,17 +214,6 @@ pub FitsNoRoot-computed : (sets : List (List PathContent)) (path : PathContent) 
     → length sets ≡ place_of sets path
 FitsNoRoot-computed sets path = none-split sets path (nat_lt (place_of sets path) (length sets)) refl
 
--- a count rises by one at most for each step
-raised_by-most : (steps count : ℕ) → raised_by steps count ≤ count + steps
-raised_by-most zero count = omega arith
-raised_by-most (suc steps) count =
-    let more = raised_by-most steps count in
-    let step : raised (raised_by steps count) ≤ raised_by steps count + 1 = raised-most (raised_by steps count) in
-    omega (arith, more, step)
-  where
-    raised-most : (n : ℕ) → raised n ≤ n + 1
-    raised-most n = omega arith
-
 -- the probes of a path that has a place, and of one that has none
 counts_found : (sets : List (List PathContent)) (path : PathContent) (number before now size : ℕ) (place : IsPlaceOf sets path number)
     → length place.root.text ≡ size → now ≡ raised_by (length (placed_text path) + 1 - size) before → CountsProbes sets path before now
@@ -238,6 +227,7 @@ counts_found sets path number before now size place same counts = record {
   at_most =
       let most = raised_by-most (length (placed_text path) + 1 - size) before in
       omega (arith, counts, most);
+  raises = record { steps = length (placed_text path) + 1 - size; within = omega arith; raised = counts };
 }
 
 counts_none : (sets : List (List PathContent)) (path : PathContent) (before now : ℕ) → FitsNoRoot sets path
@@ -246,6 +236,7 @@ counts_none sets path before now fits_none counts = record {
   found = λ other root longest. absurd (fits_none other root longest.own);
   none = λ again. counts;
   at_most = let most = raised_by-most (length (placed_text path) + 1) before in omega (arith, counts, most);
+  raises = record { steps = length (placed_text path) + 1; within = omega arith; raised = counts };
 }
 
 -- what a search of the map of the path's kind gives: the place, with each probe counted
@@ -267,30 +258,3 @@ found_none sets path kind text entries before now same_kind same_text maps none 
     let at = subst (λ (t : List ℕ). HasNoPrefix entries t before now) same_text none in
     let fits_none = probed_none sets path entries before now (subst (λ (k : Bool). MapsRoots k sets entries) same_kind maps) at in
     (FitsNoRoot-computed sets path fits_none, counts_none sets path before now fits_none at.counts)
-
--- one more file
-counts_more : (sets : List (List PathContent)) (files : List (ℕ × PathContent)) (file : ℕ × PathContent) (before now after : ℕ)
-    → CountsFiles sets files before now → CountsProbes sets file.1 now after → CountsFiles sets (files ++ file ∷ []) before after
-counts_more sets [] file before now after counts probes =
-    (after, subst (λ n. CountsProbes sets file.1 n after) (sym counts) probes, refl)
-counts_more sets (first ∷ files) file before now after counts probes =
-    (counts.0, counts.1, counts_more sets files file counts.0 now after counts.2 probes)
-
--- at most so many probes are counted
-counts_most : (sets : List (List PathContent)) (files : List (ℕ × PathContent)) (before now : ℕ)
-    → CountsFiles sets files before now → now ≤ before + most_probes files
-counts_most sets [] before now counts = omega (arith, counts)
-counts_most sets (file ∷ files) before now counts =
-    let more = counts_most sets files counts.0 now counts.2 in
-    omega (arith, more, counts.1.at_most)
-
--- no files, no probes
-pub placing_none : (sets : List (List PathContent)) (count : ℕ) → CountsPlacing sets [] count count
-placing_none sets count = record { each = refl; at_most = omega arith }
-
--- one more file
-pub placing_more : (sets : List (List PathContent)) (files : List (ℕ × PathContent)) (file : ℕ × PathContent) (before now after : ℕ)
-    → CountsPlacing sets files before now → CountsProbes sets file.1 now after → CountsPlacing sets (files ++ file ∷ []) before after
-placing_more sets files file before now after counts probes =
-    let each = counts_more sets files file before now after counts.each probes in
-    record { each = each; at_most = counts_most sets (files ++ file ∷ []) before after each }

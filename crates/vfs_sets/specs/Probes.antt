@@ -1,6 +1,6 @@
 -- How often a count is raised while paths are placed: once for each prefix of the text by which a path is placed, the whole
 -- text first, down to the longest root that fits, or to the empty prefix where none does.
-use Rattle.std.specs.Prelude.{◌≡◌, ◌≤◌, ◌+◌, ◌-◌, ℕ, zero, suc, List, [], ◌∷◌, length}
+use Rattle.std.specs.Prelude.{◌≡◌, ◌≤◌, ◌+◌, ◌-◌, ℕ, zero, suc, List, [], ◌∷◌, ◌++◌, length}
 use Rattle.outside.specs.Causes.{raised}
 use Rattle.vfs_core.specs.VfsPath.{PathContent}
 use Rattle.vfs_sets.specs.Placement.{FitsNoRoot, IsFit, placed_text}
@@ -9,6 +9,12 @@ use Rattle.vfs_sets.specs.Placement.{FitsNoRoot, IsFit, placed_text}
 abbrev pub raised_by : ℕ → ℕ → ℕ
 raised_by zero count = count
 raised_by (suc steps) count = raised (raised_by steps count)
+
+-- a count was raised, and at most so often
+pub record RaisesAtMost (most before now : ℕ) : Type 0 where
+  pub steps : ℕ
+  pub within : steps ≤ most
+  pub raised : now ≡ raised_by steps before
 
 -- a root of a set fits a path, and none that fits is longer
 pub record IsLongestFit (sets : List (List PathContent)) (path : PathContent) (number : ℕ) (root : PathContent) : Type 0 where
@@ -22,6 +28,7 @@ pub record CountsProbes (sets : List (List PathContent)) (path : PathContent) (b
       → now ≡ raised_by (length (placed_text path) + 1 - length root.text) before
   pub none : FitsNoRoot sets path → now ≡ raised_by (length (placed_text path) + 1) before
   pub at_most : now ≤ before + (length (placed_text path) + 1)
+  pub raises : RaisesAtMost (length (placed_text path) + 1) before now
 
 -- files were placed, one after the other
 abbrev pub CountsFiles : List (List PathContent) → List (ℕ × PathContent) → ℕ → ℕ → Type 0
@@ -38,3 +45,10 @@ most_probes (file ∷ files) = length (placed_text file.1) + 1 + most_probes fil
 pub record CountsPlacing (sets : List (List PathContent)) (files : List (ℕ × PathContent)) (before now : ℕ) : Type 0 where
   pub each : CountsFiles sets files before now
   pub at_most : now ≤ before + most_probes files
+
+-- the first of some files were placed, up to one of them, and each probe was counted
+pub record CountsFront (sets : List (List PathContent)) (files : List (ℕ × PathContent)) (before now : ℕ) : Type 0 where
+  pub placed : List (ℕ × PathContent)
+  pub left : List (ℕ × PathContent)
+  pub all : placed ++ left ≡ files
+  pub each : CountsFiles sets placed before now

@@ -4,7 +4,7 @@ ghost use Rattle.std.specs.Prelude.{◌≡◌, ◌<◌, ◌≤◌, ◌∷◌, �
 ghost use Rattle.vfs_core.specs.Files.{existing_files};
 ghost use Rattle.vfs_sets.specs.Partition.{AreEmpty, HasPut, IsPartition};
 ghost use Rattle.vfs_sets.specs.Placement.{class_of, place_of, FitsNoRoot, IsPlaceOf};
-ghost use Rattle.vfs_sets.specs.Probes.{CountsPlacing, CountsProbes};
+ghost use Rattle.vfs_sets.specs.Probes.{CountsFront, CountsPlacing, CountsProbes, RaisesAtMost, most_probes};
 ghost use Rattle.vfs_sets.specs.RootMaps.{MapsRoots};
 ghost use Rattle.vfs_sets.specs.Roots.{AreRoots};
 
@@ -174,16 +174,21 @@ impl FileSetConfig {
         self.partition_counted(alloc, vfs, &mut steps)
     }
 
-    /// The same, with each look-up of a prefix as a step. The count after out of memory is not said.
+    /// The same, with each look-up of a prefix as a step. Out of memory, the first files were placed.
     pub fn partition_counted<L: Ledger>(
         &self,
         alloc: Global,
         vfs: &Vfs,
         steps: &mut Steps<L>,
     ) -> Result<Vec<FileSet>, AllocError>
-        ensures sets { IfOk result (λ sets. IsPartition self.now (existing_files vfs.now) sets.items) }
+        ensures sets { IfOk result (λ sets. IsPartition self.now
+            (existing_files vfs.now) sets.items) }
         ensures counts { OnOk result (CountsPlacing self.now (existing_files vfs.now)
             (L.count steps.old.ledger) (L.count steps.new.ledger)) }
+        ensures err { OnErr result (CountsFront self.now (existing_files vfs.now)
+            (L.count steps.old.ledger) (L.count steps.new.ledger)) }
+        ensures most { RaisesAtMost (most_probes (existing_files vfs.now))
+            (L.count steps.old.ledger) (L.count steps.new.ledger) }
     {
         let mut sets = empty_sets(alloc, self.sets.len() + 1)?;
         for (id, path) in vfs.iter() {
