@@ -17,8 +17,8 @@ fn note_edges<G: Graph>(graph: &G, trail: &mut Trail, place: usize) -> Result<()
     requires node { slice_index trail.old.nodes place < length (G.rows graph.now) }
     requires marks { length trail.old.marks ≡ length (G.rows graph.now) }
     requires in_range { IsInRange (G.rows graph.now) }
-    ensures { OnOk result (trail.new
-        ≡ after_edges place trail.old (row (G.rows graph.now) (slice_index trail.old.nodes place))) }
+    ensures { let node = slice_index trail.old.nodes place in OnOk result
+        (trail.new ≡ after_edges place trail.old (row (G.rows graph.now) node)) }
 {
     let node = trail.node(place);
     for edge in 0..graph.degree(node) {
@@ -77,7 +77,8 @@ pub fn reachable_nodes<G: Graph>(
 fn trace(alloc: Global, trail: &Trail, from: usize) -> Result<Vec<u32>, AllocError>
     requires from { from < length trail.now.nodes }
     requires links { length trail.now.links ≡ length trail.now.nodes }
-    requires earlier { (k : ℕ) → 0 < k → k < length trail.now.nodes → slice_index trail.now.links k < k }
+    requires earlier { (k : ℕ) → 0 < k → k < length trail.now.nodes
+        → slice_index trail.now.links k < k }
     ensures { IfOk result (λ path. IsTraced trail.now path.items from 0) }
 {
     let mut path = Vec::new(alloc);
@@ -98,8 +99,10 @@ pub fn path_back<G: Graph>(
     start: u32,
 ) -> Result<Option<Vec<u32>>, AllocError>
     requires { start < length (G.rows graph.now) }
-    ensures reached { IfOk result (λ path. IfSome path (λ _. Reaches (G.rows graph.now) start end)) }
-    ensures apart { IfOk result (λ path. IfNone path (Reaches (G.rows graph.now) start end → ⊥)) }
+    ensures reached { IfOk result
+        (λ path. IfSome path (λ _. Reaches (G.rows graph.now) start end)) }
+    ensures apart { IfOk result
+        (λ path. IfNone path (Reaches (G.rows graph.now) start end → ⊥)) }
     ensures path { IfOk result (λ path. IfSome path
         (λ found. IsPathBack (G.rows graph.now) found.items end start)) }
 {
