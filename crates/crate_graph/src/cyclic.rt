@@ -93,7 +93,8 @@ fn write_end<W: fmt::Write>(
     f: &mut fmt::Formatter<W>,
     end: Option<&(CrateBuilderId, Option<CrateDisplayName>)>,
 ) -> fmt::Result
-    ensures { DisplaysOnOk W.write_str_gives f.old result (Some (end_text (option_copied end.entry))) f.new }
+    ensures { DisplaysOnOk W.write_str_gives f.old result
+        (Some (end_text (option_copied end.entry))) f.new }
 {
     match end {
         Some(step) => write_step(f, step),

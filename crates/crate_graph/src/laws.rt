@@ -57,7 +57,8 @@ pub fn equality_of_origins_is_content()
 /// Two crates are equal exactly where all that they hold is, for numbers whose equality is identity. The
 /// path of each crate of a graph is clean.
 pub fn equality_of_crates_is_content<Id: PartialEq>()
-    ensures { IsContentEquality Id.eq → IsContentEqualityOn HasCleanPath ⟦<CrateData<Id> as PartialEq>⟧.eq }
+    ensures { IsContentEquality Id.eq
+        → IsContentEqualityOn HasCleanPath ⟦<CrateData<Id> as PartialEq>⟧.eq }
 {
     equality_of_dependencies_is_content::<Id>();
     base_text::laws::equality_is_content();
@@ -100,7 +101,8 @@ pub fn equality_of_workspace_data_is_content()
 /// Two crates of builders are equal exactly where all that they hold is: their data, what is known of them
 /// beside that, their atoms, their environments and what they share with their workspaces.
 pub fn equality_of_crate_builders_is_content()
-    ensures { IsContentEqualityOn (λ krate. HasCleanPath krate.basic) ⟦<CrateBuilder as PartialEq>⟧.eq }
+    ensures { IsContentEqualityOn (λ krate. HasCleanPath krate.basic)
+        ⟦<CrateBuilder as PartialEq>⟧.eq }
 {
     equality_of_numbers_is_content();
     equality_of_crates_is_content::<CrateBuilderId>();

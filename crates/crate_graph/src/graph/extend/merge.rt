@@ -90,11 +90,12 @@ impl Merge {
         requires other { other < length self.old.new_numbers }
         requires olds { olds ≤ length self.old.crates }
         requires room { length self.old.crates ≤ limit }
-        ensures ok { OnOk result
-            (self.new ≡ with_first_equal ⟦<CrateBuilder as PartialEq>⟧.eq olds self.old other krate) }
+        ensures ok { OnOk result (self.new
+            ≡ with_first_equal ⟦<CrateBuilder as PartialEq>⟧.eq olds self.old other krate) }
         ensures room { OnOk result (length self.new.crates ≤ limit) }
         ensures too_many { IsErrOf result GraphError.TooMany
-            → limit < length (with_first_equal ⟦<CrateBuilder as PartialEq>⟧.eq olds self.old other krate).crates }
+            → limit < length (with_first_equal ⟦<CrateBuilder as PartialEq>⟧.eq
+            olds self.old other krate).crates }
     {
         match place_of(&self.crates[..olds], &krate) {
             Some(place) => {
@@ -122,8 +123,9 @@ impl Merge {
         ensures ok { OnOk result
             (self.new ≡ take_in ⟦<CrateBuilder as PartialEq>⟧.eq olds others.now self.old other) }
         ensures room { OnOk result (length self.new.crates ≤ limit) }
-        ensures too_many { IsErrOf result GraphError.TooMany → limit
-            < length (take_in ⟦<CrateBuilder as PartialEq>⟧.eq olds others.now self.old other).crates }
+        ensures too_many { IsErrOf result GraphError.TooMany
+            → limit < length (take_in ⟦<CrateBuilder as PartialEq>⟧.eq
+            olds others.now self.old other).crates }
     {
         let krate = renamed_copy(alloc, &self.new_numbers, &others[other as usize])?;
         self.find_or_append(limit, olds, other, krate)
