@@ -11,11 +11,10 @@ ghost use Rattle.crate_graph.specs.Prune.{KeepsNamed, Stays, kept_crates, new_nu
 ghost use Rattle.crate_graph.specs.Prune.{renumbered_crate};
 
 use crate::builder::CrateBuilder;
-use crate::crate_data::{CrateBuilderId, CrateTag};
+use crate::crate_data::CrateBuilderId;
 use crate::graph::CrateGraphBuilder;
 use crate::graph::renaming::renamed_dependencies;
 use base_text::TryClone;
-use base_text::laws::numbers_compare_as_numbers;
 use std::alloc::{AllocError, Global};
 
 impl CrateGraphBuilder {
@@ -98,7 +97,6 @@ fn names_all(to_keep: &[CrateBuilderId], krate: &CrateBuilder) -> bool
 fn names(to_keep: &[CrateBuilderId], id: CrateBuilderId) -> bool
     ensures { result ≡ is_named (map number_of to_keep.now) (number_of id) }
 {
-    numbers_compare_as_numbers::<CrateTag>();
     to_keep.contains(&id)
 }
 

@@ -11,7 +11,7 @@ ghost use Rattle.crate_graph.specs.Graph.{target_of};
 ghost use Rattle.crate_graph.specs.Laws.{renamed_dependency};
 
 use crate::builder::CrateBuilder;
-use crate::crate_data::{CrateBuilderId, CrateTag, DependencyBuilder};
+use crate::crate_data::{CrateBuilderId, DependencyBuilder};
 use base_text::{Items, TryClone};
 use std::alloc::{AllocError, Global};
 use std::collections::BTreeMap;
@@ -102,7 +102,6 @@ pub(super) fn ids_of_numbers(
         → option_map number_of (tree.get ⟦<CrateBuilderId as Ord>⟧.cmp ids id)
         ≡ slice_get new_numbers.now (number_of id)) }
 {
-    base_text::laws::numbers_compare_as_numbers::<CrateTag>();
     let mut ids = BTreeMap::new(alloc);
     for (old, new) in new_numbers.iter().enumerate() {
         let old = CrateBuilderId::from_raw(old as u32);

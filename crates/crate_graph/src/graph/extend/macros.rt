@@ -7,7 +7,7 @@ ghost use Rattle.base_text.specs.Arena.{number_of};
 ghost use Rattle.crate_graph.specs.Extend.{Id, moved_entry, new_id_at};
 
 use crate::builder::ProcMacroPaths;
-use crate::crate_data::{CrateBuilderId, CrateTag};
+use crate::crate_data::CrateBuilderId;
 use crate::graph::renaming::new_id_at;
 use crate::proc_macro::ProcMacroLoadingError;
 use base_text::{AbsPathBuf, Text, TryClone};
@@ -45,7 +45,6 @@ pub(super) fn renumber_macros(
         → tree.get ⟦<CrateBuilderId as Ord>⟧.cmp new id
         ≡ moved_entry (new_id_at new_numbers.now) macros.now.entries id) }
 {
-    base_text::laws::numbers_compare_as_numbers::<CrateTag>();
     let mut new_macros = BTreeMap::new(alloc);
     for (id, library) in macros.iter() {
         let library = copy_of(alloc, library)?;

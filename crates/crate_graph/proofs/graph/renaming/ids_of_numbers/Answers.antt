@@ -12,6 +12,6 @@ loop-old-preserved c = λ q.
     let value = c.from_raw.result in
     let before = tree.get (numbers.ghosts the_row).cmp c.loop-old.ids q in
     let below : c.loop-old.old < length c.args.new_numbers.now = omega (arith, c.loop-old-test.true) in
-    let test = is_at_number cmp c.numbers_compare_as_numbers.ensures.order key q in
+    let test = is_at_number key q in
     let step = c.in_ok-insert.ensures.updates.0 q ∙ ap (λ t. cond t (Some value) before) test in
     numbers_more c.args.new_numbers.now c.loop-old.old (get_or c.args.new_numbers.now c.loop-old.old 0) key value q before (tree.get cmp c.insert.new.self q) below refl c.from_raw-old.ensures c.from_raw.ensures step (c.loop-old.invariant q)

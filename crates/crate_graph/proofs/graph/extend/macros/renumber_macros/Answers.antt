@@ -31,7 +31,7 @@ loop-id-preserved c =
       within = All-rest (λ e. number_of e.0 < length c.args.new_numbers.now) (c.in-Some.id.now, c.in-Some.library.now) c.next.new.self c.loop-id.id-iterator c.in-Some.ensures.steps c.loop-id.invariant.within;
       moved_entry = λ id.
           let before = tree.get (numbers.ghosts the_row).cmp c.loop-id.new_macros id in
-          let test = is_at_number cmp c.numbers_compare_as_numbers.ensures.order c.new_id_at.result id ∙ ap (λ k. eqb (number_of k) (number_of id)) c.new_id_at.ensures in
+          let test = is_at_number c.new_id_at.result id ∙ ap (λ k. eqb (number_of k) (number_of id)) c.new_id_at.ensures in
           let copy = c.in_ok-library.ensures in
           let step = c.in_ok-insert.ensures.updates.0 id ∙ (λ i. cond (test i) (Some (copy i)) before) in
           moved_more (new_id_at c.args.new_numbers.now) id (c.in-Some.id.now, c.in-Some.library.now) c.loop-id.id-iterator c.next.new.self before (tree.get cmp c.insert.new.self id) (moved_entry (new_id_at c.args.new_numbers.now) c.args.macros.now.entries id) c.in-Some.ensures.steps step (c.loop-id.invariant.moved_entry id);
