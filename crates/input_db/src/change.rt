@@ -63,7 +63,8 @@ impl FileChange {
         new_text: Option<String>,
     ) -> Result<(), AllocError>
         ensures ok { OnOk result (self.new ≡ record self.old {
-          files_changed = self.old.files_changed ++ (file_id, option_map string_bytes new_text) ∷ [];
+          files_changed = self.old.files_changed
+              ++ (file_id, option_map string_bytes new_text) ∷ [];
         }) }
         ensures err { OnErr result (self.new ≡ self.old) }
     {

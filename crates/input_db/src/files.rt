@@ -112,7 +112,8 @@ impl Files {
         durability: Durability,
     ) -> Result<(), AllocError>
         ensures ok { OnOk result (self.new ≡ with_text self.old id text.now durability) }
-        ensures alone { OnOk result (SetsText self.old self.new id (stored_text id text.now durability)) }
+        ensures alone { OnOk result
+            (SetsText self.old self.new id (stored_text id text.now durability)) }
         ensures err { OnErr result (self.new ≡ self.old) }
     {
         let text = Text::of_str(self.alloc, text)?;
@@ -152,7 +153,8 @@ impl Files {
         durability: Durability,
     ) -> Result<(), AllocError>
         ensures ok { OnOk result (self.new ≡ with_file_root self.old id root durability) }
-        ensures alone { OnOk result (SetsFileRoot self.old self.new id (stored_place root durability)) }
+        ensures alone { OnOk result
+            (SetsFileRoot self.old self.new id (stored_place root durability)) }
         ensures err { OnErr result (self.new ≡ self.old) }
     {
         let input = FileSourceRootInput {

@@ -98,8 +98,9 @@ pub(super) fn unique_of(
     is_first: bool,
     input: &CrateInput,
 ) -> Result<UniqueCrateData, AllocError>
-    ensures { IfOk result (λ unique. unique ≡ (if is_first then root_identity input.now.crate_data.root_file_id
-        else full_identity input.now.crate_data.root_file_id input.now.crate_data input.now.cfg_options)) }
+    ensures { let file = input.now.crate_data.root_file_id in IfOk result (λ unique. unique
+        ≡ (if is_first then root_identity file
+        else full_identity file input.now.crate_data input.now.cfg_options)) }
 {
     let root_file_id = input.crate_data.root_file_id;
     if is_first {
