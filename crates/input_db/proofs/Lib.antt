@@ -10,7 +10,6 @@ mod IdentityLaws
 mod InputLaws
 mod ItselfFirst
 mod KnownLemmas
-mod NewNumbers
 mod Numbers
 mod PlaceLemmas
 mod PutLemmas

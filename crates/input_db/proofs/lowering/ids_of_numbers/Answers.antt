@@ -1,19 +1,18 @@
-use Rattle.std.proofs.Common.{◌<◌, Some, ap, arith, cond, length, ◌∙◌}
+use Rattle.std.proofs.Common.{◌<◌, ℕ, Some, ap, arith, cond, eqb, length, sym, ◌∙◌}
 use Rattle.std.specs.BTreeMap as tree
+use Rattle.base_text.specs.Arena.{number_of}
 use Rattle.base_text.specs.contracts.arena.IdxOrd.TheImpl as numbers
 use Rattle.crate_graph.specs.contracts.crate_data.CrateTag.{the_row}
-use Rattle.crate_graph.proofs.NumberMapLemmas.{is_at_number}
-use Rattle.input_db.proofs.NewNumbers.{ids_compare, numbers_more}
+use Rattle.crate_graph.proofs.NumberMapLemmas.{is_at_number, slice_get-take_more}
 use Rattle.input_db.proofs.lowering.ids_of_numbers.Goals as goal
 
 pub loop-number-preserved : goal.loop-number-preserved
 loop-number-preserved c = λ q.
-    let cmp = (numbers.ghosts the_row).cmp in
-    let key = c.from_raw-id.result in
+    let i = c.loop-number.number in
     let new = c.index-numbers-number.result in
     let before = tree.get (numbers.ghosts the_row).cmp c.loop-number.ids q in
-    let below : c.loop-number.number < length c.args.numbers.now = omega arith in
-    let test = is_at_number cmp ids_compare key q in
-    let step = c.in_ok-insert.ensures.updates.0 q ∙ ap (λ t. cond t (Some new) before) test in
-    numbers_more c.args.numbers.now c.loop-number.number new key q before _
-    below c.index-numbers-number.is c.from_raw-id.ensures step (c.loop-number.invariant q)
+    let below : i < length c.args.numbers.now = omega arith in
+    c.in_ok-insert.ensures.updates.0 q ∙ ap (λ t. cond t (Some new) before) (is_at_number c.from_raw-id.result q)
+    ∙ ap (λ (k : ℕ). cond (eqb k (number_of q)) (Some new) before) c.from_raw-id.ensures
+    ∙ ap (cond (eqb i (number_of q)) (Some new)) (c.loop-number.invariant q)
+    ∙ sym (slice_get-take_more c.args.numbers.now i (number_of q) new new below c.index-numbers-number.is)
