@@ -1,10 +1,11 @@
 -- What contracts see of a database: its files, which of its roots are local and which are libraries, its
 -- nonce, and its crates.
-use Rattle.std.specs.Prelude.{ℕ, List, [], Option, Some, None, if◌then◌else◌, refl}
+use Rattle.std.specs.Prelude.{ℕ, ◌<◌, List, [], Option, Some, None, if◌then◌else◌, length, refl}
 use Rattle.std.specs.Coded.{Coded, code_by, coded×, coded_list, coded_ℕ}
+use Rattle.std.specs.List.{All}
 use Rattle.outside.specs.Causes.{raised}
 use Rattle.input_db.specs.Files.{Held, held_code, no_files}
-use Rattle.input_db.specs.Identity.{Table, input_eq, input_under, with_entry}
+use Rattle.input_db.specs.Identity.{IsTable, Table, input_eq, input_under, with_entry}
 use Rattle.input_db.specs.contracts.crate_input.CrateInput as input
 use Rattle.input_db.specs.contracts.crate_input.UniqueCrateData as unique
 use Rattle.input_db.specs.contracts.durability.Durability as durability
@@ -34,6 +35,11 @@ pub record Database : Type 0 where
   pub listed_durability : Durability
   -- how often a crate was new or changed, or the list was stored, up to the greatest number of 64 bits
   pub writes : ℕ
+
+-- what every database keeps: its crates are a table, and it lists crates of that alone
+pub record ListsOwnCrates (crates : Table) (listed : List ℕ) : Type 0 where
+  pub table : IsTable crates
+  pub known : All (λ krate. krate < length crates) listed
 
 -- the crates of a database are stored as their parts
 abbrev pub crates_code : Coded (Table × (List ℕ × (Durability × ℕ)))

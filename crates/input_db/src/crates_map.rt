@@ -105,6 +105,7 @@ impl CratesMap {
         ensures answer { IfOk result (λ krate. krate ≡ crate_for self.old unique) }
         ensures ok { OnOk result (self.new ≡ with_entry self.old unique input) }
         ensures alone { IfOk result (PutsCrate self.old self.new unique input) }
+        ensures table { OnOk result (IsTable self.new) }
         ensures err { OnErr result (self.new ≡ self.old) }
     {
         have_clean_paths(&unique, &input);

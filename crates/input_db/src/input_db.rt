@@ -33,9 +33,7 @@ pub struct InputDb {
 }
 
 impl Model for InputDb {
-    ghost use Rattle.std.specs.Prelude.{◌<◌, length};
-    ghost use Rattle.std.specs.List.{All};
-    ghost use Rattle.input_db.specs.Database.{Database, database_code};
+    ghost use Rattle.input_db.specs.Database.{Database, ListsOwnCrates, database_code};
 
     ghost Value = { Database };
 
@@ -52,7 +50,7 @@ impl Model for InputDb {
       writes = a.writes;
     } };
 
-    ghost invariant = { λ a. All (λ krate. krate < length a.crates) a.listed };
+    ghost invariant = { λ a. ListsOwnCrates a.crates a.listed };
 }
 
 impl InputDb {

@@ -6,8 +6,7 @@ ghost use Rattle.std.specs.List.{All};
 ghost use Rattle.base_text.specs.Arena.{number_of};
 ghost use Rattle.graph_base.specs.Finish.{IsBehindTargets};
 ghost use Rattle.crate_graph.specs.Graph.{edges, target_of};
-ghost use Rattle.input_db.specs.Identity.{named_in};
-ghost use Rattle.input_db.specs.Identity.{Id, data_of, number_in};
+ghost use Rattle.input_db.specs.Identity.{Id, IsTable, data_of, named_in, number_in};
 ghost use Rattle.input_db.specs.FinishSteps.{IsSetInSteps, finish_crate, progress_after, with_new_list};
 ghost use Rattle.input_db.specs.SetInDb.{IsSetInDb};
 
@@ -46,7 +45,6 @@ pub fn set_in_db<D: SourceDatabase>(
     let ids = ids_of_numbers(alloc, finished.numbers())?;
     let given = finished.given(alloc)?;
     store_list(db, given);
-    db.crates_map().len();
     Ok(ids)
 }
 
@@ -92,10 +90,11 @@ fn finish_all<D: SourceDatabase>(
     Ok(finished)
 }
 
-// Stores the list of crates where it differs.
+// Stores the list of crates where it differs. They are of a table, as all crates of a database are.
 fn store_list<D: SourceDatabase>(db: &mut D, given: Vec<Crate>)
     requires { All (λ krate. krate < length (D.seen db.old).crates) given.items }
-    ensures { D.seen db.new ≡ with_new_list (D.seen db.old) given.items }
+    ensures list { D.seen db.new ≡ with_new_list (D.seen db.old) given.items }
+    ensures table { IsTable (D.seen db.old).crates }
 {
     if *db.all_crates_list() != *given.as_slice() {
         db.store_all_crates(given, Durability::Medium);

@@ -7,7 +7,7 @@ ghost use Rattle.input_db.specs.Files.{SetsFileRoot, SetsRoot, SetsText, kept_du
 ghost use Rattle.input_db.specs.Files.{stored_root, stored_text};
 ghost use Rattle.input_db.specs.Files.{file_root_of, resolved_from, root_of, root_of_file, text_of};
 ghost use Rattle.input_db.specs.Files.{with_file_root, with_root, with_same_durability, with_text};
-ghost use Rattle.input_db.specs.Identity.{PutsCrate, crate_for, input_in, named_in, names_of};
+ghost use Rattle.input_db.specs.Identity.{IsTable, PutsCrate, crate_for, input_in, named_in, names_of};
 
 use crate::crate_input::{Crate, CrateInput, UniqueCrateData};
 use crate::crates_map::CratesMap;
@@ -102,7 +102,8 @@ pub trait SourceDatabase {
         durability: Durability,
     ) -> Result<(), AllocError>
         ensures ok { OnOk result (seen self.new
-            ≡ with_files (seen self.old) (with_file_root (seen self.old).files id root durability)) }
+            ≡ with_files (seen self.old)
+            (with_file_root (seen self.old).files id root durability)) }
         ensures alone { OnOk result (SetsFileRoot (seen self.old).files (seen self.new).files id
             (stored_place root durability)) }
         ensures err { OnErr result (seen self.new ≡ seen self.old) };
@@ -138,10 +139,12 @@ pub trait SourceDatabase {
         ensures err { OnErr result (seen self.new ≡ seen self.old) };
 
     /// The crates that there are now, in the order in which they were stored. `set_in_db` stores each after
-    /// those that it depends on.
+    /// those that it depends on. They are of the table of all crates.
     fn all_crates_list(&self) -> &[Crate]
         ensures list { result.now ≡ (seen self.now).listed }
-        ensures known { All (λ krate. krate < length (seen self.now).crates) (seen self.now).listed };
+        ensures known { All (λ krate. krate < length (seen self.now).crates)
+            (seen self.now).listed }
+        ensures table { IsTable (seen self.now).crates };
 
     /// Says which crates there are now. Each of them is there already, as `has_crate` reports.
     fn store_all_crates(&mut self, crates: Vec<Crate>, durability: Durability)

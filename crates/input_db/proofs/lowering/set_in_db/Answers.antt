@@ -48,7 +48,7 @@ returns g c =
     c.in_ok-given.ensures ∙ ap (λ (l : Progress). l.finished.given) finished in
     let firsts = given ∙ given_is crates old order behind in
     let ends : g.D.SourceDatabase.seen c.store_list.new.db ≡ with_new_list (progress_after crates old order).db c.in_ok-given.given.items =
-    c.store_list.ensures ∙ ap (λ (d : Database). with_new_list d c.in_ok-given.given.items) db in
+    c.store_list.ensures.list ∙ ap (λ (d : Database). with_new_list d c.in_ok-given.given.items) db in
     let table : (progress_after crates old order).db.crates ≡ (g.D.SourceDatabase.seen c.store_list.new.db).crates =
     sym (ap (λ (d : Database). d.crates) ends ∙ crates-with_new_list (progress_after crates old order).db c.in_ok-given.given.items) in
     let mapped : c.numbers.result.now ≡ numbers = c.numbers.ensures ∙ ap (λ (l : Progress). l.finished.numbers) finished in
@@ -66,7 +66,7 @@ returns g c =
       shared = shared crates old order behind is_run is_stable (clean_paths crates order clean);
       inputs = subst (HoldLastInputs crates order numbers) table (inputs crates old order behind is_run is_stable);
       kept = subst (KeepsOthers order numbers old.crates) table (kept crates old order behind is_run is_stable);
-      table = subst IsTable c.crates_map.ensures c.len.ensures.table;
+      table = subst IsTable (ap (λ (d : Database). d.crates) db ∙ table) c.store_list.ensures.table;
       listed = ap (λ (d : Database). d.listed) ends
           ∙ listed-with_new_list (progress_after crates old order).db c.in_ok-given.given.items ∙ firsts;
       beside = keeps_files crates old order _ _ ends;

@@ -31,6 +31,9 @@ invariant_of-self-2 c =
     (table_after old unique input c.self.invariant identity named c.have_clean_paths.ensures.identity
     c.have_clean_paths.ensures.input (subst (λ (t : Table). length t < 2 ^ 32) entries few))
 
+pub returns-clause-table : goal.returns-clause-table
+returns-clause-table c = invariant_of-self-2 c
+
 pub returns-clause-alone : goal.returns-clause-alone
 returns-clause-alone c =
     let old = c.args.self.now in
