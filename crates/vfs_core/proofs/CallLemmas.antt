@@ -1,5 +1,5 @@
 -- What the calls of the file system do, from what they make of the paths, the states and the batch.
-use Rattle.std.proofs.Common.{◌≡◌, ℕ, List, [], Option, ◌∙◌, sym, ap, position, slice_get}
+use Rattle.std.proofs.Common.{◌≡◌, ℕ, List, [], Option, ◌∙◌, ap, position, slice_get}
 use Rattle.std.specs.Map.{keys_of, lookup}
 use Rattle.std.specs.Option.{unwrap_or}
 use Rattle.vfs_core.specs.declared.file_state.FileState.{FileState}

@@ -22,7 +22,7 @@ use Rattle.vfs_core.specs.Files.{Files, Follows, call_made, entry_state, kind_of
 use Rattle.vfs_core.specs.Hash.{content_hash}
 use Rattle.vfs_core.specs.Marks.{is_out, kept_text, live_text_after, live_text, same_hash, with_path}
 use Rattle.vfs_core.specs.VfsPathOrder.{vfs_path_eq-same, vfs_path_equiv}
-use Rattle.vfs_core.specs.Texts.{BringsTo, contents_after, contents_by, contents_left, passes}
+use Rattle.vfs_core.specs.Texts.{BringsTo, contents_after, contents_by, contents_left}
 use Rattle.vfs_core.specs.VfsPath.{PathContent, vfs_path_eq}
 use Rattle.vfs_core.proofs.BatchLemmas.{found_insert_entry}
 use Rattle.vfs_core.proofs.FileLemmas.{position-at, position-in}

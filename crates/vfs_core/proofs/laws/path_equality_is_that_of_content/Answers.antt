@@ -1,5 +1,5 @@
-use Rattle.std.proofs.Common.{◌≡◌, sym, ap, ◌∙◌}
-use Rattle.vfs_core.specs.VfsPath.{PathContent, vfs_path_eq}
+use Rattle.std.proofs.Common.{sym, ap, ◌∙◌}
+use Rattle.vfs_core.specs.VfsPath.{vfs_path_eq}
 use Rattle.vfs_core.specs.VfsPathOrder.{vfs_path_eq-same, vfs_path_equiv}
 use Rattle.vfs_core.proofs.laws.path_equality_is_that_of_content.Goals as goal
 

@@ -1,4 +1,4 @@
-use Rattle.std.proofs.Common.{arith, refl}
+use Rattle.std.proofs.Common.{arith}
 use Rattle.std.proofs.lemmas.Grind.{common_steps}
 use Rattle.vfs_core.proofs.CallLemmas.{TakesBatch_from}
 use Rattle.vfs_core.proofs.vfs.Vfs.take_changes.Goals as goal
