@@ -1,0 +1,12 @@
+//! Cases: lines of JSON, each a call of a library with what it is given and what it gives. The words of the
+//! command line name the files of cases, and a family says what a call gives.
+#![tactic(auto)]
+
+mod case;
+mod compare;
+
+pub use crate::case::{
+    Case, Fault, error_answer, file_number_of, item, items_of, missed_answer, number_of,
+    optional_answer, text_answer, text_of,
+};
+pub use crate::compare::{Family, run_files};
