@@ -1,0 +1,35 @@
+//! Cases of paths: absolute paths, paths of the virtual file system, atoms of conditional compilation,
+//! tables of files, and sets of files.
+#![tactic(auto)]
+
+mod cfgs;
+mod files;
+mod marks;
+mod paths;
+mod sets;
+mod vfs_paths;
+
+use cases::{Case, Family, Fault, run_files};
+use serde_json::Value;
+use std::io;
+use std::process::ExitCode;
+
+/// The calls of base_text, vfs_core and vfs_sets.
+struct PathFamily;
+
+impl<R: AllocGlobal> Family<R> for PathFamily {
+    fn answer(rt: &R, file: &str, case: Case<'_>) -> Result<Value, Fault> {
+        match file {
+            "paths.jsonl" => paths::answer(rt.alloc(), case),
+            "vfs_paths.jsonl" => vfs_paths::answer(rt.alloc(), case),
+            "cfgs.jsonl" => cfgs::answer(rt.alloc(), case),
+            "files.jsonl" => files::answer(rt.alloc(), case),
+            "sets.jsonl" => sets::answer(rt.alloc(), case),
+            _ => Err(Fault::Kind),
+        }
+    }
+}
+
+fn main(rt: HostRuntime) -> io::Result<ExitCode> {
+    run_files::<PathFamily, HostRuntime>(&rt)
+}

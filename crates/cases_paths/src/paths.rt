@@ -1,0 +1,93 @@
+//! Absolute paths.
+
+use base_text::{AbsPath, AbsPathBuf, PathError};
+use cases::{Case, Fault, error_answer, optional_answer, text_answer};
+use serde_json::{Value, json};
+use std::alloc::Global;
+use std::cmp::Ordering;
+
+/// What a call of an absolute path gives.
+pub fn answer(alloc: Global, case: Case<'_>) -> Result<Value, Fault> {
+    let (call, text) = (case.text("call")?, case.text("path")?);
+    match AbsPathBuf::new(alloc, text) {
+        Ok(path) => of_buf(alloc, case, call, path),
+        Err(PathError::NotAbsolute) => error_answer(alloc, "NotAbsolute"),
+        Err(PathError::OutOfMemory) => Err(Fault::OutOfMemory),
+    }
+}
+
+fn of_buf(alloc: Global, case: Case<'_>, call: &str, path: AbsPathBuf) -> Result<Value, Fault> {
+    match call {
+        "AbsPathBuf::pop" => popped(alloc, path),
+        _ => of_path(alloc, case, call, path.as_path()),
+    }
+}
+
+// Whether a component was taken away, and the path that is left.
+fn popped(alloc: Global, mut path: AbsPathBuf) -> Result<Value, Fault> {
+    let popped = path.pop();
+    let left = path.as_str();
+    Ok(json!(in alloc; [popped, left])?)
+}
+
+fn of_path(alloc: Global, case: Case<'_>, call: &str, path: AbsPath<'_>) -> Result<Value, Fault> {
+    match call {
+        "AbsPathBuf::new" => text_answer(alloc, path.as_str()),
+        "AbsPath::join" => join(alloc, path, case.text("tail")?),
+        "AbsPath::normalize" => normalize(alloc, path),
+        "AbsPath::absolutize" => absolutize(alloc, path, case.text("tail")?),
+        "AbsPath::parent" => parent(alloc, path),
+        "AbsPath::file_name" => optional_answer(alloc, path.file_name()),
+        "AbsPath::file_stem" => optional_answer(alloc, path.file_stem()),
+        "AbsPath::extension" => optional_answer(alloc, path.extension()),
+        _ => of_two(alloc, call, path, case.text("other")?),
+    }
+}
+
+fn join(alloc: Global, path: AbsPath<'_>, tail: &str) -> Result<Value, Fault> {
+    let joined = path.join(alloc, tail)?;
+    text_answer(alloc, joined.as_str())
+}
+
+fn normalize(alloc: Global, path: AbsPath<'_>) -> Result<Value, Fault> {
+    let normal = path.normalize(alloc)?;
+    text_answer(alloc, normal.as_str())
+}
+
+fn absolutize(alloc: Global, path: AbsPath<'_>, tail: &str) -> Result<Value, Fault> {
+    let normal = path.absolutize(alloc, tail)?;
+    text_answer(alloc, normal.as_str())
+}
+
+fn parent(alloc: Global, path: AbsPath<'_>) -> Result<Value, Fault> {
+    let parent = path.parent();
+    optional_answer(alloc, parent.map(|parent| parent.as_str()))
+}
+
+// What a call of a path and another gives.
+fn of_two(alloc: Global, call: &str, path: AbsPath<'_>, other: &str) -> Result<Value, Fault> {
+    let Ok(other) = AbsPathBuf::new(alloc, other) else {
+        return Err(Fault::Member("other"));
+    };
+    match call {
+        "AbsPath::starts_with" => Ok(Value::from(path.starts_with(other.as_path()))),
+        "AbsPath::strip_prefix" => rest(alloc, path, other.as_path()),
+        "AbsPath::cmp" => order_answer(alloc, path.cmp(&other.as_path())),
+        _ => Err(Fault::Call),
+    }
+}
+
+fn rest(alloc: Global, path: AbsPath<'_>, front: AbsPath<'_>) -> Result<Value, Fault> {
+    let rest = path.strip_prefix(front);
+    optional_answer(alloc, rest.map(|rest| rest.as_str()))
+}
+
+/// The name of an order.
+pub fn order_answer(alloc: Global, order: Ordering) -> Result<Value, Fault> {
+    let name = match order {
+        Ordering::Less => "less",
+        Ordering::Equal => "equal",
+        Ordering::Greater => "greater",
+    };
+    text_answer(alloc, name)
+}
