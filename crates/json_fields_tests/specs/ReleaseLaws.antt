@@ -1,8 +1,8 @@
 -- what is read of a release's document is read again from what is written of it
-use Rattle.std.specs.Prelude.{◌≡◌, ◌≤◌, suc, max, [], codes, false, refl}
+use Rattle.std.specs.Prelude.{◌≤◌, max, codes, false, refl}
 use Rattle.std.proofs.Common.{arith}
-use Rattle.serde_json.specs.Data.{members_depth, null, string}
-use Rattle.json_fields.specs.Fields.{defaulted, list_at, map_at, optional, required}
+use Rattle.serde_json.specs.Data.{members_depth, null}
+use Rattle.json_fields.specs.Fields.{defaulted, optional, required}
 use Rattle.json_fields.specs.Laws.RoundTrips.{AreWithin, and_then, any-round_trips, at_last, defaulted-kept, flag-round_trips, listed-kept, mapped-kept, no_members-written, number-round_trips, optional-kept, required-kept, set_member-written, table-round_trips, text-round_trips}
 use Rattle.json_fields.specs.Laws.TextForms.{bare-round_trips, requirement-round_trips, version-round_trips}
 use Rattle.json_fields.specs.RoundTrip.{RoundTrips}
