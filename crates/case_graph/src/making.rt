@@ -1,0 +1,166 @@
+//! Puts in the crates and edges of a case.
+
+use base_text::{AbsPathBuf, CfgAtom, CfgOptions, Edition, FileId, Symbol, Text};
+use cases::{Case, Fault, file_number_of, item, items_of, number_of};
+use crate_graph::target::TargetLoadError;
+use crate_graph::{
+    AddDepError, CrateBuilderId, CrateDisplayName, CrateGraphBuilder, CrateName, CrateOrigin,
+    CrateWorkspaceData, Dependency, Env, GraphError, LangCrateOrigin, TargetKind,
+};
+use serde_json::Value;
+use std::alloc::Global;
+use std::rc::Rc;
+
+/// What crates of cases differ in, and what their directory and workspace are.
+#[derive(Drop)]
+struct Parts {
+    name: Option<CrateDisplayName>,
+    cfgs: CfgOptions,
+    env: Env,
+    directory: AbsPathBuf,
+    workspace: Rc<CrateWorkspaceData>,
+}
+
+/// Puts a crate in: its root file, its name, one flag, and the value of its variable `K`.
+pub fn add(
+    alloc: Global,
+    graph: &mut CrateGraphBuilder,
+    krate: Case<'_>,
+) -> Result<Result<CrateBuilderId, GraphError>, Fault> {
+    let file = file_number_of(krate.member("file")?, "file")?;
+    let Parts {
+        name,
+        cfgs,
+        env,
+        directory,
+        workspace,
+    } = parts_of(alloc, krate)?;
+    Ok(graph.add_crate_root(
+        FileId::from_raw(file),
+        Edition::Edition2021,
+        name,
+        None,
+        cfgs,
+        None,
+        env,
+        CrateOrigin::Lang(LangCrateOrigin::Core),
+        Vec::new(alloc),
+        TargetKind::Bin,
+        directory,
+        workspace,
+    ))
+}
+
+fn parts_of(alloc: Global, krate: Case<'_>) -> Result<Parts, Fault> {
+    let name = name_of(alloc, krate.optional_text("name"))?;
+    let cfgs = cfgs_of(alloc, krate.optional_text("flag"))?;
+    let env = env_of(alloc, krate.optional_text("value"))?;
+    let directory = directory(alloc)?;
+    let workspace = workspace(alloc)?;
+    Ok(Parts {
+        name,
+        cfgs,
+        env,
+        directory,
+        workspace,
+    })
+}
+
+fn directory(alloc: Global) -> Result<AbsPathBuf, Fault> {
+    AbsPathBuf::new(alloc, "/w").map_err(|_| Fault::OutOfMemory)
+}
+
+fn workspace(alloc: Global) -> Result<Rc<CrateWorkspaceData>, Fault> {
+    let target = Err(TargetLoadError(Text::of_str(alloc, "no rustc")?));
+    let data = CrateWorkspaceData {
+        target,
+        toolchain: None,
+    };
+    Ok(Rc::new(alloc, data)?)
+}
+
+fn name_of(alloc: Global, name: Option<&str>) -> Result<Option<CrateDisplayName>, Fault> {
+    match name {
+        Some(name) => Ok(Some(CrateDisplayName::from_canonical_name(alloc, name)?)),
+        None => Ok(None),
+    }
+}
+
+fn cfgs_of(alloc: Global, flag: Option<&str>) -> Result<CfgOptions, Fault> {
+    let mut cfgs = CfgOptions::new(alloc);
+    if let Some(flag) = flag {
+        let flag = Symbol::of_str(alloc, flag)?;
+        cfgs.insert_atom(CfgAtom::Flag(flag))?;
+    }
+    Ok(cfgs)
+}
+
+fn env_of(alloc: Global, value: Option<&str>) -> Result<Env, Fault> {
+    let mut env = Env::new(alloc);
+    if let Some(value) = value {
+        let name = String::from_str(alloc, "K")?;
+        let value = String::from_str(alloc, value)?;
+        env.set(name, value)?;
+    }
+    Ok(env)
+}
+
+/// A graph of crates with edges, none of which may be refused.
+pub fn graph_of(alloc: Global, value: &Value) -> Result<CrateGraphBuilder, Fault> {
+    let given = Case::new(value);
+    let mut graph = crates_of(alloc, given)?;
+    for edge in given.list("edges")? {
+        if depend(alloc, &mut graph, edge)?.is_err() {
+            return Err(Fault::Condition);
+        }
+    }
+    Ok(graph)
+}
+
+fn crates_of(alloc: Global, given: Case<'_>) -> Result<CrateGraphBuilder, Fault> {
+    let mut graph = CrateGraphBuilder::new(alloc, limit_of(given));
+    for krate in given.list("crates")? {
+        if add(alloc, &mut graph, Case::new(krate))?.is_err() {
+            return Err(Fault::Condition);
+        }
+    }
+    Ok(graph)
+}
+
+// The limit of a graph, which is 100 where a case gives none.
+fn limit_of(given: Case<'_>) -> u32 {
+    let limit = given.find("limit").and_then(Value::as_u64);
+    limit.unwrap_or(100).min(100) as u32
+}
+
+/// The number at a place of a list.
+pub fn id_at(items: &[Value], place: usize) -> Result<CrateBuilderId, Fault> {
+    let raw = number_of(item(items, place, "edges")?, "edges")?;
+    Ok(CrateBuilderId::from_raw(raw))
+}
+
+/// Adds the edge of a pair of numbers.
+pub fn depend(
+    alloc: Global,
+    graph: &mut CrateGraphBuilder,
+    edge: &Value,
+) -> Result<Result<(), AddDepError>, Fault> {
+    let edge = items_of(edge, "edges")?;
+    let from = id_at(edge, 0)?;
+    let to = id_at(edge, 1)?;
+    depend_on(alloc, graph, from, to)
+}
+
+/// Lets a crate depend on another under the name `dep`.
+pub fn depend_on(
+    alloc: Global,
+    graph: &mut CrateGraphBuilder,
+    from: CrateBuilderId,
+    to: CrateBuilderId,
+) -> Result<Result<(), AddDepError>, Fault> {
+    let name = CrateName::normalize_dashes(alloc, "dep")?;
+    if graph.contains(from) && graph.contains(to) {
+        return Ok(graph.add_dep(from, Dependency::new(name, to)));
+    }
+    Err(Fault::Condition)
+}
