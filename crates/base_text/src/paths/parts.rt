@@ -40,7 +40,7 @@ impl<'a> AbsPath<'a> {
             ≡ text_below (components (abs_text other.entry)) (components (abs_text self.entry)) }
         ensures components { IfSome result (λ rest. components (rel_text rest)
             ≡ drop (length (components (abs_text other.entry)))
-                (components (abs_text self.entry))) }
+            (components (abs_text self.entry))) }
     {
         let rest = rest_below(row_of(self.as_str()), row_of(other.as_str()))?;
         Some(RelPath::new(below_slash(rest)))
