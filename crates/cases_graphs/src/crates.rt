@@ -1,0 +1,185 @@
+//! What a crate is made of: names, origins, kinds, channels and toolchains.
+
+use base_text::{Text, TryClone};
+use cases::{Case, Fault, error_answer, optional_answer, text_answer};
+use crate_graph::target::TargetLoadError;
+use crate_graph::{
+    CrateDisplayName, CrateName, CrateOrigin, CrateWorkspaceData, LangCrateOrigin,
+    ProcMacroLoadingError, ReleaseChannel, TargetKind, ToolchainVersion,
+};
+use serde_json::{Value, json};
+use std::alloc::Global;
+
+/// What a call on a part of a crate gives.
+pub fn answer(alloc: Global, case: Case<'_>) -> Result<Value, Fault> {
+    match case.text("call")? {
+        "CrateDisplayName" => display_name(alloc, case),
+        "CrateDisplayName::eq" => names_equal(alloc, case.text("text")?, case.text("other")?),
+        "CrateOrigin::lt" => origins_ascend(case.text("text")?, case.text("other")?),
+        "CrateWorkspaceData::is_atleast_187" => workspace(alloc, case.optional_text("version")),
+        call => of_text(alloc, call, case.text("text")?),
+    }
+}
+
+// What a call on one text gives.
+fn of_text(alloc: Global, call: &str, text: &str) -> Result<Value, Fault> {
+    match call {
+        "CrateName::new" => new_name(alloc, text),
+        "CrateName::normalize_dashes" => code_name(alloc, text),
+        "LangCrateOrigin::from_text" => lang_origin(alloc, text),
+        "CrateOrigin" => origin(alloc, text),
+        "TargetKind" => kind(alloc, text),
+        "ReleaseChannel::from_text" => channel(alloc, text),
+        "ProcMacroLoadingError" => loading_error(alloc, text),
+        _ => Err(Fault::Call),
+    }
+}
+
+fn new_name(alloc: Global, text: &str) -> Result<Value, Fault> {
+    match CrateName::new(String::from_str(alloc, text)?) {
+        Ok(name) => text_answer(alloc, name.symbol().as_str()),
+        Err(text) => error_answer(alloc, text.as_str()),
+    }
+}
+
+fn code_name(alloc: Global, text: &str) -> Result<Value, Fault> {
+    let name = CrateName::normalize_dashes(alloc, text)?;
+    Ok(Value::String(format!(in alloc; "{name}")?))
+}
+
+fn display_name(alloc: Global, case: Case<'_>) -> Result<Value, Fault> {
+    let name = name_of(alloc, case.text("text")?, case.flag("of_code"))?;
+    if name.try_clone(alloc)? == name {
+        name_answer(alloc, &name)
+    } else {
+        Err(Fault::Condition)
+    }
+}
+
+fn name_of(alloc: Global, text: &str, is_of_code: bool) -> Result<CrateDisplayName, Fault> {
+    if is_of_code {
+        let name = CrateName::normalize_dashes(alloc, text)?;
+        Ok(CrateDisplayName::from_name(alloc, name)?)
+    } else {
+        Ok(CrateDisplayName::from_canonical_name(alloc, text)?)
+    }
+}
+
+// A name as it was given, as code has it, and printed.
+fn name_answer(alloc: Global, name: &CrateDisplayName) -> Result<Value, Fault> {
+    let printed = format!(in alloc; "{name}")?;
+    let canonical = name.canonical_name().as_str();
+    let code = name.crate_name().symbol().as_str();
+    Ok(json!(in alloc; [canonical, code, printed.as_str()])?)
+}
+
+fn names_equal(alloc: Global, text: &str, other: &str) -> Result<Value, Fault> {
+    let name = CrateDisplayName::from_canonical_name(alloc, text)?;
+    let other = CrateDisplayName::from_canonical_name(alloc, other)?;
+    Ok(Value::from(name == other))
+}
+
+fn lang_origin(alloc: Global, text: &str) -> Result<Value, Fault> {
+    let origin = LangCrateOrigin::from_text(text);
+    let printed = format!(in alloc; "{origin}")?;
+    if printed.as_str() == origin.as_str() {
+        text_answer(alloc, origin.as_str())
+    } else {
+        Err(Fault::Condition)
+    }
+}
+
+fn origin_of(text: &str) -> Result<CrateOrigin, Fault> {
+    match text {
+        "local" => Ok(CrateOrigin::Local {
+            repo: None,
+            name: None,
+        }),
+        "std" => Ok(CrateOrigin::Lang(LangCrateOrigin::Std)),
+        _ => Err(Fault::Member("text")),
+    }
+}
+
+fn origins_ascend(text: &str, other: &str) -> Result<Value, Fault> {
+    let origin = origin_of(text)?;
+    let other = origin_of(other)?;
+    Ok(Value::from(origin < other))
+}
+
+// Whether an origin is local, a library, or of the language.
+fn origin(alloc: Global, text: &str) -> Result<Value, Fault> {
+    let origin = origin_of(text)?;
+    let (is_local, is_lib, is_lang) = (origin.is_local(), origin.is_lib(), origin.is_lang());
+    Ok(json!(in alloc; [is_local, is_lib, is_lang])?)
+}
+
+fn kind_of(text: &str) -> Result<TargetKind, Fault> {
+    match text {
+        "lib" => Ok(TargetKind::Lib {
+            is_proc_macro: false,
+        }),
+        "proc-macro" => Ok(TargetKind::Lib {
+            is_proc_macro: true,
+        }),
+        "bin" => Ok(TargetKind::Bin),
+        "example" => Ok(TargetKind::Example),
+        "custom-build" => Ok(TargetKind::BuildScript),
+        _ => Err(Fault::Member("text")),
+    }
+}
+
+// Whether a target's kind is executable, whether it is a procedural macro, and cargo's name of it.
+fn kind(alloc: Global, text: &str) -> Result<Value, Fault> {
+    let kind = kind_of(text)?;
+    let cargo = optional_answer(alloc, kind.as_cargo_target())?;
+    let (is_executable, is_proc_macro) = (kind.is_executable(), kind.is_proc_macro());
+    Ok(json!(in alloc; [is_executable, is_proc_macro, cargo])?)
+}
+
+fn channel(alloc: Global, text: &str) -> Result<Value, Fault> {
+    match ReleaseChannel::from_text(text) {
+        Some(channel) => text_answer(alloc, channel.as_str()),
+        None => Ok(Value::Null),
+    }
+}
+
+fn error_of(alloc: Global, text: &str) -> Result<ProcMacroLoadingError, Fault> {
+    match text {
+        "Disabled" => Ok(ProcMacroLoadingError::Disabled),
+        "NotYetBuilt" => Ok(ProcMacroLoadingError::NotYetBuilt),
+        text => {
+            let text = Text::of_str(alloc, text)?;
+            Ok(ProcMacroLoadingError::ProcMacroSrvError(text))
+        }
+    }
+}
+
+// What is printed of an error of a procedural macro, and whether it is a fault.
+fn loading_error(alloc: Global, text: &str) -> Result<Value, Fault> {
+    let error = error_of(alloc, text)?;
+    let printed = format!(in alloc; "{error}")?;
+    let is_hard = error.try_clone(alloc)?.is_hard_error();
+    Ok(json!(in alloc; [printed.as_str(), is_hard])?)
+}
+
+fn toolchain(alloc: Global, version: Option<&str>) -> Result<Option<ToolchainVersion>, Fault> {
+    let Some(text) = version else {
+        return Ok(None);
+    };
+    match semver::Version::parse(alloc, text) {
+        Ok(version) => Ok(Some(ToolchainVersion::new(version))),
+        Err(_) => Err(Fault::Member("version")),
+    }
+}
+
+// Whether the toolchain of a version is 1.87.0 or later. Without a version it is not known.
+fn workspace(alloc: Global, version: Option<&str>) -> Result<Value, Fault> {
+    let toolchain = toolchain(alloc, version)?;
+    let target = Err(TargetLoadError(Text::of_str(alloc, "no rustc")?));
+    let data = CrateWorkspaceData { target, toolchain };
+    if data.try_clone(alloc)? == data {
+        Ok(Value::from(data.is_atleast_187()))
+    } else {
+        Err(Fault::Condition)
+    }
+}

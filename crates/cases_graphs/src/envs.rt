@@ -1,0 +1,86 @@
+//! Environments of crates: variables with their values, in order of their names.
+
+use base_text::TryClone;
+use cases::{Case, Fault, item, items_of, optional_answer, text_of};
+use crate_graph::Env;
+use serde_json::{Value, json};
+use std::alloc::{AllocError, Global};
+
+/// What a call on environments gives.
+pub fn answer(alloc: Global, case: Case<'_>) -> Result<Value, Fault> {
+    match case.text("call")? {
+        "Env::insert" => insertions(alloc, case.list("set")?),
+        "Env" => joined(alloc, case),
+        _ => Err(Fault::Call),
+    }
+}
+
+fn pair(alloc: Global, value: &Value) -> Result<(String, String), Fault> {
+    let pair = items_of(value, "pairs")?;
+    let name = text_of(item(pair, 0, "pairs")?, "pairs")?;
+    let value = text_of(item(pair, 1, "pairs")?, "pairs")?;
+    let name = String::from_str(alloc, name)?;
+    Ok((name, String::from_str(alloc, value)?))
+}
+
+fn pairs(alloc: Global, values: &[Value]) -> Result<Vec<(String, String)>, Fault> {
+    let mut pairs = Vec::new(alloc);
+    for value in values {
+        pairs.push(pair(alloc, value)?)?;
+    }
+    Ok(pairs)
+}
+
+// The value that each insertion finds.
+fn insertions(alloc: Global, values: &[Value]) -> Result<Value, Fault> {
+    let mut env = Env::new(alloc);
+    let mut olds = Vec::new(alloc);
+    for value in values {
+        olds.push(insert(alloc, &mut env, value)?)?;
+    }
+    Ok(Value::Array(olds))
+}
+
+fn insert(alloc: Global, env: &mut Env, value: &Value) -> Result<Value, Fault> {
+    let (name, value) = pair(alloc, value)?;
+    let old = env.insert(name, value)?;
+    optional_answer(alloc, old.as_ref().map(|old| old.as_str()))
+}
+
+fn env_of(alloc: Global, values: &[Value]) -> Result<Env, Fault> {
+    let mut env = Env::new(alloc);
+    let pairs = pairs(alloc, values)?;
+    env.extend(pairs)?;
+    Ok(env)
+}
+
+// An environment that is set, and extended by another: its pairs in order.
+fn joined(alloc: Global, case: Case<'_>) -> Result<Value, Fault> {
+    let mut env = env_of(alloc, case.list("set")?)?;
+    let other = env_of(alloc, case.list("other")?)?;
+    env.extend_from_other(&other)?;
+    if !is_made_again(alloc, &env)? {
+        return Err(Fault::Condition);
+    }
+    pairs_answer(alloc, &env)
+}
+
+// Whether an environment of the same pairs is equal.
+fn is_made_again(alloc: Global, env: &Env) -> Result<bool, AllocError> {
+    let pairs = env.try_clone(alloc)?.into_vec(alloc)?;
+    let is_empty = pairs.is_empty();
+    let mut again = Env::new(alloc);
+    again.extend(pairs)?;
+    Ok(again == *env && env.is_empty() == is_empty)
+}
+
+fn pairs_answer(alloc: Global, env: &Env) -> Result<Value, Fault> {
+    let mut pairs = Vec::new(alloc);
+    for (name, value) in env.iter() {
+        if env.get(name) != Some(value) || !env.contains_key(name) {
+            return Err(Fault::Condition);
+        }
+        pairs.push(json!(in alloc; [name, value])?)?;
+    }
+    Ok(Value::Array(pairs))
+}
