@@ -2,7 +2,8 @@
 
 ghost use Rattle.std.specs.Prelude.{◌≡◌, ◌≤◌, ◌↔◌, IfOk, IsErrOf, IsTrue, map, string_bytes, Some, None};
 ghost use Rattle.live.specs.declared.config.Command.TheVariants.{Run};
-ghost use Rattle.live.specs.Config.{Fits, FitsCommand, FitsGiven, command_of, config_of, nothing_given, number_up_to, once, set_by, with_option, with_options};
+ghost use Rattle.live.specs.Config.{Fits, FitsCommand, FitsGiven, command_of, config_of, nothing_given, number_up_to, once, row_of, set_by};
+ghost use Rattle.live.specs.Config.{split_texts, value_of, with_option, with_options};
 
 use base_text::Limits;
 use std::alloc::Global;
@@ -27,9 +28,11 @@ pub enum Command {
 impl Command {
     /// The command that the words give. Words that are no options give none.
     pub fn of_words(alloc: Global, words: &[String]) -> Result<Command, WordsError>
-        ensures ok { IfOk result (λ command. command_of (map string_bytes words.now) ≡ Some command) }
+        ensures ok { IfOk result (λ command. command_of (map string_bytes words.now)
+            ≡ Some command) }
         ensures fits { IfOk result FitsCommand }
-        ensures usage { IsErrOf result WordsError.Usage → command_of (map string_bytes words.now) ≡ None }
+        ensures usage { IsErrOf result WordsError.Usage
+            → command_of (map string_bytes words.now) ≡ None }
     {
         match LiveConfig::of_words(alloc, words) {
             Ok(config) => Ok(Command::Run(config)),
@@ -59,7 +62,8 @@ impl LiveConfig {
     pub fn of_words(alloc: Global, words: &[String]) -> Result<LiveConfig, WordsError>
         ensures ok { IfOk result (λ config. config_of (map string_bytes words.now) ≡ Some config) }
         ensures fits { IfOk result Fits }
-        ensures usage { IsErrOf result WordsError.Usage → config_of (map string_bytes words.now) ≡ None }
+        ensures usage { IsErrOf result WordsError.Usage
+            → config_of (map string_bytes words.now) ≡ None }
     {
         match read_options(alloc, words) {
             Ok(given) => Ok(given.config()),
@@ -80,7 +84,59 @@ impl LiveConfig {
     }
 }
 
-// The options that were given so far, each at most once.
+// An option of the command line.
+#[derive(Clone, Copy)]
+pub(crate) enum LiveOption {
+    LimitBytes,
+    LimitPaths,
+}
+
+// How an option is given: by its word alone, or with the next word as its value.
+#[derive(Clone, Copy)]
+pub(crate) enum OptionForm {
+    Flag,
+    Valued,
+}
+
+// A row of the table of options.
+#[derive(Clone, Copy)]
+pub(crate) struct OptionRow {
+    option: LiveOption,
+    form: OptionForm,
+}
+
+#[tactic(auto, unfolding(crate::specs::Config::row_of))]
+// The row of a word in the table of options.
+fn row_of(word: &str) -> Option<OptionRow>
+    ensures { result ≡ row_of word.now }
+{
+    match word {
+        "--limit-bytes" => Some(OptionRow {
+            option: LiveOption::LimitBytes,
+            form: OptionForm::Valued,
+        }),
+        "--limit-paths" => Some(OptionRow {
+            option: LiveOption::LimitPaths,
+            form: OptionForm::Valued,
+        }),
+        _ => None,
+    }
+}
+
+// The value of an option, which is empty for a flag, and the words that follow it.
+fn value_of(form: OptionForm, words: &[String]) -> Option<(&str, &[String])>
+    ensures { split_texts result ≡ value_of form (map string_bytes words.now) }
+{
+    match form {
+        OptionForm::Flag => Some(("", words)),
+        OptionForm::Valued => match words.split_first() {
+            Some((value, more)) => Some((value.as_str(), more)),
+            None => None,
+        },
+    }
+}
+
+// The options that were given so far.
 #[derive(Clone, Copy)]
 pub(crate) struct Given {
     bytes: Option<u64>,
@@ -90,7 +146,8 @@ pub(crate) struct Given {
 // Reads the words option by option.
 fn read_options(alloc: Global, words: &[String]) -> Result<Given, WordsError>
     ensures fits { IfOk result FitsGiven }
-    ensures ok { IfOk result (λ given. with_options nothing_given (map string_bytes words.now) ≡ Some given) }
+    ensures ok { IfOk result (λ given. with_options nothing_given (map string_bytes words.now)
+        ≡ Some given) }
     ensures usage { IsErrOf result WordsError.Usage
         → with_options nothing_given (map string_bytes words.now) ≡ None }
 {
@@ -100,10 +157,13 @@ fn read_options(alloc: Global, words: &[String]) -> Result<Given, WordsError>
     };
     let mut left = words;
     while let Some((word, after)) = left.split_first() {
-        let Some((value, more)) = after.split_first() else {
+        let Some(row) = row_of(word) else {
             return Err(WordsError::Usage);
         };
-        match given.with(alloc, word, value) {
+        let Some((value, more)) = value_of(row.form, after) else {
+            return Err(WordsError::Usage);
+        };
+        match given.with(alloc, row.option, value) {
             Ok(more) => given = more,
             Err(error) => return Err(error),
         }
@@ -130,35 +190,33 @@ impl Given {
     }
 
     #[tactic(auto, unfolding(crate::specs::Config::with_option))]
-    // These options and one more.
-    fn with(self, alloc: Global, word: &str, value: &str) -> Result<Given, WordsError>
+    // These options and one more with its value.
+    fn with(self, alloc: Global, option: LiveOption, value: &str) -> Result<Given, WordsError>
         requires { FitsGiven self }
         ensures fits { IfOk result FitsGiven }
-        ensures ok { IfOk result (λ given. with_option self word.now value.now ≡ Some given) }
-        ensures usage { IsErrOf result WordsError.Usage → with_option self word.now value.now ≡ None }
+        ensures ok { IfOk result (λ given. with_option self option value.now ≡ Some given) }
+        ensures usage { IsErrOf result WordsError.Usage → with_option self option value.now ≡ None }
     {
         let greatest = Limits::greatest();
-        match word {
-            "--limit-bytes" => match read_once(alloc, self.bytes.is_some(), greatest.bytes, value) {
-                Ok(bytes) => Ok(Given {
-                    bytes: Some(bytes),
-                    paths: self.paths,
-                }),
-                Err(error) => Err(error),
-            },
-            "--limit-paths" => match read_once(
-                alloc,
-                self.paths.is_some(),
-                greatest.paths.into(),
-                value,
-            ) {
-                Ok(paths) => Ok(Given {
-                    bytes: self.bytes,
-                    paths: Some(paths as u32),
-                }),
-                Err(error) => Err(error),
-            },
-            _ => Err(WordsError::Usage),
+        match option {
+            LiveOption::LimitBytes => {
+                match read_once(alloc, self.bytes.is_some(), greatest.bytes, value) {
+                    Ok(bytes) => Ok(Given {
+                        bytes: Some(bytes),
+                        ..self
+                    }),
+                    Err(error) => Err(error),
+                }
+            }
+            LiveOption::LimitPaths => {
+                match read_once(alloc, self.paths.is_some(), greatest.paths.into(), value) {
+                    Ok(paths) => Ok(Given {
+                        paths: Some(paths as u32),
+                        ..self
+                    }),
+                    Err(error) => Err(error),
+                }
+            }
         }
     }
 }
@@ -167,7 +225,8 @@ impl Given {
 fn read_once(alloc: Global, given: bool, most: u64, text: &str) -> Result<u64, WordsError>
     ensures ok { IfOk result (λ number. once given (number_up_to most text.now) ≡ Some number) }
     ensures most { IfOk result (λ number. number ≤ most) }
-    ensures usage { IsErrOf result WordsError.Usage → once given (number_up_to most text.now) ≡ None }
+    ensures usage { IsErrOf result WordsError.Usage
+        → once given (number_up_to most text.now) ≡ None }
 {
     if given {
         return Err(WordsError::Usage);
