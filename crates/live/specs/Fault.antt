@@ -4,9 +4,11 @@ use Rattle.std.specs.List.{list_any}
 use Rattle.outside.specs.declared.limits.Limit.{Limit}
 use Rattle.outside.specs.declared.limits.Limit.TheVariants.{Bytes, Paths, Packages, Targets, Crates}
 use Rattle.live.specs.declared.lines.LineError.{LineError}
-use Rattle.live.specs.declared.lines.LineError.TheVariants.{ReadFault as ReadFault', TooMany as TooMany', OutOfMemory as OutOfMemory', Ended}
+use Rattle.live.specs.declared.lines.LineError.TheVariants.{ReadFault as ReadFault', TooMany as TooMany', OutOfMemory as OutOfMemory', Ended as Ended'}
 use Rattle.live.specs.declared.fault.LiveError.{LiveError}
 use Rattle.live.specs.declared.fault.LiveError.TheVariants.{OutOfMemory, Usage, ReadFault, WriteFault, Script, TooMany}
+use Rattle.live.specs.declared.fault.StepError.{StepError}
+use Rattle.live.specs.declared.fault.StepError.TheVariants.{Refused, Ended}
 
 -- the exit status
 abbrev pub status_of : LiveError → ℕ
@@ -33,6 +35,11 @@ text_of ReadFault = codes "read fault"
 text_of WriteFault = codes "write fault"
 text_of (Script line) = codes "script line " ++ decimal line
 text_of (TooMany limit) = codes "too many " ++ limit_name limit
+
+-- the text that a step's error prints
+abbrev pub step_error_text : StepError → List ℕ
+step_error_text (Refused error) = codes "Refused"
+step_error_text Ended = codes "Ended"
 
 -- the errors that a session gives, each a refusal of the script: those of status 5 and above
 abbrev pub IsRefusal : LiveError → Type 0
@@ -71,4 +78,4 @@ abbrev pub fault_of : LineError → LiveError
 fault_of ReadFault' = ReadFault
 fault_of TooMany' = TooMany Bytes
 fault_of OutOfMemory' = OutOfMemory
-fault_of Ended = OutOfMemory
+fault_of Ended' = OutOfMemory

@@ -5,30 +5,49 @@ ghost use Rattle.live.specs.Fault.{limit_name, status_of, text_of};
 
 use base_text::Limit;
 use std::alloc::{AllocError, Global};
-use thiserror::Error;
+use std::error::Error;
+use std::fmt;
 
-/// Why a run ended before its input did, or a step was not taken.
-#[derive(Debug, PartialEq, Eq, Drop, Error)]
+/// Why a run ended before its input did, or a step was not taken. It prints as one line for people.
+#[derive(Debug, PartialEq, Eq, Drop)]
 pub enum LiveError {
     /// There was no memory.
-    #[error("OutOfMemory")]
     OutOfMemory,
     /// The words of the command line are no options.
-    #[error("Usage")]
     Usage,
     /// The input could not be read.
-    #[error("ReadFault")]
     ReadFault,
     /// The output could not be written.
-    #[error("WriteFault")]
     WriteFault,
     /// The line of this number, counted from 1 in each run, is no event.
-    #[error("Script")]
     Script(u64),
     /// The next of this kind would pass its limit.
-    #[error("TooMany")]
     TooMany(Limit),
 }
+
+#[tactic(auto, unfolding(crate::specs::Fault::text_of))]
+impl fmt::Display for LiveError {
+    ghost use Rattle.std.specs.Prelude.{Some};
+    ghost use Rattle.live.specs.Fault.{text_of};
+
+    ghost output = { λ error. Some (text_of error) };
+
+    fn fmt<W: fmt::Write>(&self, f: &mut fmt::Formatter<W>) -> fmt::Result {
+        match self {
+            LiveError::OutOfMemory => f.write_str("out of memory"),
+            LiveError::Usage => f.write_str("usage: live [options] or live generate N"),
+            LiveError::ReadFault => f.write_str("read fault"),
+            LiveError::WriteFault => f.write_str("write fault"),
+            LiveError::Script(line) => write!(f, "script line {line}"),
+            LiveError::TooMany(limit) => {
+                let kind = kind_text(*limit);
+                write!(f, "too many {kind}")
+            }
+        }
+    }
+}
+
+impl Error for LiveError {}
 
 impl From<AllocError> for LiveError {
     ghost use Rattle.std.specs.Prelude.{◌≡◌};
@@ -58,15 +77,29 @@ impl LiveError {
 }
 
 /// Why a step was not taken.
-#[derive(Debug, PartialEq, Eq, Drop, Error)]
+#[derive(Debug, PartialEq, Eq, Drop)]
 pub enum StepError {
     /// The event was refused, or memory or the sink did not serve.
-    #[error("Refused")]
     Refused(LiveError),
     /// An earlier flush was refused.
-    #[error("Ended")]
     Ended,
 }
+
+impl fmt::Display for StepError {
+    ghost use Rattle.std.specs.Prelude.{Some};
+    ghost use Rattle.live.specs.Fault.{step_error_text};
+
+    ghost output = { λ error. Some (step_error_text error) };
+
+    fn fmt<W: fmt::Write>(&self, f: &mut fmt::Formatter<W>) -> fmt::Result {
+        match self {
+            StepError::Refused(_) => f.write_str("Refused"),
+            StepError::Ended => f.write_str("Ended"),
+        }
+    }
+}
+
+impl Error for StepError {}
 
 // The name of what there is too much of.
 fn kind_text(limit: Limit) -> &'static str
@@ -81,20 +114,9 @@ fn kind_text(limit: Limit) -> &'static str
     }
 }
 
-#[tactic(auto, unfolding(crate::specs::Fault::text_of))]
 /// One line of text for people, without a newline.
 pub fn fault_text(alloc: Global, error: &LiveError) -> Result<String, AllocError>
     ensures { IfOk result (λ text. string_bytes text ≡ text_of error.now) }
 {
-    match error {
-        LiveError::OutOfMemory => String::from_str(alloc, "out of memory"),
-        LiveError::Usage => String::from_str(alloc, "usage: live [options] or live generate N"),
-        LiveError::ReadFault => String::from_str(alloc, "read fault"),
-        LiveError::WriteFault => String::from_str(alloc, "write fault"),
-        LiveError::Script(line) => format!(in alloc; "script line {line}"),
-        LiveError::TooMany(limit) => {
-            let kind = kind_text(*limit);
-            format!(in alloc; "too many {kind}")
-        }
-    }
+    error.to_string(alloc)
 }
