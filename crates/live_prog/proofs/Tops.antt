@@ -11,7 +11,7 @@ use Rattle.live.proofs.Outcomes.{AppendsFront-nil}
 use Rattle.live_prog.specs.Top.{FailsTop}
 
 -- a call on a session that holds the first state
-pub fails_new : (words : List (List ℕ)) (status : ℕ) (live live' : Live) (left old new told told' : Option (List ℕ)) → Holds live first_state
+pub fails_new : (words : List (String Global)) (status : ℕ) (live live' : Live) (left old new told told' : Option (List ℕ)) → Holds live first_state
     → FailsAs words status (live, live') left ((old, new), (told, told')) → FailsTop words status left ((old, new), (told, told'))
 fails_new words status live live' left old new told told' h fails = record {
   error = fails.error;
@@ -23,7 +23,7 @@ fails_new words status live live' left old new told told' h fails = record {
 }
 
 -- no memory for a session: nothing was touched
-pub memory_top : (words : List (List ℕ)) (status : ℕ) (left held told : Option (List ℕ)) → status ≡ 1 → FailsTop words status left ((held, held), (told, told))
+pub memory_top : (words : List (String Global)) (status : ℕ) (left held told : Option (List ℕ)) → status ≡ 1 → FailsTop words status left ((held, held), (told, told))
 memory_top words status left held told is = record {
   error = OutOfMemory;
   told = sym is;

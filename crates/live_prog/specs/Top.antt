@@ -1,5 +1,6 @@
 -- What the program did, from the state of a new session.
-use Rattle.std.specs.Prelude.{◌≡◌, ℕ, List, [], ◌∷◌, Option, Some}
+use Rattle.std.specs.Prelude.{◌≡◌, ℕ, List, [], ◌∷◌, Option, Some, String}
+use Rattle.std.specs.declared.alloc.Global.{Global}
 use Rattle.live.specs.declared.fault.LiveError.{LiveError}
 use Rattle.live.specs.declared.session.Live.{Live}
 use Rattle.live.specs.Cli.{FinishesAs, state_for}
@@ -19,7 +20,7 @@ pub record FailsNew (o : Outcome) (error : LiveError) (held : Told) : Type 0 whe
   pub refused : IsRefusal error → (live : Live) × Stops o error live held
 
 -- the program failed with an error of this status, of whose text and a newline a front was appended to the second output
-pub record FailsTop (words : List (List ℕ)) (status : ℕ) (left : Option (List ℕ)) (outputs : Told × Told) : Type 0 where
+pub record FailsTop (words : List (String Global)) (status : ℕ) (left : Option (List ℕ)) (outputs : Told × Told) : Type 0 where
   pub error : LiveError
   pub told : status_of error ≡ status
   pub text : AppendsFront outputs.1 (text_of error ∷ (10 ∷ []) ∷ [])

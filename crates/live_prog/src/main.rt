@@ -4,11 +4,15 @@
 mod streams;
 mod top;
 
+ghost use Rattle.std.specs.IoError.{error_kind};
+ghost use Rattle.std.specs.Prelude.{◌≡◌};
+
 use crate::streams::{ReaderSource, WriterSink};
 use crate::top::live_top;
 use live::{LiveError, tell};
+use std::env;
+use std::io::{self, ErrorKind};
 use std::process::ExitCode;
-use std::{env, io};
 
 fn main(rt: HostRuntime) -> ExitCode {
     let mut err = WriterSink::new(rt.stderr());
@@ -30,11 +34,13 @@ fn main(rt: HostRuntime) -> ExitCode {
     ExitCode::from(status)
 }
 
-// Words that the system does not give: for want of memory, or as one of them is not UTF-8.
-fn refused_words(error: &io::Error) -> LiveError {
-    if error.kind() == io::ErrorKind::OutOfMemory {
-        LiveError::OutOfMemory
-    } else {
-        LiveError::Usage
+// Why the system gave no words: out of memory, or else they are wrong, as where one of them is not UTF-8.
+fn refused_words(error: &io::Error) -> LiveError
+    ensures memory { error_kind error.now ≡ ErrorKind.OutOfMemory → result ≡ LiveError.OutOfMemory }
+    ensures usage { ¬ (error_kind error.now ≡ ErrorKind.OutOfMemory) → result ≡ LiveError.Usage }
+{
+    match error.kind() {
+        ErrorKind::OutOfMemory => LiveError::OutOfMemory,
+        _ => LiveError::Usage,
     }
 }

@@ -82,7 +82,8 @@ impl<W: Write> ByteSink for WriterSink<W> {
 // One write, and a flush after it. What it answers was written, where the writer tells its bytes.
 fn write_through<W: Write>(writer: &mut W, piece: &[u8]) -> Result<usize, SinkError>
     ensures bound { WritesAtMost result piece.now }
-    ensures taken { IfOk result (λ count. Appends (W.contents writer.old) (W.contents writer.new) (take count piece.now)) }
+    ensures taken { IfOk result (λ count.
+        Appends (W.contents writer.old) (W.contents writer.new) (take count piece.now)) }
 {
     match writer.write(piece) {
         Ok(count) => match writer.flush() {

@@ -1,6 +1,6 @@
 //! The program as one call over any source and sinks.
 
-ghost use Rattle.std.specs.Prelude.{◌≡◌, ℕ, List};
+ghost use Rattle.std.specs.Prelude.{◌≡◌, ℕ, List, Some};
 ghost use Rattle.live.specs.Cli.{CompletesAs, TakesFor, UsageExactly, state_for, texts_of};
 ghost use Rattle.live.specs.Config.{command_of};
 ghost use Rattle.live.specs.Fault.{all_statuses};
@@ -21,18 +21,18 @@ pub fn live_top<S: ByteSource, K: ByteSink, E: ByteSink>(
     out: &mut K,
     err: &mut E,
 ) -> u8
-    ensures ok { result ≡ 0 → FinishesTop (state_for (texts_of words.now) first_state)
+    ensures ok { result ≡ 0 → FinishesTop (state_for words.now first_state)
         (S.left input.old, S.left input.new) (K.held out.old, K.held out.new) }
-    ensures err { ¬ (result ≡ 0) → FailsTop (texts_of words.now) result
+    ensures err { ¬ (result ≡ 0) → FailsTop words.now result
         (S.left input.old) ((K.held out.old, K.held out.new), (E.held err.old, E.held err.new)) }
     ensures cause { HasCause all_statuses result
         (S.faults input.old, S.faults input.new) (K.faults out.old, K.faults out.new) }
     ensures usage { UsageExactly (command_of (texts_of words.now)) result
         ((input.new ≡ input.old) × (out.new ≡ out.old)) }
-    ensures taken { TakesFor (texts_of words.now) (S.left input.old, S.left input.new) }
-    ensures complete { (all : List ℕ)
-        → IsFaultless (S.left input.old) all (S.faults input.old, S.faults input.new) (K.faults out.old, K.faults out.new)
-        → CompletesAs (state_for (texts_of words.now) first_state) all result }
+    ensures taken { TakesFor words.now (S.left input.old, S.left input.new) }
+    ensures complete { (all : List ℕ) → S.left input.old ≡ Some all
+        → IsFaultless (S.faults input.old, S.faults input.new) (K.faults out.old, K.faults out.new)
+        → CompletesAs (state_for words.now first_state) all result }
 {
     match Live::new(alloc) {
         Ok(mut live) => live_cli(alloc, words, &mut live, input, out, err),

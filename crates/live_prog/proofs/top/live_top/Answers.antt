@@ -27,4 +27,4 @@ pub returns-in-Err-clause-err : goal.returns-in-Err-clause-err
 returns-in-Err-clause-err g c = λ _. memory_top _ _ _ _ _ c.status.ensures
 
 pub returns-in-Err-clause-complete : goal.returns-in-Err-clause-complete
-returns-in-Err-clause-complete g c = λ all faultless. memory_completes _ all _ c.status.ensures
+returns-in-Err-clause-complete g c = λ all known faultless. memory_completes _ all _ c.status.ensures
