@@ -1,5 +1,5 @@
 -- Which bytes decide a session: what was refused within the limit stays refused, and more bytes only add pages.
-use Rattle.std.proofs.Common.{◌≡◌, ℕ, ◌+◌, ◌-◌, ◌<◌, ◌≤◌, true, false, List, ◌++◌, Option, Some, length, take, nat_le, refl, sym, ap, subst, ◌∙◌, append_assoc, length-append, length-take, length-drop, drop, take-append-drop, arith, unwrap_or}
+use Rattle.std.proofs.Common.{◌≡◌, ℕ, ◌+◌, ◌-◌, ◌<◌, ◌≤◌, true, false, List, ◌++◌, Option, Some, length, take, nat_le, refl, sym, ap, subst, ◌∙◌, length-append, arith, unwrap_or}
 use Rattle.std.proofs.lemmas.Bool.Decides.{nat_tests}
 use Rattle.std.proofs.Math.Seq.{take-append-add, take-append_seam}
 use Rattle.outside.specs.declared.limits.Limit.TheVariants.{Bytes}
@@ -10,7 +10,7 @@ use Rattle.live.specs.Lines.{script_lines, whole_lines, unfinished, last_line}
 use Rattle.live.specs.Run.{Ran, Stops}
 use Rattle.live.specs.Session.{State, Outcome, refused_by, session, turns}
 use Rattle.live.specs.Written.{AppendsFront}
-use Rattle.live.proofs.Outcomes.{turns-refused, pages-append, AppendsFront-all, AppendsFront-longer}
+use Rattle.live.proofs.Outcomes.{turns-refused, pages-append, AppendsFront-longer}
 use Rattle.live.proofs.Cuts.{whole_lines-append}
 
 -- bytes behind a refusal change nothing

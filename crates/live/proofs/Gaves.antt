@@ -1,11 +1,9 @@
 -- What a line, a read and the end do to what a reader gave.
 use Rattle.std.proofs.Common.{◌≡◌, ℕ, ◌+◌, ◌-◌, ◌^◌, ◌<◌, ◌≤◌, Bool, true, false, List, [], ◌∷◌, ◌++◌, ◌==◌, ◌||◌, Option, Some, None, Result, Ok, Err, Vec, true≢false, length, take, drop, refl, sym, ap, subst, ◌∙◌, append_assoc, append-nil, length-append, length-take, length-drop, take-append-drop, arith, nat_lt}
-use Rattle.std.proofs.lemmas.Grind.{common_steps}
 use Rattle.std.proofs.lemmas.Bool.Decides.{nat_tests}
-use Rattle.std.specs.Io.KnownBytes.{Consumes, IsAtEnd}
+use Rattle.std.specs.Io.KnownBytes.{Consumes}
 use Rattle.std.proofs.KnownBytes.{Consumes-nil, Consumes-trans}
 use Rattle.live.specs.Lines.{newline, has_newline, whole_lines, unfinished, script_lines, last_line}
-use Rattle.std.specs.List.{list_any}
 use Rattle.std.proofs.lemmas.List.Folds.{list_any-append}
 use Rattle.live.specs.Pieces.{Moves, Reads, rest_of}
 use Rattle.live.specs.Reader.{Reader, Gave, IsPast, IsCut, IsSpent, Tells, TooManyExactly, bytes_ahead, fresh, lines_after}

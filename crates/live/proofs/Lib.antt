@@ -4,6 +4,8 @@ pub mod Existing
 pub mod Gaves
 pub mod Parts
 pub mod TextRows
+pub mod SharedRows
+pub mod BothChanges
 pub mod Numbers
 pub mod Options
 pub mod Outcomes

@@ -1,9 +1,8 @@
 -- How a line is taken from a piece, and what a read makes of it.
-use Rattle.std.proofs.Common.{◌≡◌, ℕ, ◌+◌, ◌-◌, ◌<◌, ◌≤◌, true, false, min, List, [], ◌∷◌, ◌++◌, Option, length, take, drop, get_or, refl, sym, ap, subst, ◌∙◌, length-take, take-append-drop, drop-cons, add-one, arith}
+use Rattle.std.proofs.Common.{◌≡◌, ℕ, ◌+◌, ◌-◌, ◌<◌, ◌≤◌, true, min, List, ◌∷◌, ◌++◌, Option, length, take, drop, get_or, sym, ap, ◌∙◌, length-take, take-append-drop, drop-cons, add-one, arith}
 use Rattle.std.proofs.lemmas.List.{drop-take, drop-drop, take_min, take-append-le}
 use Rattle.std.specs.List.{slice_range}
 use Rattle.std.specs.Io.KnownBytes.{Consumes, IsAtEnd}
-use Rattle.live.specs.Lines.{newline}
 use Rattle.live.specs.Pieces.{IsFirstNewline, Moves, Reads}
 
 -- a part of a list behind one of its places

@@ -79,12 +79,17 @@ taken-fit files roots [] = refl
 taken-fit files roots (entry ∷ rest) = fit-split files roots entry rest (fits_file files roots entry.0) refl (taken-fit files roots rest)
 
 -- so the whole change fits
-pub taken_fits : (files : Held) (change : FileChange) (roots : List SourceRoot) (batch : List (ℕ × ChangedFile))
-    → change.roots ≡ Some roots → change.files_changed ≡ changes_taken files roots batch → fits files change ≡ true
-taken_fits files change roots batch given taken =
-    ap (λ r. list_all (λ changed. fits_file files (unwrap_or r []) changed.0) change.files_changed) given
-    ∙ ap (list_all (λ (changed : ℕ × Option (List ℕ)). fits_file files roots changed.0)) taken
-    ∙ taken-fit files roots batch
+pub taken_fits : (files : Held) (change : FileChange) (batch : List (ℕ × ChangedFile))
+    → change.roots ≡ None → change.files_changed ≡ changes_taken files [] batch → fits files change ≡ true
+taken_fits files change batch none taken =
+    ap (λ r. list_all (λ changed. fits_file files (unwrap_or r []) changed.0) change.files_changed) none
+    ∙ ap (list_all (λ (changed : ℕ × Option (List ℕ)). fits_file files [] changed.0)) taken
+    ∙ taken-fit files [] batch
+
+-- and so does one of no files
+pub none_fits : (files : Held) (change : FileChange) → change.files_changed ≡ [] → fits files change ≡ true
+none_fits files change none =
+    ap (list_all (λ (changed : ℕ × Option (List ℕ)). fits_file files (unwrap_or change.roots []) changed.0)) none
 
 -- and its roots are few
 pub few_roots : (files : Files) (parts : List sets.FileSetContent) (roots : Option (List SourceRoot)) → IsPartition [] (existing_files files) parts

@@ -5,28 +5,24 @@ use Rattle.std.specs.Option.{is_some}
 use Rattle.std.proofs.lemmas.Bool.Decides.{nat_tests}
 use Rattle.std.proofs.lemmas.Map.Made.{is_some-lookup}
 use Rattle.std.proofs.lemmas.Grind.{common_steps}
-use Rattle.vfs_core.specs.Files.{Files, Follows, IsFullFor, entry_state, kind_of, no_files}
+use Rattle.vfs_core.specs.Files.{Files, Follows, IsFullFor, entry_state, no_files}
 use Rattle.vfs_core.specs.VfsPath.{PathContent, vfs_path_eq}
 use Rattle.vfs_core.specs.declared.marks.Mark.{Mark}
 use Rattle.vfs_core.specs.declared.marks.MarkKind.{MarkKind}
-use Rattle.vfs_core.specs.declared.marks.MarkKind.TheVariants.{Out}
 use Rattle.vfs_core.specs.Marks.{text_of_kinds, kept_text, mentioned_paths}
 use Rattle.std.specs.Str.{is_utf8}
 use Rattle.vfs_core.specs.Texts.{BringsTo, all_pass}
 use Rattle.outside.specs.Sink.{Appends-nil}
 use Rattle.live.specs.declared.session.Live.{Live}
-use Rattle.live.specs.declared.event.Event.TheVariants.{Exclude, File}
 use Rattle.live.specs.declared.fault.LiveError.{LiveError}
-use Rattle.live.specs.declared.fault.LiveError.TheVariants.{OutOfMemory, TooMany, WriteFault}
+use Rattle.live.specs.declared.fault.LiveError.TheVariants.{OutOfMemory, TooMany}
 use Rattle.outside.specs.declared.limits.Limit.TheVariants.{Paths}
-use Rattle.live.specs.Session.{State, has_room, marked, turn}
+use Rattle.live.specs.Session.{State, has_room, marked}
 use Rattle.live.specs.Config.{greatest}
-use Rattle.live.specs.Fault.{IsRefusal, turn_statuses}
+use Rattle.live.specs.Fault.{IsRefusal}
 use Rattle.live.specs.Image.{ShowsFlush}
-use Rattle.live.specs.LiveTexts.{KeepsTexts}
 use Rattle.live.specs.Marked.{AddsMarkTo}
-use Rattle.live.specs.Turn.{EndsTurn, FailsTurn, HasEnded, Holds, IsCurrent, RefusesTurn, TakesTurn, first_state, texts_known}
-use Rattle.live.specs.Written.{AppendsFront}
+use Rattle.live.specs.Turn.{EndsTurn, Holds, RefusesTurn, TakesTurn, first_state, texts_known}
 use Rattle.live.proofs.Outcomes.{AppendsFront-nil}
 
 -- the paths of the marks are those of the files

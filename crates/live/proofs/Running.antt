@@ -1,11 +1,11 @@
 -- What a run keeps between two lines, and what follows from it at each of its ends.
-use Rattle.std.proofs.Common.{◌≡◌, ℕ, ◌+◌, ◌-◌, ◌^◌, ◌<◌, ◌≤◌, Bool, true, false, List, [], ◌∷◌, ◌++◌, Option, Some, None, Err, length, take, refl, sym, ap, subst, ◌∙◌, append_assoc, append-nil, length-append, inl, inr, arith}
-use Rattle.std.specs.Io.KnownBytes.{Consumes, IsAtEnd}
+use Rattle.std.proofs.Common.{◌≡◌, ℕ, ◌+◌, ◌^◌, ◌<◌, ◌≤◌, Bool, true, false, List, [], ◌∷◌, ◌++◌, Option, Some, None, Err, length, refl, sym, ap, subst, ◌∙◌, append_assoc, append-nil, length-append, inl, inr, arith}
+use Rattle.std.specs.Io.KnownBytes.{Consumes}
 use Rattle.outside.specs.Causes.{Rose, Rose-after}
 use Rattle.outside.specs.Source.{Knows-after, Knows-all}
 use Rattle.outside.specs.Sink.{Appends-nil}
 use Rattle.outside.specs.declared.limits.Limit.TheVariants.{Bytes}
-use Rattle.live.specs.Lines.{has_newline, script_lines, unfinished, whole_lines}
+use Rattle.live.specs.Lines.{has_newline, unfinished, whole_lines}
 use Rattle.live.specs.Reader.{Gave, IsCut, IsPast, Reader, Tells, bytes_ahead, fresh}
 use Rattle.live.specs.declared.lines.LineError.{LineError}
 use Rattle.live.specs.declared.lines.LineError.TheVariants.{ReadFault as ReadFault', TooMany as TooMany', OutOfMemory as OutOfMemory', Ended}
@@ -17,8 +17,8 @@ use Rattle.live.specs.Event.{event}
 use Rattle.live.specs.Fault.{IsOneOf, IsRefusal, fault_of, line_statuses, run_statuses, status_of}
 use Rattle.live.specs.Run.{Completes, Fails, Finishes, HasCause, Ran, Stops, TakesAtMost}
 use Rattle.live.specs.Session.{State, Outcome, session, turn_of, turns}
-use Rattle.live.specs.Turn.{FailsTurn, Holds, TakesTurn, RefusesTurn}
-use Rattle.live.specs.Written.{AppendsFront, AppendsPages, HasWriteCause}
+use Rattle.live.specs.Turn.{FailsTurn, Holds, TakesTurn}
+use Rattle.live.specs.Written.{AppendsFront, HasWriteCause}
 use Rattle.live.proofs.Outcomes.{AppendsFront-all, Front-line, Ran-line, Stops-line, turns-next, turns-nil}
 use Rattle.live.proofs.Deciding.{Front-session, Ran-within, Stops-limit, Stops-session, session-within}
 

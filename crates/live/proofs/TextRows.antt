@@ -1,5 +1,5 @@
 -- What one more mark makes of the rows of texts, and which files the rows keep.
-use Rattle.std.proofs.Common.{◌≡◌, ℕ, suc, ◌+◌, ◌<◌, ◌≤◌, Bool, true, false, cond, not, ◌||◌, List, [], ◌∷◌, ◌++◌, Option, Some, None, is_some, refl, sym, ◌∙◌, ap, subst, arith, map, set, length, position, nat_lt, nat_eq, eqb, true≢false, if◌then◌else◌}
+use Rattle.std.proofs.Common.{◌≡◌, ℕ, suc, ◌+◌, ◌<◌, ◌≤◌, Bool, true, false, cond, not, ◌||◌, List, [], ◌∷◌, ◌++◌, Option, Some, None, is_some, refl, sym, ◌∙◌, ap, subst, arith, map, set, length, position, nat_lt, nat_eq, true≢false, if◌then◌else◌}
 use Rattle.std.proofs.lemmas.Bool.Decides.{nat_tests}
 use Rattle.std.proofs.lemmas.List.{map-append}
 use Rattle.std.specs.List.{AllByRecursion, cons_option, IsDistinct, filter_map, list_any, position_or_len}
@@ -7,16 +7,11 @@ use Rattle.std.specs.Option.{option_map, unwrap_or}
 use Rattle.std.specs.Map.{keys_of, lookup}
 use Rattle.vfs_core.specs.declared.changed_file.Change.TheVariants.{Modify}
 use Rattle.vfs_core.specs.declared.file_state.FileState.{FileState}
-use Rattle.vfs_core.specs.declared.file_state.FileState.TheVariants.{Exists, Deleted, Excluded}
+use Rattle.vfs_core.specs.declared.file_state.FileState.TheVariants.{Deleted, Excluded}
 use Rattle.vfs_core.specs.declared.marks.Mark.{Mark}
 use Rattle.vfs_core.specs.declared.marks.MarkKind.{MarkKind}
-use Rattle.vfs_core.specs.declared.marks.MarkKind.TheVariants.{Text, Gone, Out}
+use Rattle.vfs_core.specs.declared.marks.MarkKind.TheVariants.{Out}
 use Rattle.vfs_core.specs.FileState.{is_change, state_of}
-use Rattle.std.specs.Prelude.{Result, Ok, Err, OnOk, String, string_bytes}
-use Rattle.std.specs.declared.alloc.Global.{Global}
-use Rattle.std.proofs.lemmas.Str.{IsUtf8-string_bytes, is_utf8-from_IsUtf8}
-use Rattle.std.specs.Str.{is_utf8}
-use Rattle.vfs_core.specs.Texts.{all_pass, contents_pass}
 use Rattle.vfs_core.specs.Files.{Files, Follows, is_change_at, kind_of, number_of, paths_of, state_at}
 use Rattle.vfs_core.specs.Hash.{content_hash}
 use Rattle.vfs_core.specs.Marks.{is_out, kept_text, live_files, live_text_after, live_text, mentioned_paths, merged_text, same_hash, with_path}
@@ -25,7 +20,7 @@ use Rattle.vfs_core.specs.VfsPath.{PathContent, vfs_path_eq}
 use Rattle.vfs_core.proofs.FileLemmas.{position-in}
 use Rattle.live.proofs.Existing.{mentioned_paths-distinct}
 use Rattle.vfs_core.proofs.MarkLemmas.{live_text_mark}
-use Rattle.live.specs.LiveTexts.{AddsMark, KeepsTexts, TakesContents, TakesExclusion, files_kept, rows_of, with_text}
+use Rattle.live.specs.LiveTexts.{KeepsTexts, files_kept, rows_of, with_text}
 
 -- one row more
 kept_cons : (place : PathContent) (places : List PathContent) (text : Option (List ℕ)) (rows : List (Option (List ℕ))) (kept : List (PathContent × List ℕ)) → files_kept places rows ≡ kept
@@ -259,49 +254,3 @@ KeepsTexts_out old new rows path marks keeps follows =
 pub files_kept-live : (files : Files) (rows : List (Option (List ℕ))) (marks : List Mark) (more : List PathContent) → KeepsTexts files rows marks → files_kept (paths_of files ++ more) rows ≡ live_files marks
 files_kept-live files rows marks more keeps =
     ap (λ r. files_kept (paths_of files ++ more) r) keeps.texts ∙ ap (λ ps. files_kept (ps ++ more) (rows_of marks)) keeps.follows.numbers ∙ kept_live marks more
-
-module _ (old new : Files) (rows after : List (Option (List ℕ))) (path : PathContent) where
-  -- a text, or none, that came for a path, by what was done to the files and to the rows
-  pub put_adds : (text bytes shared : Option (List ℕ)) → bytes ≡ text → shared ≡ text
-      → after ≡ with_text rows (number_of old path) (is_change_at old path bytes) shared → TakesContents old new path bytes
-      → contents_pass is_utf8 bytes ≡ true → AddsMark old new rows after (record { path = path; kind = kind_of text })
-  put_adds text bytes shared same_bytes same_text rows_are takes valid =
-      let is : after ≡ with_text rows (number_of old path) (is_change_at old path text) text =
-      rows_are ∙ ap (λ t. with_text rows (number_of old path) (is_change_at old path t) shared) same_bytes
-      ∙ ap (λ t. with_text rows (number_of old path) (is_change_at old path text) t) same_text in
-      let takes_text : TakesContents old new path text = subst (TakesContents old new path) same_bytes takes in
-      record {
-        limit = takes.limit;
-        keeps = λ marks keeps.
-            subst (λ r. KeepsTexts new r (record { path = path; kind = kind_of text } ∷ marks)) (sym is)
-            (KeepsTexts_put old new rows path text marks keeps (takes_text.follows marks keeps.follows));
-        brings = takes_text.brings;
-        texts = takes.passing.each is_utf8 valid;
-      }
-
-  -- a path that was left out
-  pub exclude_adds : after ≡ with_text rows (number_of old path) true None → TakesExclusion old new path
-      → AddsMark old new rows after (record { path = path; kind = Out })
-  exclude_adds rows_are takes = record {
-    limit = takes.limit;
-    keeps = λ marks keeps.
-        subst (λ r. KeepsTexts new r (record { path = path; kind = Out } ∷ marks)) (sym rows_are)
-        (KeepsTexts_out old new rows path marks keeps (takes.follows marks keeps.follows));
-    brings = λ known marks follows before. takes.brings known marks before;
-    texts = λ all. ap (all_pass is_utf8) takes.batch ∙ all;
-  }
-
--- what is said of two clauses of one result
-pub on_ok_both : {T E A B C : Type 0} (r : Result T E) → OnOk r A → OnOk r B → (A → B → C) → OnOk r C
-on_ok_both (Ok x) a b f = f a b
-on_ok_both (Err e) a b f = tt
-
--- rows that were shared are those that were written
-pub AddsMark-shared : (old new : Files) (rows before after kept : List (Option (List ℕ))) (mark : Mark) → before ≡ rows → kept ≡ after
-    → AddsMark old new before after mark → AddsMark old new rows kept mark
-AddsMark-shared old new rows before after kept mark same held adds =
-    subst (λ r. AddsMark old new r kept mark) same (subst (λ r. AddsMark old new before r mark) (sym held) adds)
-
--- the bytes of a text are one
-pub valid_text : (text : String Global) → is_utf8 (string_bytes text) ≡ true
-valid_text text = is_utf8-from_IsUtf8 (string_bytes text) (IsUtf8-string_bytes text)

@@ -1,13 +1,13 @@
 -- One event: a mark that is taken or refused, or a flush.
-use Rattle.std.proofs.Common.{◌≡◌, ℕ, ◌≤◌, true, false, List, [], ◌∷◌, Option, Some, Result, Ok, Err, inl, inr, ◌⊎◌, refl, sym, ap, subst, arith}
+use Rattle.std.proofs.Common.{◌≡◌, ℕ, List, Option, Some, Result, Ok, Err, inl, inr, ◌⊎◌, refl, sym, ap, subst, arith}
 use Rattle.std.specs.Prelude.{IfErr, IsErrOf, OnErr, OnOk, is_err}
-use Rattle.outside.specs.Causes.{Rose}
-use Rattle.outside.specs.declared.limits.Limit.{Limit}
 use Rattle.outside.specs.declared.limits.Limit.TheVariants.{Paths}
 use Rattle.vfs_core.specs.Files.{IsFullFor}
 use Rattle.vfs_core.specs.VfsPath.{PathContent}
 use Rattle.vfs_core.specs.declared.marks.Mark.{Mark}
 use Rattle.vfs_core.specs.declared.marks.MarkKind.{MarkKind}
+use Rattle.vfs_sets.specs.Probes.{RaisesAtMost}
+use Rattle.input_db.specs.Database.{Database}
 use Rattle.live.specs.declared.event.Event.{Event}
 use Rattle.live.specs.declared.event.Event.TheVariants.{Flush}
 use Rattle.live.specs.declared.fault.LiveError.{LiveError}
@@ -15,6 +15,7 @@ use Rattle.live.specs.declared.fault.LiveError.TheVariants.{OutOfMemory, Usage, 
 use Rattle.live.specs.declared.session.Live.{Live}
 use Rattle.live.specs.Fault.{IsOneOf, flush_statuses, line_statuses, status_of, turn_statuses}
 use Rattle.live.specs.Marked.{AddsMarkTo}
+use Rattle.live.specs.Refresh.{KeepsCrates}
 use Rattle.live.specs.Session.{State, Turn, ended_state, flush_turn, marked, state_after_failure, turn, turn_of}
 use Rattle.live.specs.Turn.{EndsTurn, FailsTurn, Holds, LeavesAsWas, TakesTurn}
 use Rattle.live.specs.Written.{HasWriteCause}
@@ -64,6 +65,19 @@ pub marks_cause : (result : Result (Unit {0}) LiveError) (count : ℕ) → IfErr
 marks_cause (Ok done) count only = record { later = omega arith; only = tt; write = λ e. absurd (cc); paths = λ limit e. absurd (cc) }
 marks_cause (Err error) count only = mark_cause error count only
 
+-- a count that is as it was
+pub no_probes : (most count : ℕ) → RaisesAtMost most count count
+no_probes most count = record { steps = 0; within = omega arith; raised = refl }
+
+-- a database that is as it was has its crates
+crates_same : (old new : Database) → new ≡ old → KeepsCrates old new
+crates_same old new same = record {
+  crates = ap (λ d. d.crates) same;
+  listed = ap (λ d. d.listed) same;
+  durability = ap (λ d. d.listed_durability) same;
+  writes = ap (λ d. d.writes) same;
+}
+
 -- and what it leaves as it was
 pub marks_leave : (live live' : Live) (mark : Mark) (result : Result (Unit {0}) LiveError) (event : Event) → (event ≡ Flush → ⊥)
     → OnOk result (AddsMarkTo live live' mark) → OnErr result (live' ≡ live) → LeavesAsWas event (is_err result) live live'
@@ -71,6 +85,10 @@ marks_leave live live' mark (Ok done) event other adds same = record {
   config = adds.config;
   database = λ _. adds.db;
   all = λ e. absurd (cc);
+  crates = λ _. crates_same live.db live'.db adds.db;
+  probes = λ _. adds.probes;
+  counts = λ e. absurd (other e);
+  placed = λ _ e. absurd (other e);
   going = λ _. adds.ended;
   ends = λ e. absurd (cc);
 }
@@ -78,6 +96,10 @@ marks_leave live live' mark (Err error) event other adds same = record {
   config = ap (λ l. l.config) same;
   database = λ _. ap (λ l. l.db) same;
   all = λ _ _. same;
+  crates = λ e. absurd (cc);
+  probes = λ _. ap (λ l. l.probes) same;
+  counts = λ e. absurd (other e);
+  placed = λ e _. absurd (cc);
   going = λ e. absurd (cc);
   ends = λ _ e. absurd (other e);
 }

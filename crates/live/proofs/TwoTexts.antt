@@ -1,6 +1,6 @@
 -- The session of a text that another follows: its lines are those of both, and the outcome of more lines stands on that of the first.
-use Rattle.std.proofs.Common.{◌≡◌, ℕ, ◌+◌, ◌<◌, ◌≤◌, Bool, true, false, cond, List, [], ◌∷◌, ◌++◌, ◌==◌, Option, Some, None, length, refl, sym, ap, subst, ◌∙◌, append_assoc, append-nil, length-append, add-zero, arith, if◌then◌else◌}
-use Rattle.std.specs.List.{fold, onto_first, slice_split}
+use Rattle.std.proofs.Common.{◌≡◌, ℕ, ◌+◌, Bool, true, false, cond, List, [], ◌∷◌, ◌++◌, ◌==◌, Option, Some, None, length, refl, sym, ap, subst, ◌∙◌, append_assoc, append-nil, length-append, add-zero, arith}
+use Rattle.std.specs.List.{fold, onto_first}
 use Rattle.std.specs.Option.{option_map}
 use Rattle.std.proofs.lemmas.List.Sums.{fold-append}
 use Rattle.vfs_core.specs.VfsPath.{PathContent}
@@ -9,11 +9,10 @@ use Rattle.live.specs.declared.config.LiveConfig.{LiveConfig}
 use Rattle.live.specs.declared.event.Event.{Event}
 use Rattle.live.specs.declared.event.Event.TheVariants.{Exclude, File, Flush}
 use Rattle.live.specs.declared.fault.LiveError.{LiveError}
-use Rattle.live.specs.declared.fault.LiveError.TheVariants.{Script, TooMany}
 use Rattle.live.specs.Event.{event}
-use Rattle.live.specs.Laws.{AreJoinable, IsJoined, SessionsJoin, counted_on}
+use Rattle.live.specs.Laws.{IsJoined, SessionsJoin, counted_on}
 use Rattle.live.specs.Lines.{final, front, last_line, newline, pieces, script_lines, unfinished, whole_lines}
-use Rattle.live.specs.Session.{Outcome, State, has_room, marked, session, start, take_line, take_line_after, then_turn, turn, turn_of, turns}
+use Rattle.live.specs.Session.{Outcome, State, has_room, marked, session, start, take_line, take_line_after, turn, turn_of, turns}
 use Rattle.live.proofs.Cuts.{parts_of}
 use Rattle.live.proofs.Deciding.{session-within}
 

@@ -6,14 +6,15 @@ use Rattle.live.specs.declared.session.Live.{Live}
 use Rattle.live.specs.declared.config.LiveConfig.{LiveConfig}
 use Rattle.live.specs.declared.fault.LiveError.{LiveError}
 use Rattle.live.specs.declared.fault.LiveError.TheVariants.{OutOfMemory, Usage, ReadFault, WriteFault, Script, TooMany}
-use Rattle.std.specs.Prelude.{IfErr, IsErrOf, OnOk}
-use Rattle.live.specs.Cli.{CompletesAs, CompletesFor, FailsFor, FinishesAs, StatusOf, TakesFor, UsageError, UsageExactly, configured, started, state_for}
+use Rattle.std.specs.Prelude.{IfErr, IsErrOf, OnOk, String}
+use Rattle.std.specs.declared.alloc.Global.{Global}
+use Rattle.live.specs.Cli.{CompletesAs, CompletesFor, FailsFor, FinishesAs, StatusOf, TakesFor, UsageError, UsageExactly, configured, started, state_for, texts_of}
 use Rattle.live.specs.declared.config.Command.{Command}
 use Rattle.live.specs.declared.config.Command.TheVariants.{Run}
 use Rattle.live.specs.Config.{command_of}
 use Rattle.live.specs.Fault.{IsOneOf, IsRefusal, all_statuses, run_statuses, status_of, word_statuses}
-use Rattle.live.specs.Run.{Completes, Fails, FailsFrom, Finishes, HasCause, TakesAtMost}
-use Rattle.live.specs.Session.{Outcome, State, session}
+use Rattle.live.specs.Run.{Completes, FailsFrom, Finishes, HasCause, TakesAtMost}
+use Rattle.live.specs.Session.{State, session}
 use Rattle.live.specs.Written.{AppendsFront}
 use Rattle.live.proofs.Outcomes.{AppendsFront-after, AppendsFront-nil}
 
@@ -23,36 +24,36 @@ fails_early start error live left held early =
     λ s given all known. record { written = AppendsFront-nil held (session s all).pages; refused = λ r. absurd (early r) }
 
 -- the state that words give
-state_is : (words : List (List ℕ)) (s t : State) (config : LiveConfig) → command_of words ≡ Some (Run config) → state_for words s ≡ Some t → t ≡ configured s config
+state_is : (words : List (String Global)) (s t : State) (config : LiveConfig) → command_of (texts_of words) ≡ Some (Run config) → state_for words s ≡ Some t → t ≡ configured s config
 state_is words s t config given is =
     let both : Some (configured s config) ≡ Some t = sym (ap (option_map (started s)) given) ∙ is in cc
 
 -- the session from it
-pub fails_given : (words : List (List ℕ)) (s : State) (error : LiveError) (live : Live) (left old new : Option (List ℕ)) (config : LiveConfig) → command_of words ≡ Some (Run config)
+pub fails_given : (words : List (String Global)) (s : State) (error : LiveError) (live : Live) (left old new : Option (List ℕ)) (config : LiveConfig) → command_of (texts_of words) ≡ Some (Run config)
     → FailsFrom (configured s config) error live left (old, new) → FailsFor (state_for words s) error live left (old, new)
 fails_given words s error live left old new config given fails t is =
     subst (λ u. FailsFrom u error live left (old, new)) (sym (state_is words s t config given is)) fails
 
 -- what a run from it finished
-pub finishes_given : (words : List (List ℕ)) (s : State) (live : Live) (left left' old new : Option (List ℕ)) (config : LiveConfig) → command_of words ≡ Some (Run config)
+pub finishes_given : (words : List (String Global)) (s : State) (live : Live) (left left' old new : Option (List ℕ)) (config : LiveConfig) → command_of (texts_of words) ≡ Some (Run config)
     → Finishes (configured s config) live (left, left') (old, new) → FinishesAs (state_for words s) live (left, left') (old, new)
 finishes_given words s live left left' old new config given finishes =
     record { state = configured s config; given = ap (option_map (started s)) given; finishes = finishes }
 
 -- what a run from the words' configuration took
-pub takes_given : (words : List (List ℕ)) (left left' : Option (List ℕ)) (config : LiveConfig) → command_of words ≡ Some (Run config) → TakesAtMost (config.limits.bytes + 1) (left, left') → TakesFor words (left, left')
+pub takes_given : (words : List (String Global)) (left left' : Option (List ℕ)) (config : LiveConfig) → command_of (texts_of words) ≡ Some (Run config) → TakesAtMost (config.limits.bytes + 1) (left, left') → TakesFor words (left, left')
 takes_given words left left' config given taken other other_given =
     let same : config ≡ other = let both : Some (Run config) ≡ Some (Run other) = sym given ∙ other_given in cc in
     subst (λ (c : LiveConfig). TakesAtMost (c.limits.bytes + 1) (left, left')) same taken
 
 -- what a run from the state completes
-pub completes_given : (words : List (List ℕ)) (s : State) (all : List ℕ) (config : LiveConfig) (result : Result (Unit {0}) LiveError) → command_of words ≡ Some (Run config)
+pub completes_given : (words : List (String Global)) (s : State) (all : List ℕ) (config : LiveConfig) (result : Result (Unit {0}) LiveError) → command_of (texts_of words) ≡ Some (Run config)
     → Completes (session (configured s config) all).refusal result → CompletesFor (state_for words s) all result
 completes_given words s all config result given done t is =
     subst (λ u. Completes (session u all).refusal result) (sym (state_is words s t config given is)) done
 
 -- wrong words give no state
-pub completes_wrong : (words : List (List ℕ)) (s : State) (all : List ℕ) (result : Result (Unit {0}) LiveError) → command_of words ≡ None → CompletesFor (state_for words s) all result
+pub completes_wrong : (words : List (String Global)) (s : State) (all : List ℕ) (result : Result (Unit {0}) LiveError) → command_of (texts_of words) ≡ None → CompletesFor (state_for words s) all result
 completes_wrong words s all result wrong t is =
     let none : None ≡ Some t = sym (ap (option_map (started s)) wrong) ∙ is in absurd (cc)
 
@@ -122,8 +123,8 @@ no_usage (Err error) reads reads' writes writes' cause e =
     let is : error ≡ Usage = cc in
     let only : IsOneOf run_statuses 2 = subst (λ x. IsOneOf run_statuses (status_of x)) is cause.only in cc
 
-pub usage_given : {U : Type 0} (words : List (List ℕ)) (config : LiveConfig) (result : Result (Unit {0}) LiveError) (reads reads' writes writes' : ℕ) → command_of words ≡ Some (Run config)
-    → IfErr result (λ e. HasCause run_statuses (status_of e) (reads, reads') (writes, writes')) → UsageError (command_of words) result U
+pub usage_given : {U : Type 0} (words : List (String Global)) (config : LiveConfig) (result : Result (Unit {0}) LiveError) (reads reads' writes writes' : ℕ) → command_of (texts_of words) ≡ Some (Run config)
+    → IfErr result (λ e. HasCause run_statuses (status_of e) (reads, reads') (writes, writes')) → UsageError (command_of (texts_of words)) result U
 usage_given words config result reads reads' writes writes' given cause = record {
   only = λ e. absurd (no_usage result reads reads' writes writes' cause e);
   always = λ none. let both : Some (Run config) ≡ None = sym given ∙ none in absurd (cc);

@@ -28,8 +28,8 @@ abbrev pub started : State → Command → State
 started s (Run config) = configured s config
 
 -- the same of words, where they give a command
-abbrev pub state_for : List (List ℕ) → State → Option State
-state_for words s = option_map (started s) (command_of words)
+abbrev pub state_for : List (String Global) → State → Option State
+state_for words s = option_map (started s) (command_of (texts_of words))
 
 -- a run from the state that the words give finished
 pub record FinishesAs (start : Option State) (live : Live) (left held : Told) : Type 0 where
@@ -43,15 +43,15 @@ FailsFor start error live left held = (s : State) → start ≡ Some s → Fails
 
 -- it fails with an error of this status, from each state that the session held before; and of the error's text and a newline a
 -- front was appended to the second output
-pub record FailsAs (words : List (List ℕ)) (status : ℕ) (lives : Live × Live) (left : Option (List ℕ)) (outputs : Told × Told) : Type 0 where
+pub record FailsAs (words : List (String Global)) (status : ℕ) (lives : Live × Live) (left : Option (List ℕ)) (outputs : Told × Told) : Type 0 where
   pub error : LiveError
   pub told : status_of error ≡ status
   pub text : AppendsFront outputs.1 (text_of error ∷ (10 ∷ []) ∷ [])
   pub fails : (s : State) → Holds lives.0 s → FailsFor (state_for words s) error lives.1 left outputs.0
 
 -- the source gave at most one byte more than the words' limit
-abbrev pub TakesFor : List (List ℕ) → Told → Type 0
-TakesFor words left = (config : LiveConfig) → command_of words ≡ Some (Run config) → TakesAtMost (config.limits.bytes + 1) left
+abbrev pub TakesFor : List (String Global) → Told → Type 0
+TakesFor words left = (config : LiveConfig) → command_of (texts_of words) ≡ Some (Run config) → TakesAtMost (config.limits.bytes + 1) left
 
 -- wrong words: status 2 only and always where the words give no command, unless memory ran out, and then all is as it was
 pub record UsageExactly (command : Option Command) (status : ℕ) (Untouched : Type 0) : Type 0 where

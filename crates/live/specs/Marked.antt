@@ -9,6 +9,7 @@ pub record AddsMarkTo (old new : Live) (mark : Mark) : Type 0 where
   pub adds : AddsMark old.files new.files old.texts new.texts mark
   pub config : new.config ≡ old.config
   pub db : new.db ≡ old.db
+  pub probes : new.probes ≡ old.probes
   pub ended : new.ended ≡ old.ended
 
 -- all but the database and the changes of files is as it was

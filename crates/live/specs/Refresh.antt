@@ -10,7 +10,9 @@ use Rattle.vfs_core.specs.Files.{existing_files}
 use Rattle.vfs_core.specs.Texts.{contents_left}
 use Rattle.vfs_sets.specs.FileSet.{FileSetContent}
 use Rattle.vfs_sets.specs.Partition.{IsPartition}
+use Rattle.vfs_sets.specs.Probes.{CountsPlacing}
 use Rattle.input_db.specs.Change.{IsChanged, fits_file}
+use Rattle.input_db.specs.Database.{Database}
 use Rattle.input_db.specs.Files.{Held}
 use Rattle.input_db.specs.SourceRoot.{local_root}
 use Rattle.input_db.specs.declared.change.FileChange.{FileChange}
@@ -34,8 +36,31 @@ changes_taken files roots batch =
 abbrev pub local_roots : List FileSetContent → List SourceRoot
 local_roots sets = map local_root sets
 
+-- no crate is new or changed: the crates of a database, those that there are now, and the count of writes are as they were
+pub record KeepsCrates (old new : Database) : Type 0 where
+  pub crates : new.crates ≡ old.crates
+  pub listed : new.listed ≡ old.listed
+  pub durability : new.listed_durability ≡ old.listed_durability
+  pub writes : new.writes ≡ old.writes
+
+-- source roots are given to a database, and nothing else
+pub record GivesRoots (roots : List SourceRoot) (old new : Database) : Type 0 where
+  pub change : FileChange
+  pub given : change.roots ≡ Some roots
+  pub no_file : change.files_changed ≡ []
+  pub changed : IsChanged change old new
+  pub crates : KeepsCrates old new
+
+-- those changes whose file has a root in a database are given to it, and nothing else
+pub record GivesChanges (batch : List (ℕ × ChangedFile)) (old new : Database) : Type 0 where
+  pub change : FileChange
+  pub no_roots : change.roots ≡ None
+  pub taken : change.files_changed ≡ changes_taken old.files [] batch
+  pub changed : IsChanged change old new
+  pub crates : KeepsCrates old new
+
 -- the sets of the files that exist, and those changes whose file is in one or has a root already, are in the database, and the
--- changes are taken. All else is as it was
+-- changes are taken, and each probe is counted. All else is as it was
 pub record Refreshes (old new : Live) : Type 0 where
   pub sets : List FileSetContent
   pub partition : IsPartition [] (existing_files old.files) sets
@@ -44,6 +69,8 @@ pub record Refreshes (old new : Live) : Type 0 where
   pub taken : change.files_changed ≡ changes_taken old.db.files (local_roots sets) old.files.batch
   pub distinct : IsDistinct nat_eq (keys_of old.files.batch)
   pub changed : IsChanged change old.db new.db
+  pub crates : KeepsCrates old.db new.db
+  pub probes : CountsPlacing [] (existing_files old.files) old.probes.ledger new.probes.ledger
   pub config : new.config ≡ old.config
   pub ended : new.ended ≡ old.ended
   pub texts : new.texts ≡ old.texts

@@ -50,9 +50,8 @@ pub record HasCause (statuses : List ℕ) (status : ℕ) (reads writes : Counts)
   pub read : status ≡ 3 → Rose reads.0 reads.1
   pub write : status ≡ 4 → Rose writes.0 writes.1
 
--- a source that tells its bytes, and a sink, of which neither failed
-pub record IsFaultless (left : Option (List ℕ)) (all : List ℕ) (reads writes : Counts) : Type 0 where
-  pub known : left ≡ Some all
+-- a source and a sink, of which neither failed
+pub record IsFaultless (reads writes : Counts) : Type 0 where
   pub read : ¬ Rose reads.0 reads.1
   pub written : ¬ Rose writes.0 writes.1
 

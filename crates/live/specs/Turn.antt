@@ -4,6 +4,8 @@ use Rattle.std.specs.Str.{is_utf8}
 use Rattle.std.specs.Option.{option_map}
 use Rattle.std.specs.Io.KnownBytes.{Appends}
 use Rattle.vfs_core.specs.Texts.{BringsTo, all_pass}
+use Rattle.vfs_core.specs.Files.{existing_files}
+use Rattle.vfs_sets.specs.Probes.{CountsPlacing, RaisesAtMost, most_probes}
 use Rattle.input_db.specs.Database.{Database}
 use Rattle.input_db.specs.Files.{text_of}
 use Rattle.live.specs.declared.session.Live.{Live}
@@ -17,6 +19,7 @@ use Rattle.live.specs.Config.{nothing_given, set_by}
 use Rattle.live.specs.Fault.{IsRefusal, turn_statuses}
 use Rattle.live.specs.Image.{ShowsFlush, image, shape}
 use Rattle.live.specs.LiveTexts.{KeepsTexts}
+use Rattle.live.specs.Refresh.{KeepsCrates}
 use Rattle.live.specs.Session.{State, Turn, flush_of, state_after_failure, turn}
 use Rattle.live.specs.Written.{AppendsFront, AppendsPages, AppendsProperFront, Counts, HasWriteCause, Told}
 
@@ -82,12 +85,22 @@ HasStepCause (Ok done) writes = HasWriteCause (Ok done) turn_statuses writes
 HasStepCause (Err (Refused error)) writes = HasWriteCause {T = Unit {0}} (Err error) turn_statuses writes
 HasStepCause (Err Ended) writes = writes.0 ≤ writes.1
 
--- what a step leaves as it was: the configuration; the database, unless it is a flush; all, where it fails and is no flush; and
--- whether the session has ended, where it succeeds. A flush that fails ends the session
+-- a flush takes at most one probe more for each file that exists than the text by which it is placed has bytes
+abbrev pub CountsFlush : Live → Live → Type 0
+CountsFlush old new = RaisesAtMost (most_probes (existing_files old.files)) old.probes.ledger new.probes.ledger
+
+-- what a step leaves as it was: the configuration; the database and the count of probes, unless it is a flush; the crates of
+-- the database, where it succeeds; all, where it fails and is no flush; and whether the session has ended, where it succeeds. A
+-- flush that fails ends the session, and each flush counts its probes: one that succeeds all of them, among no roots
 pub record LeavesAsWas (event : Event) (failed : Bool) (old new : Live) : Type 0 where
   pub config : new.config ≡ old.config
   pub database : (event ≡ FlushEvent → ⊥) → new.db ≡ old.db
   pub all : failed ≡ true → (event ≡ FlushEvent → ⊥) → new ≡ old
+  pub crates : failed ≡ false → KeepsCrates old.db new.db
+  pub probes : (event ≡ FlushEvent → ⊥) → new.probes ≡ old.probes
+  pub counts : event ≡ FlushEvent → CountsFlush old new
+  pub placed : failed ≡ false → event ≡ FlushEvent
+      → CountsPlacing [] (existing_files old.files) old.probes.ledger new.probes.ledger
   pub going : failed ≡ false → new.ended ≡ old.ended
   pub ends : failed ≡ true → event ≡ FlushEvent → HasEnded new
 

@@ -1,6 +1,6 @@
 //! The program as one call: words, a source and two sinks in, a status out.
 
-ghost use Rattle.std.specs.Prelude.{◌≡◌, ◌∷◌, [], ℕ, List, IfErr, OnOk};
+ghost use Rattle.std.specs.Prelude.{◌≡◌, ◌∷◌, [], ℕ, List, IfErr, OnOk, Some};
 ghost use Rattle.live.specs.Cli.{CompletesAs, CompletesFor, FailsAs, FailsFor, FinishesAs, TakesFor, UsageError, UsageExactly, state_for, texts_of};
 ghost use Rattle.live.specs.Config.{command_of};
 ghost use Rattle.live.specs.Fault.{all_statuses, status_of, text_of, word_statuses};
@@ -27,18 +27,18 @@ pub fn live_cli<S: ByteSource, K: ByteSink, E: ByteSink>(
     err: &mut E,
 ) -> u8
     requires { ¬ HasEnded live.old }
-    ensures ok { result ≡ 0 → (s : State) → Holds live.old s → FinishesAs (state_for (texts_of words.now) s)
+    ensures ok { result ≡ 0 → (s : State) → Holds live.old s → FinishesAs (state_for words.now s)
         live.new (S.left input.old, S.left input.new) (K.held out.old, K.held out.new) }
-    ensures err { ¬ (result ≡ 0) → FailsAs (texts_of words.now) result (live.old, live.new)
+    ensures err { ¬ (result ≡ 0) → FailsAs words.now result (live.old, live.new)
         (S.left input.old) ((K.held out.old, K.held out.new), (E.held err.old, E.held err.new)) }
     ensures cause { HasCause all_statuses result
         (S.faults input.old, S.faults input.new) (K.faults out.old, K.faults out.new) }
     ensures usage { UsageExactly (command_of (texts_of words.now)) result
         ((live.new ≡ live.old) × (input.new ≡ input.old) × (out.new ≡ out.old)) }
-    ensures taken { TakesFor (texts_of words.now) (S.left input.old, S.left input.new) }
-    ensures complete { (s : State) → Holds live.old s → (all : List ℕ)
-        → IsFaultless (S.left input.old) all (S.faults input.old, S.faults input.new) (K.faults out.old, K.faults out.new)
-        → CompletesAs (state_for (texts_of words.now) s) all result }
+    ensures taken { TakesFor words.now (S.left input.old, S.left input.new) }
+    ensures complete { (s : State) → Holds live.old s → (all : List ℕ) → S.left input.old ≡ Some all
+        → IsFaultless (S.faults input.old, S.faults input.new) (K.faults out.old, K.faults out.new)
+        → CompletesAs (state_for words.now s) all result }
 {
     match run_words(alloc, words, live, input, out) {
         Ok(()) => 0,
@@ -58,18 +58,18 @@ fn run_words<S: ByteSource, K: ByteSink>(
     out: &mut K,
 ) -> Result<(), LiveError>
     requires { ¬ HasEnded live.old }
-    ensures ok { OnOk result ((s : State) → Holds live.old s → FinishesAs (state_for (texts_of words.now) s)
+    ensures ok { OnOk result ((s : State) → Holds live.old s → FinishesAs (state_for words.now s)
         live.new (S.left input.old, S.left input.new) (K.held out.old, K.held out.new)) }
-    ensures err { IfErr result (λ e. (s : State) → Holds live.old s
-        → FailsFor (state_for (texts_of words.now) s) e live.new (S.left input.old) (K.held out.old, K.held out.new)) }
+    ensures err { IfErr result (λ e. (s : State) → Holds live.old s → FailsFor
+        (state_for words.now s) e live.new (S.left input.old) (K.held out.old, K.held out.new)) }
     ensures cause { IfErr result (λ e. HasCause word_statuses (status_of e)
         (S.faults input.old, S.faults input.new) (K.faults out.old, K.faults out.new)) }
     ensures usage { UsageError (command_of (texts_of words.now)) result
         ((live.new ≡ live.old) × (input.new ≡ input.old) × (out.new ≡ out.old)) }
-    ensures taken { TakesFor (texts_of words.now) (S.left input.old, S.left input.new) }
-    ensures complete { (s : State) → Holds live.old s → (all : List ℕ)
-        → IsFaultless (S.left input.old) all (S.faults input.old, S.faults input.new) (K.faults out.old, K.faults out.new)
-        → CompletesFor (state_for (texts_of words.now) s) all result }
+    ensures taken { TakesFor words.now (S.left input.old, S.left input.new) }
+    ensures complete { (s : State) → Holds live.old s → (all : List ℕ) → S.left input.old ≡ Some all
+        → IsFaultless (S.faults input.old, S.faults input.new) (K.faults out.old, K.faults out.new)
+        → CompletesFor (state_for words.now s) all result }
 {
     let command = match Command::of_words(alloc, words) {
         Ok(command) => command,

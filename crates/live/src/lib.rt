@@ -14,7 +14,6 @@ mod refresh;
 mod rows;
 pub mod run;
 pub mod session;
-mod shared_text;
 
 pub use cli::{live_cli, tell};
 pub use config::{Command, LiveConfig, WordsError};

@@ -114,7 +114,8 @@ impl Lines {
         ensures too_many { (limit : ℕ) (given : List (List ℕ)) (all : List ℕ)
             → Gave limit (Some all) (S.left input.old) given self.old
             → TooManyExactly result (IsSpent limit given all) }
-        ensures answers { Answers result self.old self.new (S.faults input.old) (S.faults input.new) }
+        ensures answers { Answers result self.old self.new
+            (S.faults input.old) (S.faults input.new) }
         ensures at_once { IsTrue (has_newline self.old.waiting) → input.new ≡ input.old }
         ensures ended { IsTrue self.old.has_ended
             → (result ≡ Err Ended) × (self.new ≡ self.old) × (input.new ≡ input.old) }

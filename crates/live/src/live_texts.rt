@@ -8,8 +8,7 @@ ghost use Rattle.vfs_core.specs.declared.marks.MarkKind.TheVariants.{Out};
 ghost use Rattle.live.specs.LiveTexts.{AddsMark};
 
 use crate::rows::Rows;
-use crate::shared_text::SharedText;
-use base_text::{Text, TryClone};
+use base_text::{SharedText, Text, TryClone};
 use std::alloc::{AllocError, Global};
 use std::marker::Model;
 use std::rc::Rc;
@@ -120,7 +119,7 @@ fn share(alloc: Global, text: &Option<Text>) -> Result<Option<SharedText>, Alloc
 }
 
 // The bytes of a text.
-#[tactic(auto, using(crate::proofs::TextRows::valid_text))]
+#[tactic(auto, using(crate::proofs::SharedRows::valid_text))]
 fn contents_of(text: Option<Text>) -> Option<Vec<u8>>
     ensures same { bytes_of result ≡ text }
     ensures valid { contents_pass is_utf8 (bytes_of result) ≡ true }

@@ -129,7 +129,8 @@ pub(crate) fn write_page<K: ByteSink>(
     out: &mut K,
 ) -> Result<(), LiveError>
     ensures ok { OnOk result (Appends (K.held out.old) (K.held out.new) (page_of db.now)) }
-    ensures err { OnErr result (AppendsFront (K.held out.old, K.held out.new) (page_of db.now ∷ [])) }
+    ensures err { OnErr result (AppendsFront (K.held out.old, K.held out.new)
+        (page_of db.now ∷ [])) }
     ensures cut { IsErrOf result WriteFault
         → AppendsProperFront (K.held out.old, K.held out.new) (page_of db.now ∷ []) }
     ensures cause { HasWriteCause result flush_statuses (K.faults out.old, K.faults out.new) }

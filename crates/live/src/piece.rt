@@ -120,7 +120,8 @@ fn read_some<S: ByteSource>(input: &mut S, buffer: &mut [u8], room: u64) -> Resu
 
 // The place of the first newline.
 fn newline_at(bytes: &[u8]) -> Option<usize>
-    ensures { MatchOption result (has_newline bytes.now ≡ false) (λ at. IsFirstNewline bytes.now at) }
+    ensures { MatchOption result (has_newline bytes.now ≡ false)
+        (λ at. IsFirstNewline bytes.now at) }
 {
     for (at, byte) in bytes.iter().enumerate() {
         if *byte == b'\n' {

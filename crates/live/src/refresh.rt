@@ -1,9 +1,9 @@
 //! What a flush brings into the database.
 
-ghost use Rattle.std.specs.Prelude.{◌≡◌, IfOk, Some, length, map, nat_eq, option_map, string_bytes};
+ghost use Rattle.std.specs.Prelude.{◌≡◌, ◌<◌, ◌^◌, [], IfOk, None, OnOk, length, nat_eq, option_map, string_bytes};
 ghost use Rattle.std.specs.List.{IsDistinct};
 ghost use Rattle.std.specs.Map.{keys_of};
-ghost use Rattle.live.specs.Refresh.{changes_taken, local_roots, text_if, text_left};
+ghost use Rattle.live.specs.Refresh.{GivesChanges, GivesRoots, changes_taken, local_roots, text_if, text_left};
 
 use base_text::{FileId, Items};
 use indexmap::IndexMap;
@@ -23,20 +23,48 @@ pub(crate) fn source_roots(alloc: Global, sets: Vec<FileSet>) -> Result<Vec<Sour
     Ok(roots)
 }
 
-/// These source roots, and those changes whose file is in one or has a root already.
-pub(crate) fn change_of(
+/// Gives these source roots to a database, with the files of each.
+pub(crate) fn give_roots(
     alloc: Global,
-    db: &InputDb,
+    db: &mut InputDb,
     roots: Vec<SourceRoot>,
-    changes: IndexMap<FileId, ChangedFile>,
-) -> Result<FileChange, AllocError>
-    ensures roots { IfOk result (λ change. change.roots ≡ Some roots.items) }
-    ensures taken { IfOk result (λ change. change.files_changed
-        ≡ changes_taken db.now.files roots.items changes.entries) }
-    ensures distinct { IsDistinct nat_eq (keys_of changes.entries) }
+) -> Result<(), AllocError>
+    requires { length roots.items < 2 ^ 32 }
+    ensures { OnOk result (GivesRoots roots.items db.old db.new) }
 {
     let mut change = FileChange::new(alloc);
     change.set_roots(roots);
+    change.apply(alloc, db)?;
+    Ok(())
+}
+
+/// Gives those changes to a database whose file has a root there.
+pub(crate) fn give_changes(
+    alloc: Global,
+    db: &mut InputDb,
+    changes: IndexMap<FileId, ChangedFile>,
+) -> Result<(), AllocError>
+    ensures ok { OnOk result (GivesChanges changes.entries db.old db.new) }
+    ensures distinct { IsDistinct nat_eq (keys_of changes.entries) }
+{
+    let change = change_of(alloc, db, changes)?;
+    change.apply(alloc, db)?;
+    Ok(())
+}
+
+// Those changes whose file has a root in a database.
+fn change_of(
+    alloc: Global,
+    db: &InputDb,
+    changes: IndexMap<FileId, ChangedFile>,
+) -> Result<FileChange, AllocError>
+    ensures roots { IfOk result (λ change. change.roots ≡ None) }
+    ensures crates { IfOk result (λ change. change.crate_graph ≡ None) }
+    ensures taken { IfOk result (λ change. change.files_changed
+        ≡ changes_taken db.now.files [] changes.entries) }
+    ensures distinct { IsDistinct nat_eq (keys_of changes.entries) }
+{
+    let mut change = FileChange::new(alloc);
     for (file, changed) in changes {
         if change.fits_file(db, file) {
             change.change_file(file, text_left(changed.change))?;

@@ -5,8 +5,7 @@ ghost use Rattle.std.proofs.Common.{set};
 ghost use Rattle.vfs_core.specs.Files.{IsFullFor, bytes_of, is_change_at, number_of};
 ghost use Rattle.live.specs.LiveTexts.{TakesContents, TakesExclusion, with_text};
 
-use crate::shared_text::SharedText;
-use base_text::TryClone;
+use base_text::{SharedText, TryClone};
 use std::alloc::{AllocError, Global};
 use std::marker::Model;
 use vfs_core::{Vfs, VfsError, VfsPath};
@@ -70,7 +69,8 @@ impl Rows {
 
     /// Leaves a file out, and empties its row. Room is made first.
     pub(crate) fn exclude(&mut self, files: &mut Vfs, path: VfsPath) -> Result<(), VfsError>
-        ensures rows { OnOk result (self.new ≡ with_text self.old (number_of files.old path) true None) }
+        ensures rows { OnOk result (self.new ≡ with_text self.old
+            (number_of files.old path) true None) }
         ensures files { OnOk result (TakesExclusion files.old files.new path) }
         ensures room { OnOk result (¬ (IsFullFor files.old path)) }
         ensures too_many { IsErrOf result VfsError.TooMany → IsFullFor files.old path }

@@ -1,6 +1,6 @@
 //! Runs a session over a source of bytes.
 
-ghost use Rattle.std.specs.Prelude.{◌≡◌, ◌+◌, ℕ, List, IfErr, OnOk};
+ghost use Rattle.std.specs.Prelude.{◌≡◌, ◌+◌, ℕ, List, IfErr, OnOk, Some};
 ghost use Rattle.live.specs.Event.{event};
 ghost use Rattle.live.specs.Fault.{fault_of, line_statuses, run_statuses, status_of};
 ghost use Rattle.live.specs.Run.{Completes, FailsFrom, Finishes, HasCause, IsFaultless, TakesAtMost};
@@ -31,10 +31,11 @@ pub fn live_run<S: ByteSource, K: ByteSink>(
         → FailsFrom s e live.new (S.left input.old) (K.held out.old, K.held out.new)) }
     ensures cause { IfErr result (λ e. HasCause run_statuses (status_of e)
         (S.faults input.old, S.faults input.new) (K.faults out.old, K.faults out.new)) }
-    ensures taken { TakesAtMost (live.old.config.limits.bytes + 1) (S.left input.old, S.left input.new) }
-    ensures complete { (s : State) → Holds live.old s → (all : List ℕ)
-        → IsFaultless (S.left input.old) all (S.faults input.old, S.faults input.new)
-        (K.faults out.old, K.faults out.new) → Completes (session s all).refusal result }
+    ensures taken { TakesAtMost (live.old.config.limits.bytes + 1)
+        (S.left input.old, S.left input.new) }
+    ensures complete { (s : State) → Holds live.old s → (all : List ℕ) → S.left input.old ≡ Some all
+        → IsFaultless (S.faults input.old, S.faults input.new) (K.faults out.old, K.faults out.new)
+        → Completes (session s all).refusal result }
 {
     let limit = live.byte_limit();
     let mut lines = Lines::new(alloc, limit);
@@ -76,10 +77,12 @@ fn take_line<K: ByteSink>(
     out: &mut K,
 ) -> Result<(), LiveError>
     requires { ¬ HasEnded live.old }
-    ensures ok { OnOk result ((s : State) → Holds live.old s → TakesTurn (turn_of s number (event line.now))
+    ensures ok { OnOk result ((s : State) → Holds live.old s
+        → TakesTurn (turn_of s number (event line.now))
         live.new (K.held out.old, K.held out.new)) }
     ensures err { IfErr result (λ e. (s : State) → Holds live.old s
-        → FailsTurn (turn_of s number (event line.now)) e live.new (K.held out.old, K.held out.new)) }
+        → FailsTurn (turn_of s number (event line.now)) e live.new
+        (K.held out.old, K.held out.new)) }
     ensures cause { HasWriteCause result line_statuses (K.faults out.old, K.faults out.new) }
     ensures going { OnOk result (live.new.ended ≡ live.old.ended) }
 {

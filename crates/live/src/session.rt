@@ -7,8 +7,8 @@ use crate::event::Event;
 use crate::fault::{LiveError, StepError};
 use crate::live_texts::LiveTexts;
 use crate::page::write_page;
-use crate::refresh::{change_of, source_roots};
-use base_text::{ByteSink, Limit, Limits, Numbers, Text, TryClone};
+use crate::refresh::{give_changes, give_roots, source_roots};
+use base_text::{ByteSink, Counter, Ledger, Limit, Limits, Numbers, Steps, Text, TryClone};
 use input_db::{InputDb, Nonce};
 use std::alloc::{AllocError, Global};
 use vfs_core::{Vfs, VfsError, VfsPath};
@@ -21,6 +21,7 @@ pub struct Live {
     files: Vfs,
     texts: LiveTexts,
     db: InputDb,
+    probes: Steps<Counter>,
     ended: bool,
     ghost fits: { Fits config },
 }
@@ -35,7 +36,7 @@ impl Live {
     ghost use Rattle.live.specs.Marked.{AddsMarkTo, SparesFiles};
     ghost use Rattle.live.specs.Refresh.{Refreshes};
     ghost use Rattle.live.specs.Session.{State, ended_state, flush_of, flush_turn, state_after_failure, turn};
-    ghost use Rattle.live.specs.Turn.{EndsTurn, FailsStep, HasEnded, HasStepCause, Holds, LeavesAsWas, ShowsShape, TakesTurn, first_state};
+    ghost use Rattle.live.specs.Turn.{CountsFlush, EndsTurn, FailsStep, HasEnded, HasStepCause, Holds, LeavesAsWas, ShowsShape, TakesTurn, first_state};
     ghost use Rattle.live.specs.Written.{HasWriteCause};
     ghost use Rattle.live.specs.declared.event.Event.TheVariants.{Exclude, File, Flush};
     ghost use Rattle.live.specs.declared.fault.LiveError.TheVariants.{OutOfMemory, TooMany};
@@ -49,6 +50,7 @@ impl Live {
         ensures not_ended { IfOk result (λ live. ¬ HasEnded live) }
         ensures config { IfOk result (λ live. config_of [] ≡ Some live.config) }
         ensures empty { IfOk result (λ live. live.db ≡ empty_database 0) }
+        ensures probes { IfOk result (λ live. live.probes.ledger ≡ 0) }
     {
         let config = LiveConfig {
             limits: Limits::greatest(),
@@ -60,6 +62,9 @@ impl Live {
             config,
             texts,
             db: InputDb::new(alloc, nonce),
+            probes: Steps {
+                ledger: Counter::new(),
+            },
             ended: false,
         })
     }
@@ -67,11 +72,13 @@ impl Live {
     /// Changes the configuration alone. Paths that have a number keep it.
     pub fn configure(&mut self, config: LiveConfig)
         requires { Fits config }
-        ensures holds { (s : State) → Holds self.old s → Holds self.new (record s { config = config }) }
+        ensures holds { (s : State) → Holds self.old s
+            → Holds self.new (record s { config = config }) }
         ensures ended { HasEnded self.new ↔ HasEnded self.old }
         ensures config { self.new.config ≡ config }
         ensures files { self.new.files ≡ record self.old.files { limit = config.limits.paths } }
-        ensures kept { (self.new.db ≡ self.old.db) × (self.new.texts ≡ self.old.texts) }
+        ensures kept { (self.new.db ≡ self.old.db) × (self.new.texts ≡ self.old.texts)
+            × (self.new.probes ≡ self.old.probes) }
     {
         self.files.set_limit(config.limits.paths);
         self.config = config;
@@ -103,6 +110,14 @@ impl Live {
         ensures { result.now ≡ self.now.db }
     {
         &self.db
+    }
+
+    /// How many probes flushes took so far: look-ups of a front of a path's text among the roots, to find
+    /// the set of a file. The count stops at the greatest u64.
+    pub fn probes(&self) -> u64
+        ensures { result ≡ self.now.probes.ledger }
+    {
+        self.probes.ledger.count()
     }
 
     // How many bytes one run takes.
@@ -193,7 +208,8 @@ impl Live {
 
     // Leaves a file out.
     fn exclude(&mut self, path: VfsPath) -> Result<(), LiveError>
-        ensures ok { OnOk result (AddsMarkTo self.old self.new (record { path = path; kind = Out })) }
+        ensures ok { OnOk result (AddsMarkTo self.old self.new
+            (record { path = path; kind = Out })) }
         ensures room { OnOk result (¬ (IsFullFor self.old.files path)) }
         ensures too_many { IsErrOf result (TooMany Paths) → IsFullFor self.old.files path }
         ensures only { IfErr result (λ e. (e ≡ OutOfMemory) ⊎ (e ≡ TooMany Paths)) }
@@ -238,12 +254,13 @@ impl Live {
     fn refresh(&mut self, alloc: Global) -> Result<(), AllocError>
         ensures ok { OnOk result (Refreshes self.old self.new) }
         ensures err { OnErr result (SparesFiles self.old self.new) }
+        ensures probes { CountsFlush self.old self.new }
     {
-        let sets = FileSetConfig::new(alloc)?.partition(alloc, &self.files)?;
+        let config = FileSetConfig::new(alloc)?;
+        let sets = config.partition_counted(alloc, &self.files, &mut self.probes)?;
         let roots = source_roots(alloc, sets)?;
+        give_roots(alloc, &mut self.db, roots)?;
         let changes = self.files.take_changes();
-        let change = change_of(alloc, &self.db, roots, changes)?;
-        change.apply(alloc, &mut self.db)?;
-        Ok(())
+        give_changes(alloc, &mut self.db, changes)
     }
 }

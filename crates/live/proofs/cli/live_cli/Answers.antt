@@ -6,7 +6,7 @@ pub returns-in-Ok-clause-usage : goal.returns-in-Ok-clause-usage
 returns-in-Ok-clause-usage g c = usage_ok _ c.in-Ok.ensures.usage
 
 pub returns-in-Ok-clause-complete : goal.returns-in-Ok-clause-complete
-returns-in-Ok-clause-complete g c = λ s h all faultless. zero_completes _ all (c.in-Ok.ensures.complete s h all faultless)
+returns-in-Ok-clause-complete g c = λ s h all known faultless. zero_completes _ all (c.in-Ok.ensures.complete s h all known faultless)
 
 pub returns-in-Err-clause-err : goal.returns-in-Err-clause-err
 returns-in-Err-clause-err g c = λ _. record { error = c.in-Err.error; told = sym c.status.ensures; text = c.tell.ensures; fails = c.in-Err.ensures.err }
@@ -19,4 +19,4 @@ pub returns-in-Err-clause-usage : goal.returns-in-Err-clause-usage
 returns-in-Err-clause-usage g c = usage_err _ c.in-Err.error _ c.status.ensures c.in-Err.ensures.usage
 
 pub returns-in-Err-clause-complete : goal.returns-in-Err-clause-complete
-returns-in-Err-clause-complete g c = λ s h all faultless. status_completes _ all c.in-Err.error _ c.status.ensures (c.in-Err.ensures.complete s h all faultless)
+returns-in-Err-clause-complete g c = λ s h all known faultless. status_completes _ all c.in-Err.error _ c.status.ensures (c.in-Err.ensures.complete s h all known faultless)

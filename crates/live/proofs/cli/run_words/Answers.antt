@@ -1,6 +1,6 @@
 use Rattle.std.proofs.Common.{Some, ap, subst, ◌∙◌}
 use Rattle.live.specs.Config.{FitsCommand}
-use Rattle.live.proofs.Words.{cause_words, completes_given, completes_wrong, fails_early, fails_given, finishes_given, if_err, on_ok, takes_given, usage_given}
+use Rattle.live.proofs.Words.{cause_words, completes_given, fails_given, finishes_given, if_err, on_ok, takes_given, usage_given}
 use Rattle.live.proofs.cli.run_words.Goals as goal
 
 pub returns-clause-ok : goal.returns-clause-ok
@@ -21,8 +21,8 @@ pub returns-clause-taken : goal.returns-clause-taken
 returns-clause-taken g c = takes_given _ _ _ c.into_config.result (c.in-Ok.ensures.ok ∙ ap Some c.into_config.ensures) (rw c.configure.ensures.config at c.live_run.ensures.taken)
 
 pub returns-clause-complete : goal.returns-clause-complete
-returns-clause-complete g c = λ s h all faultless.
-    completes_given _ s all c.into_config.result _ (c.in-Ok.ensures.ok ∙ ap Some c.into_config.ensures) (c.live_run.ensures.complete _ (c.configure.ensures.holds s h) all faultless)
+returns-clause-complete g c = λ s h all known faultless.
+    completes_given _ s all c.into_config.result _ (c.in-Ok.ensures.ok ∙ ap Some c.into_config.ensures) (c.live_run.ensures.complete _ (c.configure.ensures.holds s h) all known faultless)
 
 pub configure-requires : goal.configure-requires
 configure-requires g c = subst FitsCommand c.into_config.ensures c.in-Ok.ensures.fits

@@ -1,6 +1,6 @@
-use Rattle.std.proofs.Common.{◌≡◌, ap, inl, inr, List, Option, ℕ}
+use Rattle.std.proofs.Common.{◌≡◌, ap, inl, inr}
 use Rattle.std.specs.Result.{is_ok}
-use Rattle.live.proofs.TextRows.{AddsMark-shared, on_ok_both, put_adds}
+use Rattle.live.proofs.SharedRows.{AddsMark-shared, on_ok_both, put_adds}
 use Rattle.live.proofs.live_texts.put_shared.Goals as goal
 
 pub returns-clause-ok : goal.returns-clause-ok

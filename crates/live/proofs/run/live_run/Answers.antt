@@ -1,9 +1,5 @@
-use Rattle.std.proofs.Common.{◌≡◌, ◌+◌, ◌≤◌, ◌++◌, ◌∷◌, ◌∙◌, List, ℕ, [], Option, Some, refl, sym, ap, subst, arith}
-use Rattle.live.specs.Reader.{Gave, fresh}
-use Rattle.live.specs.Run.{Fails}
-use Rattle.live.specs.Session.{State, session}
-use Rattle.live.specs.Turn.{Holds}
-use Rattle.live.proofs.Running.{Running, Running-start, Running-line, Fails-line, Takes-line, Fails-next, Takes-next, Finishes-end, cause_line, cause_next, completes_err, completes_ok}
+use Rattle.std.proofs.Common.{◌∙◌, ℕ, sym, arith}
+use Rattle.live.proofs.Running.{Running-start, Running-line, Fails-line, Takes-line, Fails-next, Takes-next, Finishes-end, cause_line, cause_next, completes_err, completes_ok}
 use Rattle.live.proofs.run.live_run.Goals as goal
 
 pub run-init : goal.run-init
@@ -22,10 +18,10 @@ returns-in-Err-take_line-clause-taken g c =
     Takes-line _ _ _ _ _ _ _ _ _ c.run.invariant.0 _ _ _ (next.gave _ _ _ c.run.invariant.0.gave)
 
 pub returns-in-Err-take_line-clause-complete : goal.returns-in-Err-take_line-clause-complete
-returns-in-Err-take_line-clause-complete g c = λ s h all faultless.
+returns-in-Err-take_line-clause-complete g c = λ s h all known faultless.
     let next = rw c.in-Ok-Some.field-0-is at c.in-Ok-Some.ensures in
     let gave = rw (← c.deref.ensures.value) at (next.gave _ _ _ c.run.invariant.0.gave) in
-    completes_err _ _ _ _ _ _ _ _ _ (Fails-line _ _ _ _ _ _ _ _ _ c.run.invariant.0 _ _ _ gave _ _ _ c.in-Err-take_line.ensures.err s h all faultless.known)
+    completes_err _ _ _ _ _ _ _ _ _ (Fails-line _ _ _ _ _ _ _ _ _ c.run.invariant.0 _ _ _ gave _ _ _ c.in-Err-take_line.ensures.err s h all known)
     (cause_line _ _ _ _ _ _ c.in-Err-take_line.ensures.cause c.run.invariant.2) faultless.read faultless.written
 
 pub run-preserved : goal.run-preserved
@@ -48,9 +44,9 @@ returns-in-Ok-None-clause-taken g c =
     Takes-next _ _ _ _ _ _ _ _ _ c.run.invariant.0 _ _ (next.gave _ _ _ c.run.invariant.0.gave)
 
 pub returns-in-Ok-None-clause-complete : goal.returns-in-Ok-None-clause-complete
-returns-in-Ok-None-clause-complete g c = λ s h all faultless.
+returns-in-Ok-None-clause-complete g c = λ s h all known faultless.
     let next = rw c.in-Ok-None.field-0-is at c.in-Ok-None.ensures in
-    completes_ok s all _ _ _ _ _ faultless.known (Finishes-end _ _ _ _ _ _ _ _ _ c.run.invariant.0 _ _ (next.gave _ _ _ c.run.invariant.0.gave) next.answers.told s h)
+    completes_ok s all _ _ _ _ _ known (Finishes-end _ _ _ _ _ _ _ _ _ c.run.invariant.0 _ _ (next.gave _ _ _ c.run.invariant.0.gave) next.answers.told s h)
 
 pub returns-in-Err-clause-err : goal.returns-in-Err-clause-err
 returns-in-Err-clause-err g c =
@@ -61,8 +57,8 @@ returns-in-Err-clause-taken g c =
     Takes-next _ _ _ _ _ _ _ _ _ c.run.invariant.0 _ _ (c.in-Err.ensures.gave _ _ _ c.run.invariant.0.gave)
 
 pub returns-in-Err-clause-complete : goal.returns-in-Err-clause-complete
-returns-in-Err-clause-complete g c = λ s h all faultless.
-    let fails = Fails-next _ _ _ _ _ _ _ _ _ c.run.invariant.0 _ _ (c.in-Err.ensures.gave _ _ _ c.run.invariant.0.gave) ℕ c.in-Err.error _ _ c.in-Err.ensures.answers.told s h all faultless.known in
+returns-in-Err-clause-complete g c = λ s h all known faultless.
+    let fails = Fails-next _ _ _ _ _ _ _ _ _ c.run.invariant.0 _ _ (c.in-Err.ensures.gave _ _ _ c.run.invariant.0.gave) ℕ c.in-Err.error _ _ c.in-Err.ensures.answers.told s h all known in
     rw c.fault_of.ensures (completes_err _ _ _ _ _ _ _ _ _ fails (cause_next ℕ c.in-Err.error _ _ _ _ _ _ _ c.in-Err.ensures.answers.told c.run.invariant.1) faultless.read faultless.written)
 
 pub take_line-requires : goal.take_line-requires

@@ -1,4 +1,4 @@
-use Rattle.std.proofs.Common.{Global, Some, None, Ok, Err}
+use Rattle.std.proofs.Common.{Global, Some, Ok, Err}
 use Rattle.live.proofs.Gaves.{too_many}
 use Rattle.live.proofs.lines.Lines.next.Goals as goal
 

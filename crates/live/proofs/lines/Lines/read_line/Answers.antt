@@ -1,8 +1,8 @@
-use Rattle.std.proofs.Common.{◌≡◌, ◌+◌, ◌-◌, ◌++◌, ◌∷◌, ◌==◌, ◌∙◌, [], List, ℕ, Option, Some, None, Ok, false, true, length, length-take, nat_lt, refl, sym, ap, subst, arith}
+use Rattle.std.proofs.Common.{◌≡◌, ◌-◌, ◌++◌, ◌∷◌, ◌==◌, ◌∙◌, [], Ok, false, true, length, length-take, refl, sym, ap, subst, arith}
 use Rattle.live.specs.Lines.{last_line}
 use Rattle.live.specs.Pieces.{Moves}
-use Rattle.live.specs.Reader.{Gave, lines_after}
-use Rattle.live.proofs.Gaves.{Reading, not_idle, Gave-moved, Gave-end, Gave-line, Gave-read, moved_uncut, moved_length, after_end, empty_from, some_from}
+use Rattle.live.specs.Reader.{lines_after}
+use Rattle.live.proofs.Gaves.{not_idle, Gave-moved, Gave-end, Gave-line, Gave-read, moved_uncut, moved_length, after_end, empty_from, some_from}
 use Rattle.live.proofs.lines.Lines.read_line.Goals.{then-is_empty, else-is_empty}
 use Rattle.live.proofs.lines.Lines.read_line.Goals as goal
 

@@ -1,6 +1,6 @@
-use Rattle.std.proofs.Common.{arith, ap, ◌∙◌, subst, true, ◌≡◌, ◌++◌, take}
+use Rattle.std.proofs.Common.{arith, ap, ◌∙◌, ◌≡◌, ◌++◌, take}
 use Rattle.std.specs.List.{slice_range}
-use Rattle.live.specs.Pieces.{Moves, IsFirstNewline}
+use Rattle.live.specs.Pieces.{IsFirstNewline}
 use Rattle.live.proofs.Parts.{Moves-found}
 use Rattle.live.proofs.piece.Piece.move_line.Goals as goal
 

@@ -1,4 +1,4 @@
-use Rattle.std.proofs.Common.{refl, ap, subst, sym}
+use Rattle.std.proofs.Common.{ap}
 use Rattle.live.specs.Session.{turn, state_after_failure}
 use Rattle.live.proofs.Turns.{cause_event, fails_event, fails_mark, marks_cause, marks_leave, marks_no_flush, takes_event, takes_mark}
 use Rattle.live.proofs.session.Live.turn.Goals as goal
