@@ -1,5 +1,6 @@
 -- What a call on a new session does, and what stands where there was no memory for one.
-use Rattle.std.proofs.Common.{◌≡◌, ℕ, List, Option, Some, None, refl, sym, subst, inl, inr, arith}
+use Rattle.std.proofs.Common.{String, ◌≡◌, ℕ, List, Option, Some, None, refl, sym, subst, inl, inr, arith}
+use Rattle.std.specs.declared.alloc.Global.{Global}
 use Rattle.live.specs.declared.fault.LiveError.TheVariants.{OutOfMemory}
 use Rattle.live.specs.declared.fault.LiveError.{LiveError}
 use Rattle.live.specs.declared.session.Live.{Live}
