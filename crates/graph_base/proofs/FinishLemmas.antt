@@ -9,7 +9,7 @@ use Rattle.graph_base.specs.Edges.{HasEdge, IsInRange}
 use Rattle.graph_base.specs.Reach.{IsAcyclic, Reaches, itself, further}
 use Rattle.graph_base.specs.Finish.{IsBehindTargets, IsFinishOrder, Visits, none, known, fresh}
 use Rattle.graph_base.proofs.ReachLemmas.{kept_along, none_in}
-use Rattle.graph_base.proofs.TrailLemmas.{at_place, pushed_cases, pushed_old}
+use Rattle.graph_base.proofs.MarkLemmas.{at_place, pushed_cases, pushed_old}
 
 -- the first of a list, or one of the others
 pub contains_cases : (y : ℕ) (ys : List ℕ) (x : ℕ) → Contains (y ∷ ys) x → (y ≡ x) ⊎ Contains ys x

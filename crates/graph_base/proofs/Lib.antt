@@ -1,7 +1,10 @@
 pub mod EdgeListLemmas
 pub mod KeptLemmas
 pub mod ReachLemmas
+pub mod MarkLemmas
 pub mod TrailLemmas
+pub mod PathLemmas
+pub mod ClearLemmas
 pub mod SearchLemmas
 pub mod FinishLemmas
 pub mod WalkLemmas

@@ -1,32 +1,17 @@
 -- What a search finds, one edge after another.
-use Rattle.std.proofs.Common.{◌≡◌, ℕ, zero, suc, ◌+◌, ◌-◌, ◌<◌, ◌≤◌, ◌⊎◌, inl, inr, List, [], ◌∷◌, ◌++◌, Bool, true, false, cond, length, get_or, set, take, refl, sym, ap, ◌∙◌, subst, arith, get_or-set_same, get_or-set_other, length-set, add-one}
+use Rattle.std.proofs.Common.{◌≡◌, ℕ, zero, suc, ◌+◌, ◌<◌, ◌≤◌, inl, inr, List, [], ◌∷◌, ◌++◌, Bool, true, false, cond, length, get_or, set, take, refl, sym, ap, ◌∙◌, subst, arith, get_or-set_same, length-set, add-one}
 use Rattle.std.specs.Prelude.{replicate}
 use Rattle.std.specs.List.{Contains, count_by}
-use Rattle.std.proofs.lemmas.Bool.{cases_eq, cases_lt, false≢true}
-use Rattle.std.proofs.lemmas.List.{get_or_append_left, get_or_at, get_or_default, get_or_past, length_push, take_all, length-replicate, get_or-replicate}
+use Rattle.std.proofs.lemmas.Bool.{cases_eq, false≢true}
+use Rattle.std.proofs.lemmas.List.{get_or_at, get_or_default, length_push, take_all, length-replicate, get_or-replicate}
 use Rattle.std.proofs.lemmas.List.Elements.{Contains-append_left, Contains-push}
 use Rattle.std.proofs.lemmas.List.Folds.{sum_by-replicate}
-use Rattle.std.proofs.lemmas.List.Sums.{sum_by-set, count_by-le-length, fold_more}
+use Rattle.std.proofs.lemmas.List.Sums.{count_by-le-length, fold_more}
 use Rattle.graph_base.specs.Edges.{HasEdge, IsInRange, row}
-use Rattle.graph_base.specs.Reach.{Reaches, itself, IsPathBack}
-use Rattle.graph_base.specs.Trail.{Trail, IsTrail, IsFollowed, IsTraced, IsWhole, empty_trail, after_edge, after_edges, with_found}
+use Rattle.graph_base.specs.Reach.{Reaches, itself}
+use Rattle.graph_base.specs.Trail.{Trail, IsTrail, IsFollowed, IsWhole, empty_trail, after_edge, after_edges, with_found}
 use Rattle.graph_base.proofs.ReachLemmas.{reaches_edge, kept_along}
-
--- a place in a list that was pushed to is an old one or the last
-pub pushed_cases : (xs : List ℕ) (y k : ℕ) → k < length (xs ++ y ∷ []) → ((k < length xs) × (get_or (xs ++ y ∷ []) k 0 ≡ get_or xs k 0)) ⊎ ((k ≡ length xs) × (get_or (xs ++ y ∷ []) k 0 ≡ y))
-pushed_cases xs y k within = elim (cases_lt k (length xs)) [
-  | inl old ↦ inl (old, get_or_append_left xs (y ∷ []) 0 k old)
-  | inr new ↦
-      let last : k ≡ length xs = omega (arith, length_push xs y) in
-      inr (last, get_or_at xs y [] 0 k (sym last))
-]
-
-pub pushed_old : (xs : List ℕ) (y k : ℕ) → k < length xs → get_or (xs ++ y ∷ []) k 0 ≡ get_or xs k 0
-pushed_old xs y k old = get_or_append_left xs (y ∷ []) 0 k old
-
--- where a list has a number, whatever stands past its end
-pub at_place : (xs : List ℕ) (b : ℕ) (c : Contains xs b) → get_or xs c.0 0 ≡ b
-at_place xs b c = sym (get_or_default xs c.0 b 0 c.1) ∙ c.2
+use Rattle.graph_base.proofs.MarkLemmas.{at_place, counted_set, mark_cases, mark_kept, pushed_cases, pushed_old, unmarked_all}
 
 -- a later trail: what was found stays where it was
 pub record Grew (t u : Trail) : Type 0 where
@@ -43,24 +28,6 @@ grew_on t u v first then = record {
   same = λ k within. then.same k (omega (arith, first.longer)) ∙ first.same k within;
   marks = λ m is. then.marks m (first.marks m is);
 }
-
-pub mark_kept : (marks : List Bool) (b m : ℕ) → b < length marks → get_or marks m false ≡ true → get_or (set marks b true) m false ≡ true
-mark_kept marks b m within is = elim (cases_eq m b) [
-  | inl same ↦ subst (λ z. get_or (set marks b true) z false ≡ true) (sym same) (get_or-set_same marks b true false within)
-  | inr other ↦ get_or-set_other marks b m true false other ∙ is
-]
-
-pub mark_cases : (marks : List Bool) (b m : ℕ) → get_or (set marks b true) m false ≡ true → (m ≡ b) ⊎ (get_or marks m false ≡ true)
-mark_cases marks b m is = elim (cases_eq m b) [
-  | inl same ↦ inl same
-  | inr other ↦ inr (sym (get_or-set_other marks b m true false other) ∙ is)
-]
-
-pub counted_set : (marks : List Bool) (b : ℕ) → b < length marks → get_or marks b false ≡ false → count_by (λ m. m) (set marks b true) ≡ count_by (λ m. m) marks + 1
-counted_set marks b within is =
-    let sums = sum_by-set (λ m. cond m 1 0) marks b true false within in
-    let none : ◌≡◌ {A = ℕ} (cond (get_or marks b false) 1 0) 0 = ap (λ m. cond m 1 0) is in
-    omega (arith, sums, none)
 
 module _ (g : List (List ℕ)) (start place b : ℕ) (t : Trail) (old : IsTrail g start t) (there : place < length t.nodes) (edge : HasEdge g (get_or t.nodes place 0) b) (within : b < length g) where
   fresh_grew : Grew t (with_found place t b)
@@ -190,12 +157,6 @@ followed_more g start place t u there followed after_edge k b below edge =
           grew.marks b (followed k b before (subst (λ z. HasEdge g z b) (grew.same k (omega arith)) edge))
     ]
 
-pub unmarked_all : (n m : ℕ) → get_or (replicate n false) m false ≡ false
-unmarked_all n m = elim (cases_lt m n) [
-  | inl below ↦ get_or-replicate n m false false below
-  | inr past ↦ get_or_past (replicate n false) m false (omega (arith, length-replicate n false))
-]
-
 only_place : (k : ℕ) → k < 1 → ◌≡◌ {A = ℕ} 0 k
 only_place k below = omega arith
 
@@ -251,39 +212,6 @@ module _ (g : List (List ℕ)) (start : ℕ) (t : Trail) (whole : IsWhole g star
 
   pub reached_placed : (b : ℕ) → Reaches g start b → Contains t.nodes b
   reached_placed b r = whole.trail.placed b (reached_marks b r)
-
--- a path of links begins with its place
-pub traced_begun : (t : Trail) (place : ℕ) → IsTraced t (get_or t.nodes place 0 ∷ []) place place
-traced_begun t place = record { some = omega arith; first = refl; last_is = refl; steps = λ k below. absurd (omega arith) }
-
-pub traced_more : (t : Trail) (path : List ℕ) (place at link node : ℕ) → 0 < at → at < length t.nodes → link ≡ get_or t.links at 0 → node ≡ get_or t.nodes link 0 → IsTraced t path place at → IsTraced t (path ++ node ∷ []) place link
-traced_more t path place at link node positive within link_is node_is traced =
-    let some : 0 < length path = traced.some in
-    let long : length (path ++ node ∷ []) ≡ length path + 1 = length_push path node in
-    let new : (k : ℕ) → length path ≡ k → get_or (path ++ node ∷ []) k 0 ≡ node = get_or_at path node [] 0 in
-    record {
-      some = omega arith;
-      first = pushed_old path node 0 some ∙ traced.first;
-      last_is = new (length (path ++ node ∷ []) - 1) (omega arith) ∙ node_is;
-      steps = λ k below. elim (cases_lt (k + 1) (length path)) [
-        | inl old ↦
-            let step = traced.steps k old in
-            (step.0, step.1, step.2, pushed_old path node k (omega arith) ∙ step.3, pushed_old path node (k + 1) old ∙ step.4)
-        | inr last ↦
-            let here : k ≡ length path - 1 = omega arith in
-            (at, positive, within, pushed_old path node k (omega arith) ∙ ap (λ z. get_or path z 0) here ∙ traced.last_is, new (k + 1) (omega arith) ∙ node_is ∙ ap (λ z. get_or t.nodes z 0) link_is)
-      ];
-    }
-
-pub traced_back : (g : List (List ℕ)) (start : ℕ) (t : Trail) (path : List ℕ) (place end : ℕ) → IsTrail g start t → end ≡ get_or t.nodes place 0 → IsTraced t path place 0 → IsPathBack g path end start
-traced_back g start t path place end trail is traced = record {
-  some = traced.some;
-  first = traced.first ∙ sym is;
-  last = traced.last_is ∙ trail.begins;
-  leads_back = λ k below.
-      let step = traced.steps k below in
-      subst (λ z. HasEdge g z (get_or path k 0)) (sym step.4) (subst (λ z. HasEdge g (get_or t.nodes (get_or t.links step.0 0) 0) z) (sym step.3) (trail.linked step.0 step.1 step.2));
-}
 
 pub marks_noted : (place b : ℕ) (t : Trail) → length (after_edge place t b).marks ≡ length t.marks
 unfolding after_edge

@@ -29,6 +29,14 @@ after_edge place t node = if slice_index_or t.marks node false then t else with_
 abbrev pub after_edges : ℕ → Trail → List ℕ → Trail
 after_edges place t nodes = fold (after_edge place) t nodes
 
+-- the marks without those of some nodes
+abbrev pub without_marks : List Bool → List ℕ → List Bool
+without_marks marks nodes = fold (λ left node. slice_set left node false) marks nodes
+
+-- the trail after what was found is forgotten
+abbrev pub cleared : Trail → Trail
+cleared t = record { marks = without_marks t.marks t.nodes; nodes = []; links = [] }
+
 -- what is found is reached from the start, each node once, over the edge that its link names
 pub record IsTrail (g : List (List ℕ)) (start : ℕ) (t : Trail) : Type 0 where
   pub marks_long : length t.marks ≡ length g

@@ -1,15 +1,16 @@
-//! What a search has found so far: a list that only grows, with no recursion.
+//! What a search has found so far: a list that only grows, with no recursion. One trail can serve many
+//! searches, each of which costs no more than it finds.
 
 ghost use Rattle.std.specs.Prelude.{◌≡◌, ℕ, ◌<◌, length, slice_index, IfOk, OnOk, MatchOption};
-ghost use Rattle.std.specs.List.{Contains};
-ghost use Rattle.graph_base.specs.Trail.{empty_trail, after_edge, IsTraced};
+ghost use Rattle.std.specs.List.{All};
+ghost use Rattle.graph_base.specs.Trail.{after_edge, cleared, empty_trail, without_marks};
 
 use std::alloc::{AllocError, Global};
 use std::marker::Model;
 
 /// The nodes that were found, each with the place of the one that led to it.
 #[derive(Drop)]
-pub(crate) struct Trail {
+pub struct Trail {
     marks: Vec<bool>,
     nodes: Vec<u32>,
     links: Vec<usize>,
@@ -29,7 +30,7 @@ impl Model for Trail {
 
 impl Trail {
     /// Nothing is found yet, of so many nodes.
-    pub(crate) fn new(alloc: Global, count: u32) -> Result<Self, AllocError>
+    pub fn new(alloc: Global, count: u32) -> Result<Self, AllocError>
         ensures { IfOk result (λ trail. trail ≡ empty_trail count) }
     {
         let marks = vec![in alloc; false; count as usize]?;
@@ -61,6 +62,23 @@ impl Trail {
         ensures { result ≡ slice_index self.now.links place }
     {
         self.links[place]
+    }
+
+    /// The nodes in the order in which they were found.
+    pub fn nodes(&self) -> &[u32]
+        ensures { result.now ≡ self.now.nodes }
+    {
+        self.nodes.as_slice()
+    }
+
+    /// Forgets what was found. It looks at the nodes that were, and at no others.
+    pub fn clear(&mut self)
+        requires { All (λ node. node < length self.old.marks) self.old.nodes }
+        ensures { self.new ≡ cleared self.old }
+    {
+        take_marks(self.marks.as_mut_slice(), self.nodes.as_slice());
+        self.nodes.clear();
+        self.links.clear();
     }
 
     /// Of each node, whether it was found.
@@ -97,5 +115,15 @@ impl Trail {
             }
         }
         None
+    }
+}
+
+// Takes the marks of some nodes back.
+fn take_marks(marks: &mut [bool], nodes: &[u32])
+    requires { All (λ node. node < length marks.old) nodes.now }
+    ensures { marks.new ≡ without_marks marks.old nodes.now }
+{
+    for node in nodes {
+        marks[*node as usize] = false;
     }
 }

@@ -10,7 +10,7 @@ use Rattle.std.proofs.lemmas.List.Sums.{count_by-le-length}
 use Rattle.graph_base.specs.Edges.{HasEdge, IsInRange, row}
 use Rattle.graph_base.specs.Reach.{Reaches, itself}
 use Rattle.graph_base.proofs.ReachLemmas.{kept_along, none_in, reaches_edge}
-use Rattle.graph_base.proofs.TrailLemmas.{at_place, counted_set, mark_cases, mark_kept, pushed_cases, pushed_old, unmarked_all}
+use Rattle.graph_base.proofs.MarkLemmas.{at_place, counted_set, mark_cases, mark_kept, pushed_cases, pushed_old, unmarked_all}
 use Rattle.pm_cargo.specs.Trail.{IsFollowed, IsTrail, IsWhole, Trail, cleared, empty_trail, without_marks, with_all_met, with_found, with_met}
 use Rattle.pm_cargo.proofs.ListLemmas.{cons_cases, contains_here, contains_later}
 
