@@ -1,28 +1,26 @@
-//! A program to be timed: it reads a document of `cargo metadata` and writes it again, or builds a graph of
-//! crates. The words of the command line say which.
+//! A program to be timed: it reads a document of `cargo metadata` and writes it again, builds a graph of
+//! crates, or partitions files into sets. The words of the command line say which.
 #![tactic(auto)]
 
 mod documents;
 mod graphs;
+mod partition;
 
+use crate::documents::Step;
 use crate::graphs::{Kind, build};
+use crate::partition::partition;
 use std::process::ExitCode;
 use std::{env, io};
 
-const USAGE: &str = "usage: bench metadata | bench graphs KIND";
+const USAGE: &str = "usage: bench metadata STEP | bench graphs KIND | bench partition SETS TIMES";
 
 fn main(rt: HostRuntime) -> io::Result<ExitCode> {
     let mut words = env::args(&rt)?.skip(1);
-    let what = words.next();
+    let (what, first, second) = (words.next(), words.next(), words.next());
     match what.as_ref().map(|word| word.as_str()) {
-        Some("metadata") => documents::run(&rt),
-        Some("graphs") => {
-            let kind = words.next();
-            run_graphs(
-                &rt,
-                kind.as_ref().and_then(|word| Kind::of_word(word.as_str())),
-            )
-        }
+        Some("metadata") => run_metadata(&rt, first),
+        Some("graphs") => run_graphs(&rt, first),
+        Some("partition") => run_partition(&rt, first, second),
         _ => refuse(&rt),
     }
 }
@@ -32,14 +30,51 @@ fn refuse<R: Eprint + AllocGlobal>(rt: &R) -> io::Result<ExitCode> {
     Ok(ExitCode::from(2))
 }
 
+fn run_metadata<R: Input + Print + Eprint + AllocGlobal>(
+    rt: &R,
+    word: Option<String>,
+) -> io::Result<ExitCode> {
+    match word.as_ref().and_then(|word| Step::of_word(word.as_str())) {
+        Some(step) => documents::run(rt, step),
+        None => refuse(rt),
+    }
+}
+
 /// Builds a graph, and prints how many crates its first one reaches.
-fn run_graphs<R: Print + Eprint + AllocGlobal>(rt: &R, kind: Option<Kind>) -> io::Result<ExitCode> {
-    let Some(kind) = kind else {
-        return refuse(rt);
-    };
-    match build(rt.alloc(), kind) {
-        Ok(reached) => {
-            println!(rt; "{reached}")?;
+fn run_graphs<R: Print + Eprint + AllocGlobal>(
+    rt: &R,
+    word: Option<String>,
+) -> io::Result<ExitCode> {
+    match word.as_ref().and_then(|word| Kind::of_word(word.as_str())) {
+        Some(kind) => report(rt, build(rt.alloc(), kind)),
+        None => refuse(rt),
+    }
+}
+
+/// Partitions files, and prints how many the last set takes.
+fn run_partition<R: Print + Eprint + AllocGlobal>(
+    rt: &R,
+    sets: Option<String>,
+    times: Option<String>,
+) -> io::Result<ExitCode> {
+    match (number_of(sets), number_of(times)) {
+        (Some(sets), Some(times)) => report(rt, partition(rt.alloc(), sets, times)),
+        _ => refuse(rt),
+    }
+}
+
+fn number_of(word: Option<String>) -> Option<u32> {
+    word.and_then(|word| word.as_str().parse::<u32>().ok())
+}
+
+/// Prints a number, or an error.
+fn report<R: Print + Eprint + AllocGlobal>(
+    rt: &R,
+    number: anyhow::Result<usize>,
+) -> io::Result<ExitCode> {
+    match number {
+        Ok(number) => {
+            println!(rt; "{number}")?;
             Ok(ExitCode::from(0))
         }
         Err(error) => {
