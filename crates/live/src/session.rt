@@ -84,6 +84,14 @@ impl Live {
         self.config = config;
     }
 
+    /// The configuration. A changed one can be given to `configure`.
+    pub fn config(&self) -> &LiveConfig
+        ensures config { result.now ≡ self.now.config }
+        ensures fits { Fits result.now }
+    {
+        &self.config
+    }
+
     /// Whether an earlier flush was refused. No event is taken any more then.
     pub fn ended(&self) -> bool
         ensures { IsTrue result ↔ HasEnded self.now }
@@ -125,8 +133,7 @@ impl Live {
         ensures limit { result ≡ self.now.config.limits.bytes }
         ensures small { result ≤ 2 ^ 30 }
     {
-        let _ = &self.config;
-        self.config.limits.bytes
+        self.config().limits.bytes
     }
 
     /// Takes one event. A flush that is refused, or whose page was not written whole, ends the session.
