@@ -11,7 +11,7 @@ use Rattle.crate_graph.specs.declared.workspace_data.CrateWorkspaceData.{CrateWo
 use Rattle.input_db.specs.Identity.{HasCleanIdentity, HasCleanInput, full_identity, input_eq, root_identity, unique_eq}
 use Rattle.input_db.specs.declared.crate_input.CrateInput.{CrateInput}
 use Rattle.input_db.specs.declared.crate_input.UniqueCrateData.{UniqueCrateData}
-use Rattle.input_db.specs.declared.durability.Durability.{Durability}
+use Rattle.source_files.specs.declared.durability.Durability.{Durability}
 
 -- the equality of crate data is that of its content, for data with clean paths
 abbrev pub ComparesCrates : (CrateData ℕ → CrateData ℕ → Bool) → Type 0

@@ -8,11 +8,11 @@ use Rattle.std.specs.Option.{option_map, option_or}
 use Rattle.input_db.specs.Applied.{with_given_root, with_members, with_roots_from}
 use Rattle.input_db.specs.Change.{place_after, place_given, root_after, root_given}
 use Rattle.input_db.specs.Database.{Database, with_files}
-use Rattle.input_db.specs.Files.{Held, file_root_of, root_of, stored_place, with_file_root}
-use Rattle.input_db.specs.SourceRoot.{files_in, has_file, root_durability}
-use Rattle.input_db.specs.declared.durability.Durability.{Durability}
-use Rattle.input_db.specs.declared.source_root.SourceRoot.{SourceRoot}
-use Rattle.input_db.proofs.Entries.{get_set}
+use Rattle.source_files.specs.Files.{Held, file_root_of, root_of, stored_place, with_file_root}
+use Rattle.source_files.specs.SourceRoot.{files_in, has_file, root_durability}
+use Rattle.source_files.specs.declared.durability.Durability.{Durability}
+use Rattle.source_files.specs.declared.source_root.SourceRoot.{SourceRoot}
+use Rattle.source_files.proofs.Entries.{get_set}
 
 shift : (n k : ℕ) → suc n + k ≡ n + suc k
 shift n k = omega arith

@@ -2,8 +2,6 @@ mod Beside
 mod ChangedTexts
 mod ContentLaws
 mod Contents
-mod Copies
-mod Entries
 mod Equality
 mod GivenRoots
 mod IdentityLaws

@@ -23,7 +23,7 @@ use Rattle.input_db.specs.Identity.{Id, full_identity, data_of, number_in, root_
 use Rattle.input_db.specs.FinishSteps.{Progress, finish, finish_crate, is_first_of_root, progress_after}
 use Rattle.input_db.specs.FinishSteps.{initial_progress, with_put_crate}
 use Rattle.input_db.specs.SetInDb.{crate_at}
-use Rattle.input_db.specs.declared.durability.Durability.TheVariants.{Medium}
+use Rattle.source_files.specs.declared.durability.Durability.TheVariants.{Medium}
 use Rattle.input_db.proofs.Run.{IsRun, IsStable, before, final_numbers}
 
 -- the crate of a number is finished

@@ -26,7 +26,7 @@ use Rattle.input_db.specs.SetInDb.{HaveIdentities, HaveOwnNumbers, crate_at, fir
 use Rattle.input_db.specs.SetInDb.{number_at}
 use Rattle.input_db.specs.declared.crate_input.CrateInput.{CrateInput}
 use Rattle.input_db.specs.declared.crate_input.UniqueCrateData.{UniqueCrateData}
-use Rattle.input_db.specs.declared.durability.Durability.TheVariants.{Medium}
+use Rattle.source_files.specs.declared.durability.Durability.TheVariants.{Medium}
 use Rattle.crate_graph.proofs.ExtendLemmas.{crate_edge}
 use Rattle.input_db.proofs.Equality.{input_itself}
 use Rattle.input_db.proofs.PlaceLemmas.{of_place, one_more}

@@ -15,7 +15,7 @@ use Rattle.input_db.specs.Identity.{named_in, names_of}
 use Rattle.input_db.specs.Identity.{full_identity, root_identity}
 use Rattle.input_db.specs.FinishSteps.{progress_after, with_new_list}
 use Rattle.input_db.specs.SetInDb.{KeepsFiles}
-use Rattle.input_db.specs.declared.durability.Durability.TheVariants.{Medium}
+use Rattle.source_files.specs.declared.durability.Durability.TheVariants.{Medium}
 use Rattle.input_db.proofs.KnownLemmas.{files-progress_after, library-progress_after, local-progress_after, nonce-progress_after}
 use Rattle.input_db.proofs.RunLemmas.{long}
 

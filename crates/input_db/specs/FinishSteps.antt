@@ -11,7 +11,7 @@ use Rattle.input_db.specs.Identity.{Id, crate_for, identity_of, input_of, number
 use Rattle.input_db.specs.SetInDb.{IsSetInDb, listed_crates, with_member}
 use Rattle.input_db.specs.declared.crate_input.CrateInput.{CrateInput}
 use Rattle.input_db.specs.declared.crate_input.UniqueCrateData.{UniqueCrateData}
-use Rattle.input_db.specs.declared.durability.Durability.TheVariants.{Medium}
+use Rattle.source_files.specs.declared.durability.Durability.TheVariants.{Medium}
 
 -- the crates of a graph that are finished
 pub record FinishedCrates : Type 0 where

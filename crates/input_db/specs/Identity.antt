@@ -21,7 +21,7 @@ use Rattle.input_db.specs.contracts.crate_input.UniqueCrateDataPartialEq.TheImpl
 use Rattle.input_db.specs.contracts.crate_input.CrateInputPartialEq.TheImpl as inputs
 use Rattle.input_db.specs.declared.crate_input.CrateInput.{CrateInput}
 use Rattle.input_db.specs.declared.crate_input.UniqueCrateData.{UniqueCrateData}
-use Rattle.input_db.specs.declared.durability.Durability.TheVariants.{Medium}
+use Rattle.source_files.specs.declared.durability.Durability.TheVariants.{Medium}
 
 -- the `==` of identities: true exactly of the same root file with the same data and atoms, as the laws of this crate say
 abbrev pub unique_eq : UniqueCrateData → UniqueCrateData → Bool

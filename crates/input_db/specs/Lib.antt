@@ -1,10 +1,7 @@
 pub mod Applied
 pub mod Change
 pub mod Database
-pub mod EditionedFileId
-pub mod Files
 pub mod Identity
 pub mod SetInDb
 pub mod FinishSteps
 pub mod Queries
-pub mod SourceRoot

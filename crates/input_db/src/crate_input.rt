@@ -2,9 +2,9 @@
 
 ghost use Rattle.std.specs.Prelude.{◌≡◌};
 
-use crate::durability::Durability;
 use base_text::{Boxed, CfgOptions, FileId, TryClone};
 use crate_graph::{CrateData, CrateWorkspaceData, Dependency, Env, ExtraCrateData, Shared};
+use source_files::Durability;
 use std::alloc::{AllocError, Global};
 use std::marker::Model;
 

@@ -6,14 +6,12 @@ ghost use Rattle.input_db.specs.Database.{empty_database, writes_after};
 
 use crate::crate_input::{Crate, CrateInput, UniqueCrateData};
 use crate::crates_map::CratesMap;
-use crate::durability::Durability;
-use crate::files::Files;
-use crate::inputs::{FileSourceRootInput, FileText, SourceRootInput};
-use crate::nonce::Nonce;
-use crate::roots::{LibraryRoots, LocalRoots};
 use crate::source_database::SourceDatabase;
-use crate::source_root::{SourceRoot, SourceRootId};
 use base_text::{FileId, Items};
+use source_files::{
+    Durability, FileSourceRootInput, FileText, Files, LibraryRoots, LocalRoots, Nonce, SourceRoot,
+    SourceRootId, SourceRootInput,
+};
 use std::alloc::{AllocError, Global};
 use std::collections::BTreeSet;
 use std::marker::Model;

@@ -1,24 +1,15 @@
 //! Laws that users of a database rest on. Each is a function that does nothing: its contract is the law.
 
-ghost use Rattle.std.specs.Prelude.{◌≡◌, ◌↔◌, ◌&&◌, ℕ, List, true};
+ghost use Rattle.std.specs.Prelude.{◌≡◌, ◌↔◌, ℕ, List, true};
 ghost use Rattle.std.specs.BTreeMap as tree;
-ghost use Rattle.std.specs.Bool.{beq};
 ghost use Rattle.std.specs.declared.cmp.Ordering.{Ordering};
-ghost use Rattle.base_values.specs.Equality.{IsContentEquality};
-ghost use Rattle.vfs_sets.specs.FileSet.{files_eq};
 ghost use Rattle.crate_graph.specs.declared.builder.CrateBuilder.{CrateBuilder};
 ghost use Rattle.input_db.specs.Database.{Database};
 ghost use Rattle.input_db.specs.FinishSteps.{IsSetInSteps};
 ghost use Rattle.input_db.specs.Identity.{Id, HasCleanIdentity, HasCleanInput, input_eq, unique_eq};
 ghost use Rattle.input_db.specs.SetInDb.{HaveOwnNumbers};
-ghost use Rattle.input_db.specs.SourceRoot.{set_of_root};
 ghost use Rattle.input_db.specs.declared.crate_input.CrateInput.{CrateInput};
 ghost use Rattle.input_db.specs.declared.crate_input.UniqueCrateData.{UniqueCrateData};
-ghost use Rattle.input_db.specs.declared.source_root.SourceRoot.{SourceRoot};
-
-use crate::durability::Durability;
-use crate::nonce::Nonce;
-use crate::source_root::SourceRoot;
 
 /// Two identities are equal exactly where they are of one root file, and both have the same data and the
 /// same atoms or neither has any. The paths of a table's identities are clean (`CratesMap::len`).
@@ -36,7 +27,7 @@ pub fn equality_of_inputs()
     crate_graph::laws::equality_of_extra_data_is_content();
     crate_graph::laws::equality_of_workspace_data_is_content();
     crate_graph::laws::equality_of_environments_is_content();
-    equality_of_durabilities();
+    source_files::laws::equality_of_durabilities();
 }
 
 /// A graph that was set, and whose crates have each a number of its own, is set again: the database is as it
@@ -46,20 +37,4 @@ pub fn setting_again()
         (ids again : tree.BTreeMap Id ℕ) (first : IsSetInSteps cmp crates old mid ids)
         → IsSetInSteps cmp crates mid new again
         → HaveOwnNumbers first.set.order first.set.numbers → new ≡ mid }
-{}
-
-/// Two durabilities are equal exactly where they are one.
-pub fn equality_of_durabilities()
-    ensures { IsContentEquality ⟦<Durability as PartialEq>⟧.eq }
-{}
-
-/// Two nonces are equal exactly where their numbers are.
-pub fn equality_of_nonces()
-    ensures { IsContentEquality ⟦<Nonce as PartialEq>⟧.eq }
-{}
-
-/// Two source roots are equal exactly where both or neither is a library, and their sets of files are equal.
-pub fn equality_of_source_roots()
-    ensures { (x y : SourceRoot) → ⟦<SourceRoot as PartialEq>⟧.eq x y
-        ≡ (beq x.is_library y.is_library && files_eq (set_of_root x) (set_of_root y)) }
 {}

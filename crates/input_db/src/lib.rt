@@ -6,35 +6,25 @@ mod applying;
 pub mod change;
 pub mod crate_input;
 pub mod crates_map;
-pub mod durability;
-pub mod editioned_file_id;
-pub mod files;
 pub mod input_db;
-pub mod inputs;
 pub mod laws;
 pub mod lowering;
-pub mod nonce;
 pub mod queries;
-pub mod roots;
 pub mod source_database;
-pub mod source_root;
 
 pub use base_text::Boxed;
 pub use change::FileChange;
 pub use crate_input::{BuiltCrateData, BuiltDependency, Crate, CrateInput, UniqueCrateData};
 pub use crates_map::CratesMap;
-pub use durability::Durability;
-pub use editioned_file_id::EditionedFileId;
-pub use files::Files;
 pub use indexmap::{IndexMap as FxIndexMap, IndexSet as FxIndexSet};
 pub use input_db::InputDb;
-pub use inputs::{FileSourceRootInput, FileText, SourceRootInput};
 pub use lowering::{CratesIdMap, set_in_db};
-pub use nonce::Nonce;
 pub use queries::{all_crates, set_all_crates_with_durability};
-pub use roots::{LibraryRoots, LocalRoots};
 pub use source_database::SourceDatabase;
-pub use source_root::{SourceRoot, SourceRootId};
+pub use source_files::{
+    Durability, EditionedFileId, FileSourceRootInput, FileText, Files, LibraryRoots, LocalRoots,
+    Nonce, SourceRoot, SourceRootId, SourceRootInput,
+};
 
 /// How many texts of files a language server keeps at hand. Nothing here is dropped by it.
 pub const DEFAULT_FILE_TEXT_LRU_CAP: u16 = 16;

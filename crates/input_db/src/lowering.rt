@@ -14,11 +14,11 @@ mod finished;
 mod renamed;
 
 use crate::crate_input::Crate;
-use crate::durability::Durability;
 use crate::lowering::finished::FinishedCrates;
 use crate::lowering::renamed::{input_of, unique_of};
 use crate::source_database::SourceDatabase;
 use crate_graph::{CrateBuilder, CrateBuilderId, CrateGraphBuilder};
+use source_files::Durability;
 use std::alloc::{AllocError, Global};
 use std::collections::BTreeMap;
 

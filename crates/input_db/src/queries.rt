@@ -5,16 +5,15 @@ ghost use Rattle.std.specs.List.{All, Contains};
 ghost use Rattle.std.specs.Option.{option_map};
 ghost use Rattle.graph_base.specs.Reach.{Reaches};
 ghost use Rattle.input_db.specs.Database.{with_crate_list};
-ghost use Rattle.input_db.specs.EditionedFileId.{edition_of, file_of};
+ghost use Rattle.source_files.specs.EditionedFileId.{edition_of, file_of};
 ghost use Rattle.input_db.specs.Identity.{crate_edges, input_in};
 ghost use Rattle.input_db.specs.Queries.{IsWithItselfFirst, others};
 
 use crate::crate_input::{BuiltCrateData, Crate};
-use crate::durability::Durability;
-use crate::editioned_file_id::EditionedFileId;
 use crate::source_database::SourceDatabase;
 use base_text::CfgOptions;
 use crate_graph::{CrateWorkspaceData, Env, ExtraCrateData};
+use source_files::{Durability, EditionedFileId};
 use std::alloc::{AllocError, Global};
 
 /// The crates that there are now, in the order in which they were stored. `set_in_db` stores each after

@@ -14,14 +14,14 @@ use Rattle.vfs_sets.specs.Probes.{CountsPlacing}
 use Rattle.input_db.specs.Applied.{applied, with_roots_if_any}
 use Rattle.input_db.specs.Change.{IsChanged, SetsCrates, fits_file, is_in_some, is_root, keeps_root, local_after, library_after, place_after, place_given, root_after, root_given, text_after, text_given}
 use Rattle.input_db.specs.Database.{Database}
-use Rattle.input_db.specs.Files.{Held, durability_of_file, file_root_of, root_of, stored_place, stored_text, text_of}
+use Rattle.source_files.specs.Files.{Held, durability_of_file, file_root_of, root_of, stored_place, stored_text, text_of}
 use Rattle.input_db.specs.Identity.{Id}
-use Rattle.input_db.specs.SourceRoot.{has_file, root_durability}
+use Rattle.source_files.specs.SourceRoot.{has_file, root_durability}
 use Rattle.input_db.specs.declared.change.FileChange.{FileChange}
-use Rattle.input_db.specs.declared.durability.Durability.{Durability}
-use Rattle.input_db.specs.declared.inputs.FileSourceRootInput.{FileSourceRootInput}
-use Rattle.input_db.specs.declared.inputs.SourceRootInput.{SourceRootInput}
-use Rattle.input_db.specs.declared.source_root.SourceRoot.{SourceRoot}
+use Rattle.source_files.specs.declared.durability.Durability.{Durability}
+use Rattle.source_files.specs.declared.inputs.FileSourceRootInput.{FileSourceRootInput}
+use Rattle.source_files.specs.declared.inputs.SourceRootInput.{SourceRootInput}
+use Rattle.source_files.specs.declared.source_root.SourceRoot.{SourceRoot}
 use Rattle.live.specs.declared.session.Live.{Live}
 use Rattle.live.specs.Refresh.{GivesChanges, GivesRoots, KeepsCrates, Refreshes, changes_taken, local_roots, text_left}
 

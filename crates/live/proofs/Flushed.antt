@@ -10,9 +10,9 @@ use Rattle.vfs_core.specs.Files.{Follows, existing_files, paths_of}
 use Rattle.vfs_core.specs.Marks.{live_files, live_text}
 use Rattle.vfs_core.specs.Texts.{BringsTo, all_pass}
 use Rattle.vfs_core.specs.VfsPath.{PathContent, vfs_path_eq}
-use Rattle.input_db.specs.Files.{root_of}
-use Rattle.input_db.specs.declared.durability.Durability.TheVariants.{Low}
-use Rattle.input_db.specs.declared.inputs.SourceRootInput.{SourceRootInput}
+use Rattle.source_files.specs.Files.{root_of}
+use Rattle.source_files.specs.declared.durability.Durability.TheVariants.{Low}
+use Rattle.source_files.specs.declared.inputs.SourceRootInput.{SourceRootInput}
 use Rattle.live.specs.declared.session.Live.{Live}
 use Rattle.live.specs.declared.fault.LiveError.{LiveError}
 use Rattle.live.specs.declared.fault.LiveError.TheVariants.{OutOfMemory, Usage, ReadFault, WriteFault, Script, TooMany}

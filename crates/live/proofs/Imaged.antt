@@ -19,12 +19,12 @@ use Rattle.vfs_core.specs.VfsPath.{PathContent}
 use Rattle.vfs_sets.specs.FileSet as sets
 use Rattle.input_db.specs.Change.{IsChanged, fits_file, text_given}
 use Rattle.input_db.specs.Database.{Database}
-use Rattle.input_db.specs.Files.{durability_of_file, file_root_of, root_of, stored_place, stored_text, text_of}
-use Rattle.input_db.specs.SourceRoot.{files_in, has_file, local_root, set_of_root}
-use Rattle.input_db.specs.declared.durability.Durability.TheVariants.{Low}
+use Rattle.source_files.specs.Files.{durability_of_file, file_root_of, root_of, stored_place, stored_text, text_of}
+use Rattle.source_files.specs.SourceRoot.{files_in, has_file, local_root, set_of_root}
+use Rattle.source_files.specs.declared.durability.Durability.TheVariants.{Low}
 use Rattle.input_db.specs.declared.change.FileChange.{FileChange}
-use Rattle.input_db.specs.declared.inputs.FileText.{FileText}
-use Rattle.input_db.specs.declared.source_root.SourceRoot.{SourceRoot}
+use Rattle.source_files.specs.declared.inputs.FileText.{FileText}
+use Rattle.source_files.specs.declared.source_root.SourceRoot.{SourceRoot}
 use Rattle.live.specs.declared.session.Live.{Live}
 use Rattle.live.specs.Page.{numbers_listed, page, page_data, page_of, paths_shown, roots_listed, set_data, set_shown, sorted_texts}
 use Rattle.live.specs.Refresh.{Refreshes, changes_taken, local_roots}

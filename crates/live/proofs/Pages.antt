@@ -7,7 +7,7 @@ use Rattle.serde_json.specs.View.{items_of, items_view, view}
 use Rattle.serde_json.specs.Written.{compact_text, has_float, items_have_float}
 use Rattle.serde_json.specs.declared.value.Value.{Value}
 use Rattle.input_db.specs.Database.{Database}
-use Rattle.input_db.specs.declared.source_root.SourceRoot.{SourceRoot}
+use Rattle.source_files.specs.declared.source_root.SourceRoot.{SourceRoot}
 use Rattle.live.specs.Page.{Flush, page, flush_paths, page_data, page_of, paths_shown, roots_listed, set_data, set_shown, sorted_texts, texts_data}
 
 -- strings are the data of their texts

@@ -11,8 +11,8 @@ use Rattle.vfs_sets.specs.FileSet as sets
 use Rattle.vfs_sets.specs.Partition.{IsPartition}
 use Rattle.input_db.specs.Change.{fits, fits_file}
 use Rattle.input_db.specs.declared.change.FileChange.{FileChange}
-use Rattle.input_db.specs.Files.{Held}
-use Rattle.input_db.specs.declared.source_root.SourceRoot.{SourceRoot}
+use Rattle.source_files.specs.Files.{Held}
+use Rattle.source_files.specs.declared.source_root.SourceRoot.{SourceRoot}
 use Rattle.live.specs.Refresh.{changes_taken, local_roots, text_if, text_left}
 use Rattle.live.proofs.Sets.{one_set}
 

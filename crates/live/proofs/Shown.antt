@@ -9,10 +9,10 @@ use Rattle.serde_json.specs.declared.value.Value.{Value}
 use Rattle.vfs_core.specs.VfsPath.{PathContent}
 use Rattle.vfs_sets.specs.FileSet.{path_of}
 use Rattle.input_db.specs.Database.{Database}
-use Rattle.input_db.specs.Files.{root_of}
-use Rattle.input_db.specs.SourceRoot.{set_of_root}
-use Rattle.input_db.specs.declared.inputs.SourceRootInput.{SourceRootInput}
-use Rattle.input_db.specs.declared.source_root.SourceRoot.{SourceRoot}
+use Rattle.source_files.specs.Files.{root_of}
+use Rattle.source_files.specs.SourceRoot.{set_of_root}
+use Rattle.source_files.specs.declared.inputs.SourceRootInput.{SourceRootInput}
+use Rattle.source_files.specs.declared.source_root.SourceRoot.{SourceRoot}
 use Rattle.live.specs.Page.{path_shown, root_shown, set_shown}
 
 module _ {X Y : Type 0} (h : X → Option Y) (xs : List X) (x : X) where

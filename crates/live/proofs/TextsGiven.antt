@@ -9,8 +9,8 @@ use Rattle.vfs_core.specs.declared.changed_file.Change.TheVariants.{Create, Modi
 use Rattle.vfs_core.specs.declared.changed_file.ChangedFile.{ChangedFile}
 use Rattle.vfs_core.specs.Texts.{all_pass, contents_left, passes}
 use Rattle.input_db.specs.Change.{fits_file, text_given}
-use Rattle.input_db.specs.Files.{Held}
-use Rattle.input_db.specs.declared.source_root.SourceRoot.{SourceRoot}
+use Rattle.source_files.specs.Files.{Held}
+use Rattle.source_files.specs.declared.source_root.SourceRoot.{SourceRoot}
 use Rattle.live.specs.Refresh.{changes_taken, text_left}
 use Rattle.live.proofs.Refreshed.{taken-split}
 

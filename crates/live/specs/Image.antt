@@ -7,12 +7,12 @@ use Rattle.vfs_core.specs.Files.{Files, existing_files}
 use Rattle.vfs_core.specs.VfsPath.{PathContent, vfs_path_cmp}
 use Rattle.vfs_sets.specs.FileSet.{path_of}
 use Rattle.input_db.specs.Database.{Database}
-use Rattle.input_db.specs.Files.{file_root_of, root_of, stored_place, text_of}
-use Rattle.input_db.specs.SourceRoot.{files_in, set_of_root}
-use Rattle.input_db.specs.declared.durability.Durability.{Durability}
-use Rattle.input_db.specs.declared.durability.Durability.TheVariants.{Low}
-use Rattle.input_db.specs.declared.inputs.FileSourceRootInput.{FileSourceRootInput}
-use Rattle.input_db.specs.declared.inputs.SourceRootInput.{SourceRootInput}
+use Rattle.source_files.specs.Files.{file_root_of, root_of, stored_place, text_of}
+use Rattle.source_files.specs.SourceRoot.{files_in, set_of_root}
+use Rattle.source_files.specs.declared.durability.Durability.{Durability}
+use Rattle.source_files.specs.declared.durability.Durability.TheVariants.{Low}
+use Rattle.source_files.specs.declared.inputs.FileSourceRootInput.{FileSourceRootInput}
+use Rattle.source_files.specs.declared.inputs.SourceRootInput.{SourceRootInput}
 use Rattle.live.specs.Page.{Flush, numbers_listed}
 
 -- a source root: whether it is a library, how durable it is, and its paths in order

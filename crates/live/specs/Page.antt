@@ -10,9 +10,9 @@ use Rattle.std.specs.List.{filter_map}
 use Rattle.std.specs.Option.{option_map}
 use Rattle.vfs_sets.specs.FileSet.{path_of}
 use Rattle.input_db.specs.Database.{Database}
-use Rattle.input_db.specs.Files.{root_of}
-use Rattle.input_db.specs.SourceRoot.{files_in, set_of_root}
-use Rattle.input_db.specs.declared.source_root.SourceRoot.{SourceRoot}
+use Rattle.source_files.specs.Files.{root_of}
+use Rattle.source_files.specs.SourceRoot.{files_in, set_of_root}
+use Rattle.source_files.specs.declared.source_root.SourceRoot.{SourceRoot}
 use Rattle.vfs_core.specs.VfsPath.{PathContent}
 
 -- a list of texts

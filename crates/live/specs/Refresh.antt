@@ -13,10 +13,10 @@ use Rattle.vfs_sets.specs.Partition.{IsPartition}
 use Rattle.vfs_sets.specs.Probes.{CountsPlacing}
 use Rattle.input_db.specs.Change.{IsChanged, fits_file}
 use Rattle.input_db.specs.Database.{Database}
-use Rattle.input_db.specs.Files.{Held}
-use Rattle.input_db.specs.SourceRoot.{local_root}
+use Rattle.source_files.specs.Files.{Held}
+use Rattle.source_files.specs.SourceRoot.{local_root}
 use Rattle.input_db.specs.declared.change.FileChange.{FileChange}
-use Rattle.input_db.specs.declared.source_root.SourceRoot.{SourceRoot}
+use Rattle.source_files.specs.declared.source_root.SourceRoot.{SourceRoot}
 use Rattle.live.specs.declared.session.Live.{Live}
 
 -- the text of bytes, where they are one

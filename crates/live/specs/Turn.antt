@@ -7,7 +7,7 @@ use Rattle.vfs_core.specs.Texts.{BringsTo, all_pass}
 use Rattle.vfs_core.specs.Files.{existing_files}
 use Rattle.vfs_sets.specs.Probes.{CountsPlacing, RaisesAtMost, most_probes}
 use Rattle.input_db.specs.Database.{Database}
-use Rattle.input_db.specs.Files.{text_of}
+use Rattle.source_files.specs.Files.{text_of}
 use Rattle.live.specs.declared.session.Live.{Live}
 use Rattle.live.specs.declared.event.Event.{Event}
 use Rattle.live.specs.declared.event.Event.TheVariants.{Flush as FlushEvent}

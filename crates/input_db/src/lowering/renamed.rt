@@ -8,9 +8,9 @@ ghost use Rattle.crate_graph.specs.Laws.{renamed_dependency};
 ghost use Rattle.input_db.specs.Identity.{full_identity, data_of, input_of, number_in, root_identity};
 
 use crate::crate_input::{BuiltCrateData, BuiltDependency, Crate, CrateInput, UniqueCrateData};
-use crate::durability::Durability;
 use base_text::{Boxed, Items, TryClone};
 use crate_graph::{CrateBuilder, DependencyBuilder};
+use source_files::Durability;
 use std::alloc::{AllocError, Global};
 
 // A dependency by its number in the database.

@@ -1,5 +1,5 @@
 use Rattle.std.proofs.Common.{◌∙◌, ap, is_some, sym}
-use Rattle.input_db.specs.Files.{root_of}
+use Rattle.source_files.specs.Files.{root_of}
 use Rattle.live.proofs.Shown.{root_more, root_none}
 use Rattle.live.proofs.page.sets_of.Goals as goal
 

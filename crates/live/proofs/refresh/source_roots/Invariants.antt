@@ -1,5 +1,5 @@
 use Rattle.std.proofs.Common.{◌≡◌, map}
-use Rattle.input_db.specs.SourceRoot.{local_root}
+use Rattle.source_files.specs.SourceRoot.{local_root}
 use Rattle.live.proofs.refresh.source_roots.Given as goal
 
 abbrev pub invariant-loop-set : goal.invariant-loop-set

@@ -1,10 +1,10 @@
 //! The files of a database: their texts, the source roots, and which root each file is in.
 
 ghost use Rattle.std.specs.Prelude.{◌≡◌, IsSome, OnErr, OnOk, Some, is_some};
-ghost use Rattle.input_db.specs.Files.{SetsFileRoot, SetsRoot, SetsText, file_root_of, kept_durability};
-ghost use Rattle.input_db.specs.Files.{no_files, root_of, text_of};
-ghost use Rattle.input_db.specs.Files.{stored_place, stored_root, stored_text};
-ghost use Rattle.input_db.specs.Files.{with_file_root, with_root, with_same_durability, with_text};
+ghost use Rattle.source_files.specs.Files.{SetsFileRoot, SetsRoot, SetsText, file_root_of, kept_durability};
+ghost use Rattle.source_files.specs.Files.{no_files, root_of, text_of};
+ghost use Rattle.source_files.specs.Files.{stored_place, stored_root, stored_text};
+ghost use Rattle.source_files.specs.Files.{with_file_root, with_root, with_same_durability, with_text};
 
 use crate::durability::Durability;
 use crate::inputs::{FileSourceRootInput, FileText, SourceRootInput};
@@ -23,7 +23,7 @@ pub struct Files {
 }
 
 impl Model for Files {
-    ghost use Rattle.input_db.specs.Files.{Held, held_code};
+    ghost use Rattle.source_files.specs.Files.{Held, held_code};
 
     ghost Value = { Held };
 

@@ -1,6 +1,6 @@
 use Rattle.std.proofs.Common.{◌∙◌, ℕ, nat_eq}
-use Rattle.input_db.proofs.Entries.{found_among}
-use Rattle.input_db.proofs.source_root.SourceRoot.has_file.Goals as goal
+use Rattle.source_files.proofs.Entries.{found_among}
+use Rattle.source_files.proofs.source_root.SourceRoot.has_file.Goals as goal
 
 pub returns : goal.returns
 returns c =

@@ -3,9 +3,9 @@ use Rattle.std.specs.Prelude.{ℕ, Bool, true, false, List, nat_eq, if◌then◌
 use Rattle.std.specs.List.{list_any}
 use Rattle.std.specs.Map.{keys_of}
 use Rattle.vfs_sets.specs.FileSet.{FileSetContent}
-use Rattle.input_db.specs.declared.durability.Durability.{Durability}
-use Rattle.input_db.specs.declared.durability.Durability.TheVariants.{Low, Medium, High}
-use Rattle.input_db.specs.declared.source_root.SourceRoot.{SourceRoot}
+use Rattle.source_files.specs.declared.durability.Durability.{Durability}
+use Rattle.source_files.specs.declared.durability.Durability.TheVariants.{Low, Medium, High}
+use Rattle.source_files.specs.declared.source_root.SourceRoot.{SourceRoot}
 
 -- a root that is worked on, of a set of files
 abbrev pub local_root : FileSetContent → SourceRoot

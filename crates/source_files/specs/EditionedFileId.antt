@@ -1,7 +1,7 @@
 -- What is asked of a file that is read in an edition.
 use Rattle.std.specs.Prelude.{ℕ}
 use Rattle.base_text.specs.declared.edition.Edition.{Edition}
-use Rattle.input_db.specs.declared.editioned_file_id.EditionedFileId.{EditionedFileId}
+use Rattle.source_files.specs.declared.editioned_file_id.EditionedFileId.{EditionedFileId}
 
 -- the file
 abbrev pub file_of : EditionedFileId → ℕ

@@ -6,16 +6,16 @@ use Rattle.std.specs.FinMap as map
 use Rattle.std.specs.Option.{option_and_then, option_map, unwrap_or}
 use Rattle.std.specs.Ordering.{nat_cmp}
 use Rattle.vfs_sets.specs.FileSet.{resolved_file}
-use Rattle.input_db.specs.SourceRoot.{set_of_root, text_durability}
-use Rattle.input_db.specs.contracts.inputs.FileSourceRootInput as place
-use Rattle.input_db.specs.contracts.inputs.FileText as text
-use Rattle.input_db.specs.contracts.inputs.SourceRootInput as root
-use Rattle.input_db.specs.declared.durability.Durability.{Durability}
-use Rattle.input_db.specs.declared.durability.Durability.TheVariants.{Low}
-use Rattle.input_db.specs.declared.inputs.FileText.{FileText}
-use Rattle.input_db.specs.declared.inputs.FileSourceRootInput.{FileSourceRootInput}
-use Rattle.input_db.specs.declared.inputs.SourceRootInput.{SourceRootInput}
-use Rattle.input_db.specs.declared.source_root.SourceRoot.{SourceRoot}
+use Rattle.source_files.specs.SourceRoot.{set_of_root, text_durability}
+use Rattle.source_files.specs.contracts.inputs.FileSourceRootInput as place
+use Rattle.source_files.specs.contracts.inputs.FileText as text
+use Rattle.source_files.specs.contracts.inputs.SourceRootInput as root
+use Rattle.source_files.specs.declared.durability.Durability.{Durability}
+use Rattle.source_files.specs.declared.durability.Durability.TheVariants.{Low}
+use Rattle.source_files.specs.declared.inputs.FileText.{FileText}
+use Rattle.source_files.specs.declared.inputs.FileSourceRootInput.{FileSourceRootInput}
+use Rattle.source_files.specs.declared.inputs.SourceRootInput.{SourceRootInput}
+use Rattle.source_files.specs.declared.source_root.SourceRoot.{SourceRoot}
 
 -- what is held, by number
 pub record Held : Type 0 where

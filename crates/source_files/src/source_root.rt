@@ -4,8 +4,8 @@ ghost use Rattle.std.specs.Prelude.{◌≡◌, IfOk};
 ghost use Rattle.std.specs.Map.Iter.{ShowsInOrder};
 ghost use Rattle.std.specs.Option.{option_copied};
 ghost use Rattle.vfs_sets.specs.FileSet.{file_at, number_shown, path_of, resolved_file};
-ghost use Rattle.input_db.specs.SourceRoot.{files_in, has_file, library_root, local_root, root_durability};
-ghost use Rattle.input_db.specs.SourceRoot.{set_of_root, text_durability};
+ghost use Rattle.source_files.specs.SourceRoot.{files_in, has_file, library_root, local_root, root_durability};
+ghost use Rattle.source_files.specs.SourceRoot.{set_of_root, text_durability};
 
 use crate::durability::Durability;
 use base_text::{FileId, TryClone};
@@ -92,14 +92,14 @@ impl SourceRoot {
     }
 
     /// Whether a file is in the root.
-    pub(crate) fn has_file(&self, file: FileId) -> bool
+    pub fn has_file(&self, file: FileId) -> bool
         ensures { result ≡ has_file self.now file }
     {
         self.file_set.path_for_file(&file).is_some()
     }
 
     /// How durable the root is.
-    pub(crate) fn durability(&self) -> Durability
+    pub fn durability(&self) -> Durability
         ensures { result ≡ root_durability self.now }
     {
         if self.is_library {
@@ -110,7 +110,7 @@ impl SourceRoot {
     }
 
     /// How durable the texts of its files are.
-    pub(crate) fn text_durability(&self) -> Durability
+    pub fn text_durability(&self) -> Durability
         ensures { result ≡ text_durability self.now }
     {
         if self.is_library {

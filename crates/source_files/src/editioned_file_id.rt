@@ -2,7 +2,7 @@
 
 ghost use Rattle.std.specs.Prelude.{◌≡◌};
 ghost use Rattle.base_text.specs.declared.edition.Edition.TheVariants.{Edition2024};
-ghost use Rattle.input_db.specs.EditionedFileId.{edition_of, file_of};
+ghost use Rattle.source_files.specs.EditionedFileId.{edition_of, file_of};
 
 use base_text::{Edition, FileId, TryClone};
 use std::alloc::{AllocError, Global};

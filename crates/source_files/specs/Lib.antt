@@ -1,0 +1,3 @@
+pub mod EditionedFileId
+pub mod Files
+pub mod SourceRoot
