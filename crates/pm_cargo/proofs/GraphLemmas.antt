@@ -1,12 +1,12 @@
 -- Graphs whose rows the code keeps, and the edges that lead back.
-use Rattle.std.proofs.Common.{◌≡◌, ℕ, ◌+◌, ◌<◌, ◌≤◌, ◌⊎◌, inl, inr, List, [], ◌∷◌, ◌++◌, drop, length, get_or, map, set, take, refl, sym, ap, ◌∙◌, subst, arith, get_or-set_same, get_or-set_other, Vec, Global}
+use Rattle.std.proofs.Common.{◌≡◌, ℕ, ◌+◌, ◌^◌, ◌<◌, ◌⊎◌, inl, inr, List, [], ◌∷◌, ◌++◌, drop, length, get_or, set, take, sym, ap, ◌∙◌, subst, arith, get_or-set_same, get_or-set_other, Vec, Global}
 use Rattle.std.specs.Prelude.{replicate}
-use Rattle.std.specs.List.{All, Contains, dedup, flat_map}
+use Rattle.std.specs.List.{Contains, dedup, flat_map}
 use Rattle.std.specs.List.Sorted.{IsPermutation, IsSorted}
 use Rattle.std.specs.Ordering.{nat_cmp}
 use Rattle.std.proofs.lemmas.Bool.{cases_eq, cases_lt}
-use Rattle.std.proofs.lemmas.List.{append-nil, drop_all, get_or-map, get_or-replicate, get_or_default, get_or_past, length-map, length-replicate, map-set, take_all, take_more}
-use Rattle.std.proofs.lemmas.List.Elements.{Contains-append_left, Contains-get_or, Contains-push, Contains-push_cases}
+use Rattle.std.proofs.lemmas.List.{append-nil, drop_all, get_or-map, get_or-replicate, get_or_past, length-map, length-replicate, map-set, take_all, take_more}
+use Rattle.std.proofs.lemmas.List.Elements.{Contains-append_left, Contains-push, Contains-push_cases}
 use Rattle.std.proofs.lemmas.List.Kept.{Contains-dedup_nat, Contains-from_dedup}
 use Rattle.std.proofs.lemmas.List.Sorted.{Contains-permutation, IsPermutation-sym}
 use Rattle.std.proofs.lemmas.Map.Keys.{IsStrictlyIncreasing-dedup, sorted_from_strictly_increasing}
@@ -14,11 +14,12 @@ use Rattle.std.proofs.Common.{eqb}
 use Rattle.graph_base.specs.Edges.{HasEdge, IsInRange, row}
 use Rattle.graph_base.specs.Reach.{Reaches, itself, further}
 use Rattle.graph_base.proofs.ReachLemmas.{none_in, reaches_edge}
-use Rattle.pm_cargo.specs.Closure.{IsReversed, closure, rows_of}
-use Rattle.pm_cargo.specs.Trail.{IsTrail, IsWhole, Trail}
+use Rattle.pm_cargo.specs.Closure.{IsGraph, IsGraphBothWays, IsReversed, closure, rows_of}
+use Rattle.graph_base.specs.Trail.{IsWhole, Trail}
+use Rattle.graph_base.proofs.ClearLemmas.{found_reached}
+use Rattle.graph_base.proofs.TrailLemmas.{reached_placed}
 use Rattle.pm_cargo.proofs.ClosureLemmas.{is_closure, last_from_leads, leads_from_last}
 use Rattle.pm_cargo.proofs.ListLemmas.{flat_map_in, flat_map_of}
-use Rattle.pm_cargo.proofs.TrailLemmas.{whole_has, whole_in}
 
 -- the row of a node is the list that the code keeps for it
 pub row_is : (rows : List (Vec ℕ Global)) (n : ℕ) (r : Vec ℕ Global) → n < length rows → r ≡ get_or rows n r → row (rows_of rows) n ≡ r.items
@@ -76,6 +77,23 @@ lead_more first rows source i targets old v within below is items before a b e =
 pub reversed_in_range : (back g : List (List ℕ)) → IsReversed back g → length back ≡ length g → IsInRange back
 reversed_in_range back g is long a b e = omega (arith, edge_source g b a (is a b e), long)
 
+-- rows that lead back are a graph
+pub back_graph : (rows back : List (Vec ℕ Global)) → length rows < 2 ^ 32 → length back ≡ length rows
+    → IsReversed (rows_of back) (rows_of rows) → IsGraph (rows_of back)
+back_graph rows back short long leads = record {
+  short = omega (arith, short, long, rows-long back);
+  in_range = reversed_in_range (rows_of back) (rows_of rows) leads (omega (arith, long, rows-long rows, rows-long back));
+}
+
+-- a graph with rows that lead back
+pub both_ways : (rows back : List (Vec ℕ Global)) → length rows < 2 ^ 32 → IsInRange (rows_of rows) → length back ≡ length rows
+    → IsReversed (rows_of back) (rows_of rows) → IsGraphBothWays (rows_of rows) (rows_of back)
+both_ways rows back short in_range long leads = record {
+  graph = record { short = omega (arith, short, rows-long rows); in_range = in_range };
+  long = omega (arith, long, rows-long rows, rows-long back);
+  leads_back = leads;
+}
+
 pub reversed_reaches : {back g : List (List ℕ)} {a b : ℕ} → IsReversed back g → Reaches back a b → Reaches g b a
 reversed_reaches is itself = itself
 reversed_reaches {back = back} {g = g} is (further {a = a} {b = x} {c = c} first rest) = reaches_edge g c x a (reversed_reaches is rest) (is a x first)
@@ -84,10 +102,6 @@ reversed_reaches {back = back} {g = g} is (further {a = a} {b = x} {c = c} first
 pub same_slice : {X : Type 0} (len : ℕ) (new items : List X) → length new ≡ length items → length new ≡ len → take len (new ++ drop (length new) items) ≡ new
 same_slice len new items long same =
     ap (λ rest. take len (new ++ rest)) (drop_all (length new) items (omega arith)) ∙ ap (take len) (append-nil new) ∙ take_all len new (omega arith)
-
--- the nodes that a trail holds have marks
-pub nodes_marked : (g : List (List ℕ)) (start : ℕ) (t : Trail) → IsTrail g start t → All (λ n. n < length t.marks) t.nodes
-nodes_marked g start t is = λ k d below. subst (λ z. z < length t.marks) (get_or_default t.nodes k 0 d below) (omega (arith, is.within k below, is.marks_long))
 
 -- the targets of the nodes that a search found, sorted and each once, are the closure
 pub closure_found : (g : List (List ℕ)) (start : ℕ) (t : Trail) (targets sorted result : List ℕ) → IsInRange g → IsWhole g start t
@@ -102,10 +116,10 @@ closure_found g start t targets sorted result ranged whole are moved in_order on
     sound b c =
         let there : Contains targets b = Contains-permutation sorted targets b (IsPermutation-sym targets sorted moved) (Contains-from_dedup eqb sorted b c) in
         let from = flat_map_in (row g) t.nodes b (subst (λ l. Contains l b) are there) in
-        leads_from_last b (whole_in g start t whole from.0 from.1) from.2
+        leads_from_last b (found_reached g start t whole.trail from.0 from.1) from.2
 
     all : (b : ℕ) → (c : ℕ) × HasEdge g start c × Reaches g c b → Contains (dedup eqb sorted) b
     all b l =
         let from = last_from_leads g start b l in
-        let there = flat_map_of (row g) t.nodes from.0 b (whole_has g start t whole from.0 from.1) from.2 in
+        let there = flat_map_of (row g) t.nodes from.0 b (reached_placed g start t whole from.0 from.1) from.2 in
         Contains-dedup_nat sorted b (Contains-permutation targets sorted b moved (subst (λ l. Contains l b) (sym are) there))

@@ -1,5 +1,5 @@
 -- A path has a parent exactly where it is not the root.
-use Rattle.std.proofs.Common.{◌≡◌, ℕ, ◌<◌, List, [], ◌∷◌, Bool, true, false, Option, Some, None, ap, arith, length, not, refl, subst, sym, ◌∙◌, true≢false}
+use Rattle.std.proofs.Common.{◌≡◌, ℕ, ◌<◌, List, [], ◌∷◌, Bool, true, false, Option, Some, None, ap, arith, length, not, refl, sym, ◌∙◌, true≢false}
 use Rattle.std.specs.Option.{is_none, is_some, option_and_then, option_map, option_map_or}
 use Rattle.std.specs.Prelude.{bytes_eq, codes}
 use Rattle.base_text.specs.FileName.{extension_of}

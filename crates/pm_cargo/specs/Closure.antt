@@ -1,7 +1,8 @@
 -- The nodes to which one comes over one or more edges of a graph: a relation, and the same as a list.
-use Rattle.std.specs.Prelude.{◌≡◌, ℕ, suc, ◌<◌, ◌^◌, Bool, ◌&&◌, ◌||◌, ◌==◌, List, [], ◌∷◌, ◌++◌, map, filter, length, Vec}
-use Rattle.std.specs.List.{Contains, list_any, range_with_len}
+use Rattle.std.specs.Prelude.{◌≡◌, ℕ, suc, ◌<◌, ◌^◌, Bool, List, [], ◌∷◌, ◌++◌, map, filter, length, Vec}
+use Rattle.std.specs.List.{list_any, range_with_len}
 use Rattle.std.specs.declared.alloc.Global.{Global}
+use Rattle.graph_base.specs.EdgeList.{Edge, reach_over}
 use Rattle.graph_base.specs.Edges.{HasEdge, IsInRange, row}
 use Rattle.graph_base.specs.Reach.{Reaches}
 
@@ -10,18 +11,13 @@ abbrev pub LeadsTo : List (List ℕ) → ℕ → ℕ → Type 0
 LeadsTo g a b = (c : ℕ) × HasEdge g a c × Reaches g c b
 
 -- the edges of the rows from node n on, each with its source
-abbrev pub edges_from : ℕ → List (List ℕ) → List (ℕ × ℕ)
+abbrev pub edges_from : ℕ → List (List ℕ) → List Edge
 edges_from n [] = []
 edges_from n (targets ∷ rows) = map (λ target. (n, target)) targets ++ edges_from (suc n) rows
 
--- whether a node reaches another over some edges: over all but the first edge, or to its source and on from its target
-abbrev pub reaches_over : List (ℕ × ℕ) → ℕ → ℕ → Bool
-reaches_over [] a b = a == b
-reaches_over (e ∷ es) a b = reaches_over es a b || (reaches_over es a e.0 && reaches_over es e.1 b)
-
 -- whether an edge leads from a node to one that reaches the other
 abbrev pub leads_to : List (List ℕ) → ℕ → ℕ → Bool
-leads_to g a b = list_any (λ c. reaches_over (edges_from 0 g) c b) (row g a)
+leads_to g a b = list_any (λ c. reach_over (edges_from 0 g) c b) (row g a)
 
 -- the nodes to which one comes from a node over one or more edges, ascending
 unfoldable pub closure : List (List ℕ) → ℕ → List ℕ
@@ -35,9 +31,13 @@ rows_of rows = map (λ r. r.items) rows
 abbrev pub IsReversed : List (List ℕ) → List (List ℕ) → Type 0
 IsReversed back g = (a b : ℕ) → HasEdge back a b → HasEdge g b a
 
--- a graph as rows with the rows that lead back: no more than can be counted, each edge to a node
-pub record IsGraph (rows back : List (List ℕ)) : Type 0 where
+-- rows are a graph: no more than can be counted, each edge to a node
+pub record IsGraph (rows : List (List ℕ)) : Type 0 where
   pub short : length rows < 2 ^ 32
   pub in_range : IsInRange rows
+
+-- rows are a graph, with rows that lead back
+pub record IsGraphBothWays (rows back : List (List ℕ)) : Type 0 where
+  pub graph : IsGraph rows
   pub long : length back ≡ length rows
   pub leads_back : IsReversed back rows

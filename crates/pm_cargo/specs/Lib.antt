@@ -1,4 +1,3 @@
 pub mod Closure
 pub mod Errors
 pub mod ManifestPath
-pub mod Trail

@@ -6,28 +6,54 @@ ghost use Rattle.std.specs.List.{All, Contains, range_with_len};
 ghost use Rattle.std.specs.List.Sorted.{IsStrictlyIncreasing};
 ghost use Rattle.graph_base.specs.Edges.{HasEdge, IsInRange, row};
 ghost use Rattle.graph_base.specs.Reach.{Reaches};
-ghost use Rattle.pm_cargo.specs.Closure.{IsReversed, closure, rows_of};
-ghost use Rattle.pm_cargo.specs.Trail.{IsWhole, cleared, empty_trail};
+ghost use Rattle.graph_base.specs.Trail.{cleared, empty_trail};
+ghost use Rattle.pm_cargo.specs.Closure.{IsGraph, IsReversed, closure, rows_of};
 
-use crate::trail::Trail;
+use graph_base::{Graph as _, Trail, search_into};
 use std::alloc::{AllocError, Global};
 use std::marker::Model;
 
-// All that a node reaches, itself among it. The trail is empty before.
-fn search(rows: &[Vec<u32>], trail: &mut Trail, start: u32) -> Result<(), AllocError>
-    requires empty { trail.old ≡ empty_trail (length rows.now) }
-    requires start { start < length rows.now }
-    requires in_range { IsInRange (rows_of rows.now) }
-    ensures { OnOk result (IsWhole (rows_of rows.now) start trail.new) }
-{
-    trail.meet(start)?;
-    let mut place = 0;
-    while place < trail.len() {
-        let node = trail.node(place);
-        trail.meet_all(rows[node as usize].as_slice())?;
-        place += 1;
+/// A graph that keeps each row as a list of targets.
+#[derive(Drop)]
+struct Rows {
+    rows: Vec<Vec<u32>>,
+}
+
+/// Contracts see a graph as its rows.
+impl Model for Rows {
+    ghost use Rattle.std.specs.Prelude.{ℕ, List};
+    ghost use Rattle.pm_cargo.specs.Closure.{IsGraph, rows_of};
+
+    ghost Value = { List (List ℕ) };
+
+    ghost view = { λ a. rows_of a.rows.items };
+
+    ghost invariant = { λ a. IsGraph (rows_of a.rows.items) };
+}
+
+impl Rows {
+    fn new(rows: Vec<Vec<u32>>) -> Self
+        requires { IsGraph (rows_of rows.items) }
+        ensures { result ≡ rows_of rows.items }
+    {
+        Rows { rows }
     }
-    Ok(())
+}
+
+impl graph_base::Graph for Rows {
+    ghost rows = { λ graph. graph };
+
+    fn count(&self) -> u32 {
+        self.rows.len() as u32
+    }
+
+    fn degree(&self, node: u32) -> usize {
+        self.rows[node as usize].len()
+    }
+
+    fn target(&self, node: u32, place: usize) -> u32 {
+        self.rows[node as usize][place]
+    }
 }
 
 // The targets of the edges of some nodes, in their order.
@@ -46,18 +72,18 @@ fn all_targets(alloc: Global, rows: &[Vec<u32>], nodes: &[u32]) -> Result<Vec<u3
 // The nodes to which one comes from a node over one or more edges. The trail is empty before and after.
 fn closure_of(
     alloc: Global,
-    rows: &[Vec<u32>],
+    graph: &Rows,
     trail: &mut Trail,
     start: u32,
 ) -> Result<Vec<u32>, AllocError>
-    requires empty { trail.old ≡ empty_trail (length rows.now) }
-    requires start { start < length rows.now }
-    requires in_range { IsInRange (rows_of rows.now) }
-    ensures exact { IfOk result (λ nodes. nodes.items ≡ closure (rows_of rows.now) start) }
-    ensures empty { OnOk result (trail.new ≡ empty_trail (length rows.now)) }
+    requires empty { trail.old ≡ empty_trail (length graph.now) }
+    requires start { start < length graph.now }
+    requires in_range { IsInRange graph.now }
+    ensures exact { IfOk result (λ nodes. nodes.items ≡ closure graph.now start) }
+    ensures empty { OnOk result (trail.new ≡ empty_trail (length graph.now)) }
 {
-    search(rows, trail, start)?;
-    let mut nodes = all_targets(alloc, rows, trail.nodes())?;
+    search_into(graph, trail, start)?;
+    let mut nodes = all_targets(alloc, graph.rows.as_slice(), trail.nodes())?;
     nodes.sort_unstable();
     nodes.dedup();
     trail.clear();
@@ -116,21 +142,21 @@ fn reversed(alloc: Global, rows: &[Vec<u32>]) -> Result<Vec<Vec<u32>>, AllocErro
 /// A graph whose edges can be followed both ways.
 #[derive(Drop)]
 pub(crate) struct Graph {
-    rows: Vec<Vec<u32>>,
+    rows: Rows,
     // The same edges, from their targets to their sources.
-    back: Vec<Vec<u32>>,
+    back: Rows,
 }
 
 /// Contracts see a graph as its rows.
 impl Model for Graph {
     ghost use Rattle.std.specs.Prelude.{ℕ, List};
-    ghost use Rattle.pm_cargo.specs.Closure.{IsGraph, rows_of};
+    ghost use Rattle.pm_cargo.specs.Closure.{IsGraphBothWays};
 
     ghost Value = { List (List ℕ) };
 
-    ghost view = { λ a. rows_of a.rows.items };
+    ghost view = { λ a. a.rows };
 
-    ghost invariant = { λ a. IsGraph (rows_of a.rows.items) (rows_of a.back.items) };
+    ghost invariant = { λ a. IsGraphBothWays a.rows a.back };
 }
 
 impl Graph {
@@ -141,7 +167,10 @@ impl Graph {
         ensures { IfOk result (λ graph. graph ≡ rows_of rows.items) }
     {
         let back = reversed(alloc, rows.as_slice())?;
-        Ok(Graph { rows, back })
+        Ok(Graph {
+            rows: Rows::new(rows),
+            back: Rows::new(back),
+        })
     }
 
     /// How many nodes there are.
@@ -149,7 +178,7 @@ impl Graph {
         ensures len { result ≡ length self.now }
         ensures in_range { IsInRange self.now }
     {
-        self.rows.len() as u32
+        self.rows.count()
     }
 
     /// The nodes to which one comes from a node over one or more edges, ascending.
@@ -164,7 +193,7 @@ impl Graph {
         ensures exact { IfOk result (λ nodes. nodes.items ≡ closure self.now start) }
         ensures empty { OnOk result (trail.new ≡ empty_trail (length self.now)) }
     {
-        closure_of(alloc, self.rows.as_slice(), trail, start)
+        closure_of(alloc, &self.rows, trail, start)
     }
 
     /// Leaves in the trail the nodes that reach a node.
@@ -176,6 +205,6 @@ impl Graph {
         ensures marks { OnOk result (All (λ node. node < length trail.new.marks) trail.new.nodes) }
         ensures cleared { OnOk result (cleared trail.new ≡ empty_trail (length self.now)) }
     {
-        search(self.back.as_slice(), trail, target)
+        search_into(&self.back, trail, target)
     }
 }

@@ -3,7 +3,6 @@
 
 mod closure;
 pub mod manifest_path;
-mod trail;
 pub mod workspace_error;
 
 pub use manifest_path::ManifestPath;

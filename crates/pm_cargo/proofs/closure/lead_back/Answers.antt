@@ -1,4 +1,4 @@
-use Rattle.std.proofs.Common.{ℕ, ◌<◌, ◌⊎◌, inl, inr, [], ◌∷◌, ◌++◌, ap, arith, get_or, length, subst, sym, take, ◌∙◌, Vec, Global}
+use Rattle.std.proofs.Common.{ℕ, ◌<◌, inl, inr, [], ◌∷◌, ◌++◌, ap, arith, get_or, length, subst, sym, ◌∙◌, Vec, Global}
 use Rattle.std.specs.List.{Contains}
 use Rattle.std.proofs.lemmas.List.{take_all}
 use Rattle.pm_cargo.proofs.GraphLemmas.{lead_more}

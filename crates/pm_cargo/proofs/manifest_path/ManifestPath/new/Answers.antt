@@ -1,4 +1,4 @@
-use Rattle.std.proofs.Common.{◌≡◌, refl, sym, ◌∙◌, true≢false}
+use Rattle.std.proofs.Common.{refl, sym, true≢false}
 use Rattle.pm_cargo.proofs.ManifestLemmas.{has_parent, no_parent_at_root, root_has_none}
 use Rattle.pm_cargo.proofs.manifest_path.ManifestPath.new.Goals as goal
 

@@ -1,4 +1,3 @@
-use Rattle.std.proofs.Common.{ap, sym, ◌∙◌}
 use Rattle.pm_cargo.proofs.ManifestLemmas.{parent_is_there}
 use Rattle.pm_cargo.proofs.manifest_path.ManifestPath.parent.Goals as goal
 
