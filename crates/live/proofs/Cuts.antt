@@ -3,7 +3,7 @@ use Rattle.std.proofs.Common.{◌≡◌, ℕ, Bool, true, false, cond, List, [],
 use Rattle.std.specs.List.{slice_split, onto_first}
 use Rattle.std.proofs.lemmas.Grind.{common_steps}
 use Rattle.std.proofs.Common.{arith}
-use Rattle.live.specs.Lines.{newline, pieces, front, final, whole_lines, unfinished}
+use Rattle.live.specs.Lines.{newline, pieces, front, final, whole_lines, partial_line}
 
 front-snoc : (ps : List (List ℕ)) (p : List ℕ) → front (ps ++ p ∷ []) ≡ ps
 front-snoc [] p = refl
@@ -79,27 +79,27 @@ pub whole_lines-nil : whole_lines [] ≡ []
 unfolding whole_lines
 whole_lines-nil = refl
 
-pub unfinished-nil : unfinished [] ≡ []
-unfolding unfinished
-unfinished-nil = refl
+pub partial_line-nil : partial_line [] ≡ []
+unfolding partial_line
+partial_line-nil = refl
 
 -- a newline ends the line
-pub whole_lines-newline : (bs : List ℕ) → whole_lines (bs ++ newline ∷ []) ≡ whole_lines bs ++ unfinished bs ∷ []
-unfolding whole_lines unfinished
+pub whole_lines-newline : (bs : List ℕ) → whole_lines (bs ++ newline ∷ []) ≡ whole_lines bs ++ partial_line bs ∷ []
+unfolding whole_lines partial_line
 whole_lines-newline bs = rw (split-cut (λ b. b == newline) bs newline refl, front-snoc) (sym (front-final-pieces bs))
 
-pub unfinished-newline : (bs : List ℕ) → unfinished (bs ++ newline ∷ []) ≡ []
-unfolding unfinished
-unfinished-newline bs = rw (split-cut (λ b. b == newline) bs newline refl, final-snoc) refl
+pub partial_line-newline : (bs : List ℕ) → partial_line (bs ++ newline ∷ []) ≡ []
+unfolding partial_line
+partial_line-newline bs = rw (split-cut (λ b. b == newline) bs newline refl, final-snoc) refl
 
 -- another byte joins the piece
 pub whole_lines-other : (bs : List ℕ) (b : ℕ) → (b == newline) ≡ false → whole_lines (bs ++ b ∷ []) ≡ whole_lines bs
 unfolding whole_lines onto_last
 whole_lines-other bs b h = rw (split-more (λ c. c == newline) bs b h, front-snoc) refl
 
-pub unfinished-other : (bs : List ℕ) (b : ℕ) → (b == newline) ≡ false → unfinished (bs ++ b ∷ []) ≡ unfinished bs ++ b ∷ []
-unfolding unfinished onto_last
-unfinished-other bs b h = rw (split-more (λ c. c == newline) bs b h, final-snoc) refl
+pub partial_line-other : (bs : List ℕ) (b : ℕ) → (b == newline) ≡ false → partial_line (bs ++ b ∷ []) ≡ partial_line bs ++ b ∷ []
+unfolding partial_line onto_last
+partial_line-other bs b h = rw (split-more (λ c. c == newline) bs b h, final-snoc) refl
 
 -- more bytes add lines behind those that are whole
 pub record Longer (short long : List (List ℕ)) : Type 0 where
@@ -109,7 +109,7 @@ pub record Longer (short long : List (List ℕ)) : Type 0 where
 one_more : (bs : List ℕ) (b : ℕ) → Longer (whole_lines bs) (whole_lines (bs ++ b ∷ []))
 one_more bs b =
     elim (b == newline) as (λ v. (b == newline) ≡ v → Longer (whole_lines bs) (whole_lines (bs ++ b ∷ []))) [
-      | true ↦ λ h. let same : b ≡ newline = grind (arith, common_steps) in subst (λ c. Longer (whole_lines bs) (whole_lines (bs ++ c ∷ []))) (sym same) (record { more = unfinished bs ∷ []; is = whole_lines-newline bs })
+      | true ↦ λ h. let same : b ≡ newline = grind (arith, common_steps) in subst (λ c. Longer (whole_lines bs) (whole_lines (bs ++ c ∷ []))) (sym same) (record { more = partial_line bs ∷ []; is = whole_lines-newline bs })
       | false ↦ λ h. record { more = []; is = whole_lines-other bs b h ∙ sym (append-nil (whole_lines bs)) }
     ] refl
 

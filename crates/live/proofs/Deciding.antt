@@ -6,7 +6,7 @@ use Rattle.outside.specs.declared.limits.Limit.TheVariants.{Bytes}
 use Rattle.live.specs.declared.session.Live.{Live}
 use Rattle.live.specs.declared.fault.LiveError.{LiveError}
 use Rattle.live.specs.declared.fault.LiveError.TheVariants.{TooMany}
-use Rattle.live.specs.Lines.{script_lines, whole_lines, unfinished, last_line}
+use Rattle.live.specs.Lines.{script_lines, whole_lines, partial_line, last_line}
 use Rattle.live.specs.Run.{Ran, Stops}
 use Rattle.live.specs.Session.{State, Outcome, refused_by, session, turns}
 use Rattle.live.specs.Written.{AppendsFront}
@@ -60,7 +60,7 @@ module _ (s : State) (fed rest : List ℕ) (live : Live) (old new : Option (List
         | true ↦ λ e.
             let more = Stops-more s fed rest error live old new stops in
             let fits : length (fed ++ rest) ≤ s.config.limits.bytes = grind (arith, nat_tests) in
-            let last = turns-refused s (whole_lines (fed ++ rest)) (last_line (unfinished (fed ++ rest))) error more.refused in
+            let last = turns-refused s (whole_lines (fed ++ rest)) (last_line (partial_line (fed ++ rest))) error more.refused in
             subst (λ o. Stops o error live (old, new)) (sym (session-within s (fed ++ rest) fits ∙ last)) more
         | false ↦ λ e.
             let more = Stops-more s fed (take (s.config.limits.bytes - length fed) rest) error live old new stops in
@@ -78,7 +78,7 @@ module _ (s : State) (fed rest : List ℕ) (live : Live) (old new : Option (List
         | true ↦ λ e.
             let more = Front-more s fed rest old new front in
             let fits : length (fed ++ rest) ≤ s.config.limits.bytes = grind (arith, nat_tests) in
-            let last = pages-append s (whole_lines (fed ++ rest)) (last_line (unfinished (fed ++ rest))) in
+            let last = pages-append s (whole_lines (fed ++ rest)) (last_line (partial_line (fed ++ rest))) in
             subst (λ (o : Outcome). AppendsFront (old, new) o.pages) (sym (session-within s (fed ++ rest) fits)) (AppendsFront-longer old new _ _ last more)
         | false ↦ λ e.
             let more = Front-more s fed (take (s.config.limits.bytes - length fed) rest) old new front in

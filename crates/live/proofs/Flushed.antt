@@ -171,7 +171,7 @@ writes_flush live live' ended s error old new r h going only cut front config te
       holds = holds_ended live ended s h (config ∙ r.config) (texts ∙ r.texts) is has_ended;
     }
 
--- and so does want of memory before the page
+-- and so does a flush that runs out of memory before the page
 pub memory_flush : (live ended : Live) (s : State) (error : LiveError) (held : Option (List ℕ)) → Holds live s → error ≡ OutOfMemory
     → ended.config ≡ live.config → ended.texts ≡ live.texts → ended.files ≡ record live.files { batch = ended.files.batch } → ended.ended ≡ true
     → EndsTurn (flush_turn s) (ended_state s) error ended (held, held)

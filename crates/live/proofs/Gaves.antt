@@ -3,7 +3,7 @@ use Rattle.std.proofs.Common.{◌≡◌, ℕ, ◌+◌, ◌-◌, ◌^◌, ◌<◌
 use Rattle.std.proofs.lemmas.Bool.Decides.{nat_tests}
 use Rattle.std.specs.Io.KnownBytes.{Consumes}
 use Rattle.std.proofs.KnownBytes.{Consumes-nil, Consumes-trans}
-use Rattle.live.specs.Lines.{newline, has_newline, whole_lines, unfinished, script_lines, last_line}
+use Rattle.live.specs.Lines.{newline, has_newline, whole_lines, partial_line, script_lines, last_line}
 use Rattle.std.proofs.lemmas.List.Folds.{list_any-append}
 use Rattle.live.specs.Pieces.{Moves, Reads, rest_of}
 use Rattle.live.specs.Reader.{Reader, Gave, IsPast, IsCut, IsSpent, Tells, TooManyExactly, bytes_ahead, fresh, lines_after}
@@ -11,7 +11,7 @@ use Rattle.live.specs.declared.lines.LineError.{LineError}
 use Rattle.live.specs.declared.lines.LineError.TheVariants.{ReadFault, TooMany, OutOfMemory, Ended}
 use Rattle.outside.specs.Source.{Knows-after, Knows-all}
 use Rattle.std.proofs.Math.Seq.{take-append-add, take-append_seam}
-use Rattle.live.proofs.Cuts.{whole_lines-newline, unfinished-newline, unfinished-nil, whole_lines-append, whole_lines-other, unfinished-other}
+use Rattle.live.proofs.Cuts.{whole_lines-newline, partial_line-newline, partial_line-nil, whole_lines-append, whole_lines-other, partial_line-other}
 
 first_uncut : (b : ℕ) (part : List ℕ) → has_newline (b ∷ part) ≡ false → (b == newline) ≡ false
 first_uncut b part h = elim (b == newline) as (λ v. (v || has_newline part) ≡ false → v ≡ false) [ true ↦ λ e. e | false ↦ λ e. refl ] h
@@ -25,34 +25,34 @@ whole_lines-uncut front [] h = ap whole_lines (append-nil front)
 whole_lines-uncut front (b ∷ part) h =
     ap whole_lines (sym (append_assoc front (b ∷ []) part)) ∙ whole_lines-uncut (front ++ b ∷ []) part (rest_uncut b part h) ∙ whole_lines-other front b (first_uncut b part h)
 
-pub unfinished-uncut : (front part : List ℕ) → has_newline part ≡ false → unfinished (front ++ part) ≡ unfinished front ++ part
-unfinished-uncut front [] h = ap unfinished (append-nil front) ∙ sym (append-nil (unfinished front))
-unfinished-uncut front (b ∷ part) h =
-    ap unfinished (sym (append_assoc front (b ∷ []) part)) ∙ unfinished-uncut (front ++ b ∷ []) part (rest_uncut b part h) ∙ ap (λ l. l ++ part) (unfinished-other front b (first_uncut b part h)) ∙ append_assoc (unfinished front) (b ∷ []) part
+pub partial_line-uncut : (front part : List ℕ) → has_newline part ≡ false → partial_line (front ++ part) ≡ partial_line front ++ part
+partial_line-uncut front [] h = ap partial_line (append-nil front) ∙ sym (append-nil (partial_line front))
+partial_line-uncut front (b ∷ part) h =
+    ap partial_line (sym (append_assoc front (b ∷ []) part)) ∙ partial_line-uncut (front ++ b ∷ []) part (rest_uncut b part h) ∙ ap (λ l. l ++ part) (partial_line-other front b (first_uncut b part h)) ∙ append_assoc (partial_line front) (b ∷ []) part
 
 -- what ends in a newline has whole lines alone
-pub script_lines-whole : (front : List ℕ) → unfinished front ≡ [] → script_lines front ≡ whole_lines front
+pub script_lines-whole : (front : List ℕ) → partial_line front ≡ [] → script_lines front ≡ whole_lines front
 unfolding script_lines
 script_lines-whole front h = ap (λ l. whole_lines front ++ last_line l) h ∙ append-nil (whole_lines front)
 
-module _ (front line : List ℕ) (cut : unfinished front ≡ []) (uncut : has_newline line ≡ false) where
-  at_line : unfinished (front ++ line) ≡ line
-  at_line = unfinished-uncut front line uncut ∙ ap (λ l. l ++ line) cut
+module _ (front line : List ℕ) (cut : partial_line front ≡ []) (uncut : has_newline line ≡ false) where
+  at_line : partial_line (front ++ line) ≡ line
+  at_line = partial_line-uncut front line uncut ∙ ap (λ l. l ++ line) cut
 
   -- one more line with its newline
-  pub unfinished-line : unfinished (front ++ (line ++ newline ∷ [])) ≡ []
-  unfinished-line = ap unfinished (sym (append_assoc front line (newline ∷ []))) ∙ unfinished-newline (front ++ line)
+  pub partial_line-line : partial_line (front ++ (line ++ newline ∷ [])) ≡ []
+  partial_line-line = ap partial_line (sym (append_assoc front line (newline ∷ []))) ∙ partial_line-newline (front ++ line)
 
   pub script_lines-line : script_lines (front ++ (line ++ newline ∷ [])) ≡ script_lines front ++ line ∷ []
   script_lines-line =
-      script_lines-whole _ unfinished-line ∙ ap whole_lines (sym (append_assoc front line (newline ∷ []))) ∙ whole_lines-newline (front ++ line)
-      ∙ ap (λ ls. ls ++ unfinished (front ++ line) ∷ []) (whole_lines-uncut front line uncut ∙ sym (script_lines-whole front cut)) ∙ ap (λ l. script_lines front ++ l ∷ []) at_line
+      script_lines-whole _ partial_line-line ∙ ap whole_lines (sym (append_assoc front line (newline ∷ []))) ∙ whole_lines-newline (front ++ line)
+      ∙ ap (λ ls. ls ++ partial_line (front ++ line) ∷ []) (whole_lines-uncut front line uncut ∙ sym (script_lines-whole front cut)) ∙ ap (λ l. script_lines front ++ l ∷ []) at_line
 
   -- and what no newline ends, which is a last line where it is not empty
   pub script_lines-end : script_lines (front ++ line) ≡ script_lines front ++ last_line line
   unfolding script_lines
   script_lines-end =
-      ap (λ ls. ls ++ last_line (unfinished (front ++ line))) (whole_lines-uncut front line uncut ∙ sym (script_lines-whole front cut))
+      ap (λ ls. ls ++ last_line (partial_line (front ++ line))) (whole_lines-uncut front line uncut ∙ sym (script_lines-whole front cut))
       ∙ ap (λ l. script_lines front ++ last_line l) at_line
 
 -- a reader by its fields: a line that is being read, and what was not looked at
@@ -107,7 +107,7 @@ past_read room count bytes many most =
 
 module _ (limit : ℕ) (first left : Option (List ℕ)) (given : List (List ℕ)) (line piece line' piece' : List ℕ) (room : ℕ) (past done ended : Bool) (not_done : done ≡ false)
     (uncut : has_newline line ≡ false) (gave : Gave limit first left given (reader line piece room past done ended)) where
-  front_cut : unfinished gave.front ≡ []
+  front_cut : partial_line gave.front ≡ []
   front_cut = let cut : IsCut false gave.front ((line ++ piece) ++ gave.beyond) left = subst (λ d. IsCut d gave.front ((line ++ piece) ++ gave.beyond) left) not_done gave.cut in cut
 
   none_past : past ≡ false → gave.beyond ≡ []
@@ -133,7 +133,7 @@ module _ (limit : ℕ) (first left : Option (List ℕ)) (given : List (List ℕ)
         lines = script_lines-line gave.front line' front_cut whole ∙ ap (λ ls. ls ++ line' ∷ []) gave.lines;
         within = omega (arith, gave.within, ap length same, ap length rest, length-append gave.front (line' ++ newline ∷ []), length-append line' (newline ∷ []), length-append line' (newline ∷ piece'));
         past = gave.past;
-        cut = subst (λ d. IsCut d front' ((none ++ piece') ++ gave.beyond) left) (sym not_done) (unfinished-line gave.front line' front_cut whole);
+        cut = subst (λ d. IsCut d front' ((none ++ piece') ++ gave.beyond) left) (sym not_done) (partial_line-line gave.front line' front_cut whole);
       }
 
   -- a read of the next piece
@@ -193,7 +193,7 @@ some_from p h e = let none : length p ≡ 0 = ap length e in grind (arith, nat_t
 
 -- before the first read
 script_lines-nil : script_lines [] ≡ []
-unfolding script_lines whole_lines unfinished
+unfolding script_lines whole_lines partial_line
 script_lines-nil = refl
 
 pub Gave-fresh : (limit : ℕ) (left : Option (List ℕ)) → Gave limit left left [] (fresh limit)
@@ -204,7 +204,7 @@ Gave-fresh limit left = record {
   lines = script_lines-nil;
   within = omega arith;
   past = refl;
-  cut = unfinished-nil;
+  cut = partial_line-nil;
 }
 
 -- nothing is read where a newline waits

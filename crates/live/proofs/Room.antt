@@ -17,7 +17,7 @@ use Rattle.live.specs.declared.session.Live.{Live}
 use Rattle.live.specs.declared.fault.LiveError.{LiveError}
 use Rattle.live.specs.declared.fault.LiveError.TheVariants.{OutOfMemory, TooMany}
 use Rattle.outside.specs.declared.limits.Limit.TheVariants.{Paths}
-use Rattle.live.specs.Session.{State, has_room, marked}
+use Rattle.live.specs.Session.{State, has_room, mark_turn}
 use Rattle.live.specs.Config.{greatest}
 use Rattle.live.specs.Fault.{IsRefusal}
 use Rattle.live.specs.Image.{ShowsFlush}
@@ -92,23 +92,23 @@ module _ (live live' : Live) (s : State) (path : PathContent) (kind : MarkKind) 
   }
 
   -- what is said of a path that has room is taken
-  pub marks_ok : (held : Option (List ℕ)) → (IsFullFor live.files path → ⊥) → AddsMarkTo live live' mark → TakesTurn (marked s path kind) live' (held, held)
+  pub marks_ok : (held : Option (List ℕ)) → (IsFullFor live.files path → ⊥) → AddsMarkTo live live' mark → TakesTurn (mark_turn s path kind) live' (held, held)
   marks_ok held apart adds =
       let room = has_room-not_full live.files s path h.texts.follows h.limit apart in
       rw room (record { accepted = refl; holds = Holds-mark adds; appended = Appends-nil held })
 
   -- and of one that has none is refused
-  pub marks_full : (held : Option (List ℕ)) → IsFullFor live.files path → live' ≡ live → RefusesTurn (marked s path kind) (TooMany Paths) live' (held, held)
+  pub marks_full : (held : Option (List ℕ)) → IsFullFor live.files path → live' ≡ live → RefusesTurn (mark_turn s path kind) (TooMany Paths) live' (held, held)
   marks_full held full same =
       let none = has_room-full live.files s path h.texts.follows h.limit full in
       rw none (record { refused = refl; holds = subst (λ l. Holds l s) (sym same) h; appended = Appends-nil held })
 
   -- an error leaves all as it was, and is that of a full table or none of the session's
   pub marks_err : (error : LiveError) (held : Option (List ℕ)) → (error ≡ OutOfMemory) ⊎ (error ≡ TooMany Paths) → (error ≡ TooMany Paths → IsFullFor live.files path) → live' ≡ live
-      → EndsTurn (marked s path kind) s error live' (held, held)
+      → EndsTurn (mark_turn s path kind) s error live' (held, held)
   marks_err error held (inl memory) full same = record {
     fails = record {
-      written = AppendsFront-nil held (marked s path kind).pages;
+      written = AppendsFront-nil held (mark_turn s path kind).pages;
       cut = λ e. absurd (cc);
       refused = λ refusal. absurd (let r : IsRefusal OutOfMemory = subst IsRefusal memory refusal in omega (arith, r));
     };
@@ -116,9 +116,9 @@ module _ (live live' : Live) (s : State) (path : PathContent) (kind : MarkKind) 
   }
   marks_err error held (inr paths) full same = record {
     fails = record {
-      written = AppendsFront-nil held (marked s path kind).pages;
+      written = AppendsFront-nil held (mark_turn s path kind).pages;
       cut = λ e. absurd (cc);
-      refused = λ refusal. subst (λ e. RefusesTurn (marked s path kind) e live' (held, held)) (sym paths) (marks_full held (full paths) same);
+      refused = λ refusal. subst (λ e. RefusesTurn (mark_turn s path kind) e live' (held, held)) (sym paths) (marks_full held (full paths) same);
     };
     holds = subst (λ l. Holds l s) (sym same) h;
   }

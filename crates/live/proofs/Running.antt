@@ -5,7 +5,7 @@ use Rattle.outside.specs.Causes.{Rose, Rose-after}
 use Rattle.outside.specs.Source.{Knows-after, Knows-all}
 use Rattle.outside.specs.Sink.{Appends-nil}
 use Rattle.outside.specs.declared.limits.Limit.TheVariants.{Bytes}
-use Rattle.live.specs.Lines.{has_newline, unfinished, whole_lines}
+use Rattle.live.specs.Lines.{has_newline, partial_line, whole_lines}
 use Rattle.live.specs.Reader.{Gave, IsCut, IsPast, Reader, Tells, bytes_ahead, fresh}
 use Rattle.live.specs.declared.lines.LineError.{LineError}
 use Rattle.live.specs.declared.lines.LineError.TheVariants.{ReadFault as ReadFault', TooMany as TooMany', OutOfMemory as OutOfMemory', Ended}
@@ -71,7 +71,7 @@ module _ (limit : ℕ) (left₀ left : Option (List ℕ)) (given : List (List �
     all_is = let after = Knows-after left₀ left all _ known gave.taken in after.1 ∙ append_assoc gave.front (reader.waiting ++ gave.beyond) after.0
 
     -- a session that is decided by the lines that were given
-    decided : (P : Outcome → Type 0) → (unfinished gave.front ≡ [] → P (turns s (whole_lines gave.front)) → P (session s (gave.front ++ behind))) → P (turns s given) → P (session s all)
+    decided : (P : Outcome → Type 0) → (partial_line gave.front ≡ [] → P (turns s (whole_lines gave.front)) → P (session s (gave.front ++ behind))) → P (turns s given) → P (session s all)
     unfolding behind
     decided P more here =
         elim reader.is_done as (λ d. IsCut d gave.front (reader.waiting ++ gave.beyond) left → P (session s all)) [
@@ -172,7 +172,7 @@ cause_line error reads reads' writes mid writes' cause later = record {
   write = λ e. Rose-after writes mid writes' later (cause.write (ap Err (write_fault error e)));
 }
 
--- with no fault an error is want of memory or the session's refusal
+-- with no fault an error is out of memory or the session's refusal
 pub completes_err : (o : Outcome) (error : LiveError) (live : Live) (old new : Option (List ℕ)) (reads reads' writes writes' : ℕ) → Fails o error live (old, new)
     → HasCause run_statuses (status_of error) (reads, reads') (writes, writes') → (Rose reads reads' → ⊥) → (Rose writes writes' → ⊥) → Completes o.refusal (Err error)
 completes_err o OutOfMemory live old new reads reads' writes writes' fails cause read write = inl refl

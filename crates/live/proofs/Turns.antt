@@ -16,19 +16,19 @@ use Rattle.live.specs.declared.session.Live.{Live}
 use Rattle.live.specs.Fault.{IsOneOf, flush_statuses, line_statuses, status_of, turn_statuses}
 use Rattle.live.specs.Marked.{AddsMarkTo}
 use Rattle.live.specs.Refresh.{KeepsCrates}
-use Rattle.live.specs.Session.{State, Turn, ended_state, flush_turn, marked, state_after_failure, turn, turn_of}
+use Rattle.live.specs.Session.{State, Turn, ended_state, flush_turn, mark_turn, state_after_failure, turn, turn_of}
 use Rattle.live.specs.Turn.{EndsTurn, FailsTurn, Holds, LeavesAsWas, TakesTurn}
 use Rattle.live.specs.Written.{HasWriteCause}
 use Rattle.live.proofs.Outcomes.{AppendsFront-nil}
 use Rattle.live.proofs.Room.{marks_err, marks_ok}
 
--- an error for want of memory or of numbers for paths
+-- an error out of memory or of numbers for paths
 abbrev pub IsMarkError : LiveError → Type 0
 IsMarkError error = (error ≡ OutOfMemory) ⊎ (error ≡ TooMany Paths)
 
 -- a mark that was taken
 pub takes_mark : (live live' : Live) (path : PathContent) (kind : MarkKind) (result : Result (Unit {0}) LiveError) (held : Option (List ℕ)) (event : Event)
-    → ((s : State) → turn s event ≡ marked s path kind) → OnOk result (¬ IsFullFor live.files path)
+    → ((s : State) → turn s event ≡ mark_turn s path kind) → OnOk result (¬ IsFullFor live.files path)
     → OnOk result (AddsMarkTo live live' (record { path = path; kind = kind }))
     → OnOk result ((s : State) → Holds live s → TakesTurn (turn s event) live' (held, held))
 takes_mark live live' path kind (Ok done) held event is room adds = λ s h.
@@ -37,7 +37,7 @@ takes_mark live live' path kind (Err error) held event is room adds = tt
 
 -- one that was not
 pub fails_mark : (live live' : Live) (path : PathContent) (kind : MarkKind) (result : Result (Unit {0}) LiveError) (held : Option (List ℕ)) (event : Event)
-    → ((s : State) → turn s event ≡ marked s path kind) → ((s : State) → state_after_failure s event ≡ s)
+    → ((s : State) → turn s event ≡ mark_turn s path kind) → ((s : State) → state_after_failure s event ≡ s)
     → (IsErrOf result (TooMany Paths) → IsFullFor live.files path) → IfErr result IsMarkError → OnErr result (live' ≡ live)
     → IfErr result (λ e. (s : State) → Holds live s → EndsTurn (turn s event) (state_after_failure s event) e live' (held, held))
 fails_mark live live' path kind (Ok done) held event is stays full only same = tt

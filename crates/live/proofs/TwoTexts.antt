@@ -11,8 +11,8 @@ use Rattle.live.specs.declared.event.Event.TheVariants.{Exclude, File, Flush}
 use Rattle.live.specs.declared.fault.LiveError.{LiveError}
 use Rattle.live.specs.Event.{event}
 use Rattle.live.specs.Laws.{IsJoined, SessionsJoin, counted_on}
-use Rattle.live.specs.Lines.{final, front, last_line, newline, pieces, script_lines, unfinished, whole_lines}
-use Rattle.live.specs.Session.{Outcome, State, has_room, marked, session, start, take_line, take_line_after, turn, turn_of, turns}
+use Rattle.live.specs.Lines.{final, front, last_line, newline, pieces, script_lines, partial_line, whole_lines}
+use Rattle.live.specs.Session.{Outcome, State, has_room, mark_turn, session, start, take_line, take_line_after, turn, turn_of, turns}
 use Rattle.live.proofs.Cuts.{parts_of}
 use Rattle.live.proofs.Deciding.{session-within}
 
@@ -50,16 +50,16 @@ final-behind (p ∷ []) first others = refl
 final-behind (p ∷ q ∷ ps) first others = final-behind (q ∷ ps) first others
 
 -- a text that ends in a newline and one that follows it have the lines of both
-module _ (first second : List ℕ) (whole : unfinished first ≡ []) where
+module _ (first second : List ℕ) (whole : partial_line first ≡ []) where
   pieces-both : pieces (first ++ second) ≡ front (pieces first) ++ pieces second
-  unfolding unfinished
+  unfolding partial_line
   pieces-both =
       let r = parts_of (λ b. b == newline) second in
       pieces-append first second ∙ ap (λ p. front (pieces first) ++ onto_piece p (pieces second)) whole
       ∙ ap (λ ps. front (pieces first) ++ onto_piece [] ps) r.is ∙ ap (λ ps. front (pieces first) ++ ps) (sym r.is)
 
   script_lines-append : script_lines (first ++ second) ≡ script_lines first ++ script_lines second
-  unfolding script_lines whole_lines unfinished
+  unfolding script_lines whole_lines partial_line
   script_lines-append =
       let r = parts_of (λ b. b == newline) second in
       let fronts : front (pieces (first ++ second)) ≡ front (pieces first) ++ front (pieces second) =
@@ -77,14 +77,14 @@ abbrev behind : Outcome → Outcome → Outcome
 behind o q = record { state = q.state; pages = o.pages ++ q.pages; lines = o.lines + q.lines; refusal = option_map (counted_on o.lines) q.refusal }
 
 -- an event's refusal names no line
-marked-split : (s : State) (path : PathContent) (kind : MarkKind) (lines : ℕ) (room : Bool) → has_room s path ≡ room → option_map (counted_on lines) (marked s path kind).refusal ≡ (marked s path kind).refusal
-marked-split s path kind lines true e = rw e refl
-marked-split s path kind lines false e = rw e refl
+mark_turn-split : (s : State) (path : PathContent) (kind : MarkKind) (lines : ℕ) (room : Bool) → has_room s path ≡ room → option_map (counted_on lines) (mark_turn s path kind).refusal ≡ (mark_turn s path kind).refusal
+mark_turn-split s path kind lines true e = rw e refl
+mark_turn-split s path kind lines false e = rw e refl
 
 turn-counted : (s : State) (e : Event) (lines : ℕ) → option_map (counted_on lines) (turn s e).refusal ≡ (turn s e).refusal
 unfolding turn
-turn-counted s (File path text) lines = marked-split s path _ lines (has_room s path) refl
-turn-counted s (Exclude path) lines = marked-split s path _ lines (has_room s path) refl
+turn-counted s (File path text) lines = mark_turn-split s path _ lines (has_room s path) refl
+turn-counted s (Exclude path) lines = mark_turn-split s path _ lines (has_room s path) refl
 turn-counted s Flush lines = refl
 
 -- a line's turn by another number
@@ -135,14 +135,14 @@ turns-behind s ls more accepted =
     fold-append take_line (start s) ls more ∙ ap (λ p. fold take_line p more) (start-behind o accepted) ∙ lines-behind o (start o.state) more
 
 -- no line changes the configuration
-marked-config : (s : State) (path : PathContent) (kind : MarkKind) (room : Bool) → has_room s path ≡ room → (marked s path kind).state.config ≡ s.config
-marked-config s path kind true e = rw e refl
-marked-config s path kind false e = rw e refl
+mark_turn-config : (s : State) (path : PathContent) (kind : MarkKind) (room : Bool) → has_room s path ≡ room → (mark_turn s path kind).state.config ≡ s.config
+mark_turn-config s path kind true e = rw e refl
+mark_turn-config s path kind false e = rw e refl
 
 turn-config : (s : State) (e : Event) → (turn s e).state.config ≡ s.config
 unfolding turn
-turn-config s (File path text) = marked-config s path _ (has_room s path) refl
-turn-config s (Exclude path) = marked-config s path _ (has_room s path) refl
+turn-config s (File path text) = mark_turn-config s path _ (has_room s path) refl
+turn-config s (Exclude path) = mark_turn-config s path _ (has_room s path) refl
 turn-config s Flush = refl
 
 turn_of-config : (s : State) (number : ℕ) (e : Option Event) → (turn_of s number e).state.config ≡ s.config

@@ -8,7 +8,7 @@ use Rattle.live.specs.declared.fault.LiveError.{LiveError}
 use Rattle.live.specs.declared.fault.LiveError.TheVariants.{OutOfMemory, Usage, ReadFault, WriteFault, Script, TooMany}
 use Rattle.std.specs.Prelude.{IfErr, IsErrOf, OnOk, String}
 use Rattle.std.specs.declared.alloc.Global.{Global}
-use Rattle.live.specs.Cli.{CompletesAs, CompletesFor, FailsFor, FinishesAs, StatusOf, TakesFor, UsageError, UsageExactly, configured, started, state_for, texts_of}
+use Rattle.live.specs.Cli.{CompletesAs, CompletesFor, FailsFor, FinishesAs, StatusOf, TakesFor, UsageError, UsageExactly, with_config, state_of_command, state_for, texts_of}
 use Rattle.live.specs.declared.config.Command.{Command}
 use Rattle.live.specs.declared.config.Command.TheVariants.{Run}
 use Rattle.live.specs.Config.{command_of}
@@ -24,21 +24,21 @@ fails_early start error live left held early =
     λ s given all known. record { written = AppendsFront-nil held (session s all).pages; refused = λ r. absurd (early r) }
 
 -- the state that words give
-state_is : (words : List (String Global)) (s t : State) (config : LiveConfig) → command_of (texts_of words) ≡ Some (Run config) → state_for words s ≡ Some t → t ≡ configured s config
+state_is : (words : List (String Global)) (s t : State) (config : LiveConfig) → command_of (texts_of words) ≡ Some (Run config) → state_for words s ≡ Some t → t ≡ with_config s config
 state_is words s t config given is =
-    let both : Some (configured s config) ≡ Some t = sym (ap (option_map (started s)) given) ∙ is in cc
+    let both : Some (with_config s config) ≡ Some t = sym (ap (option_map (state_of_command s)) given) ∙ is in cc
 
 -- the session from it
 pub fails_given : (words : List (String Global)) (s : State) (error : LiveError) (live : Live) (left old new : Option (List ℕ)) (config : LiveConfig) → command_of (texts_of words) ≡ Some (Run config)
-    → FailsFrom (configured s config) error live left (old, new) → FailsFor (state_for words s) error live left (old, new)
+    → FailsFrom (with_config s config) error live left (old, new) → FailsFor (state_for words s) error live left (old, new)
 fails_given words s error live left old new config given fails t is =
     subst (λ u. FailsFrom u error live left (old, new)) (sym (state_is words s t config given is)) fails
 
 -- what a run from it finished
 pub finishes_given : (words : List (String Global)) (s : State) (live : Live) (left left' old new : Option (List ℕ)) (config : LiveConfig) → command_of (texts_of words) ≡ Some (Run config)
-    → Finishes (configured s config) live (left, left') (old, new) → FinishesAs (state_for words s) live (left, left') (old, new)
+    → Finishes (with_config s config) live (left, left') (old, new) → FinishesAs (state_for words s) live (left, left') (old, new)
 finishes_given words s live left left' old new config given finishes =
-    record { state = configured s config; given = ap (option_map (started s)) given; finishes = finishes }
+    record { state = with_config s config; given = ap (option_map (state_of_command s)) given; finishes = finishes }
 
 -- what a run from the words' configuration took
 pub takes_given : (words : List (String Global)) (left left' : Option (List ℕ)) (config : LiveConfig) → command_of (texts_of words) ≡ Some (Run config) → TakesAtMost (config.limits.bytes + 1) (left, left') → TakesFor words (left, left')
@@ -48,17 +48,17 @@ takes_given words left left' config given taken other other_given =
 
 -- what a run from the state completes
 pub completes_given : (words : List (String Global)) (s : State) (all : List ℕ) (config : LiveConfig) (result : Result (Unit {0}) LiveError) → command_of (texts_of words) ≡ Some (Run config)
-    → Completes (session (configured s config) all).refusal result → CompletesFor (state_for words s) all result
+    → Completes (session (with_config s config) all).refusal result → CompletesFor (state_for words s) all result
 completes_given words s all config result given done t is =
     subst (λ u. Completes (session u all).refusal result) (sym (state_is words s t config given is)) done
 
 -- wrong words give no state
 pub completes_wrong : (words : List (String Global)) (s : State) (all : List ℕ) (result : Result (Unit {0}) LiveError) → command_of (texts_of words) ≡ None → CompletesFor (state_for words s) all result
 completes_wrong words s all result wrong t is =
-    let none : None ≡ Some t = sym (ap (option_map (started s)) wrong) ∙ is in absurd (cc)
+    let none : None ≡ Some t = sym (ap (option_map (state_of_command s)) wrong) ∙ is in absurd (cc)
 
 -- the status of an answer that completes
-memory_as : (refusal : Option LiveError) → StatusOf refusal 1
+pub memory_as : (refusal : Option LiveError) → StatusOf refusal 1
 memory_as None = inr refl
 memory_as (Some error) = inr refl
 

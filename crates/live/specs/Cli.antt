@@ -20,16 +20,16 @@ abbrev pub texts_of : List (String Global) → List (List ℕ)
 texts_of words = map string_bytes words
 
 -- the state with a configuration
-abbrev pub configured : State → LiveConfig → State
-configured s config = record s { config = config }
+abbrev pub with_config : State → LiveConfig → State
+with_config s config = record s { config = config }
 
 -- the state from which a command runs a script
-abbrev pub started : State → Command → State
-started s (Run config) = configured s config
+abbrev pub state_of_command : State → Command → State
+state_of_command s (Run config) = with_config s config
 
 -- the same of words, where they give a command
 abbrev pub state_for : List (String Global) → State → Option State
-state_for words s = option_map (started s) (command_of (texts_of words))
+state_for words s = option_map (state_of_command s) (command_of (texts_of words))
 
 -- a run from the state that the words give finished
 pub record FinishesAs (start : Option State) (live : Live) (left held : Told) : Type 0 where
@@ -69,7 +69,7 @@ pub record UsageError (command : Option Command) (result : Result (Unit {0}) Liv
 abbrev pub CompletesFor : Option State → List ℕ → Result (Unit {0}) LiveError → Type 0
 CompletesFor start all result = (s : State) → start ≡ Some s → Completes (session s all).refusal result
 
--- the status of a session without faults: 0 where it has no refusal, else that refusal's status, or want of memory
+-- the status of a session without faults: 0 where it has no refusal, else that refusal's status, or out of memory
 abbrev pub StatusOf : Option LiveError → ℕ → Type 0
 StatusOf None status = (status ≡ 0) ⊎ (status ≡ 1)
 StatusOf (Some error) status = (status ≡ status_of error) ⊎ (status ≡ 1)

@@ -52,14 +52,14 @@ pub record FitsGiven (given : Given) : Type 0 where
   pub paths : IfSome given.paths (λ n. n ≤ greatest.paths)
 
 -- the row of an option whose value is the next word
-abbrev pub valued : LiveOption → OptionRow
-valued option = record { option = option; form = Valued }
+abbrev pub row_with_value : LiveOption → OptionRow
+row_with_value option = record { option = option; form = Valued }
 
 -- the table of options, by their words
 unfoldable pub row_of : List ℕ → Option OptionRow
 row_of word =
-    if bytes_eq word (codes "--limit-bytes") then Some (valued LimitBytes)
-    else if bytes_eq word (codes "--limit-paths") then Some (valued LimitPaths)
+    if bytes_eq word (codes "--limit-bytes") then Some (row_with_value LimitBytes)
+    else if bytes_eq word (codes "--limit-paths") then Some (row_with_value LimitPaths)
     else None
 
 -- what an option with its value makes of those that were given before, where it may be given. The value of a flag is empty

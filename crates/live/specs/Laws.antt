@@ -3,7 +3,7 @@ use Rattle.std.specs.Prelude.{◌≡◌, ℕ, ◌≤◌, ◌+◌, List, [], ◌+
 use Rattle.std.specs.Option.{option_map}
 use Rattle.live.specs.declared.fault.LiveError.{LiveError}
 use Rattle.live.specs.declared.fault.LiveError.TheVariants.{OutOfMemory, Usage, ReadFault, WriteFault, Script, TooMany}
-use Rattle.live.specs.Lines.{unfinished}
+use Rattle.live.specs.Lines.{partial_line}
 use Rattle.live.specs.Session.{Outcome, State, session}
 
 -- a refusal of a text that follows so many lines: their numbers are counted on
@@ -23,7 +23,7 @@ pub record IsJoined (first second both : Outcome) : Type 0 where
 
 -- where the first of two texts is empty or ends in a newline and its session has no refusal, and both are within the byte limit
 pub record AreJoinable (s : State) (first second : List ℕ) : Type 0 where
-  pub whole : unfinished first ≡ []
+  pub whole : partial_line first ≡ []
   pub accepted : (session s first).refusal ≡ None
   pub within : length (first ++ second) ≤ s.config.limits.bytes
 

@@ -4,7 +4,7 @@ use Rattle.std.specs.Io.KnownBytes.{Consumes, IsAtEnd}
 use Rattle.outside.specs.Causes.{Rose}
 use Rattle.live.specs.declared.lines.LineError.{LineError}
 use Rattle.live.specs.declared.lines.LineError.TheVariants.{ReadFault, TooMany, OutOfMemory, Ended}
-use Rattle.live.specs.Lines.{has_newline, script_lines, unfinished, whole_lines}
+use Rattle.live.specs.Lines.{has_newline, script_lines, partial_line, whole_lines}
 
 -- of the bytes within the limit those that wait to be given, and how many more there is room for; whether a byte past the
 -- limit was taken, whether the source told its end, and whether a call was refused
@@ -26,7 +26,7 @@ IsPast true room beyond = (length beyond ≡ 1) × (room ≡ 0)
 
 -- the lines that were given end in a newline each, or nothing follows them
 abbrev pub IsCut : Bool → List ℕ → List ℕ → Option (List ℕ) → Type 0
-IsCut false front rest left = unfinished front ≡ []
+IsCut false front rest left = partial_line front ≡ []
 IsCut true front rest left = (rest ≡ []) × IsAtEnd left
 
 -- a reader gave these lines of a source, which had `first` to read and has `left` now: the bytes that were taken are those of

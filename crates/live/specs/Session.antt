@@ -48,8 +48,8 @@ abbrev pub has_room : State → PathContent → Bool
 has_room s path = list_any (vfs_path_eq path) (mentioned_paths s.marks) || nat_lt (length (mentioned_paths s.marks)) s.config.limits.paths
 
 -- what is said of a path that has room
-abbrev pub marked : State → PathContent → MarkKind → Turn
-marked s path kind =
+abbrev pub mark_turn : State → PathContent → MarkKind → Turn
+mark_turn s path kind =
     if has_room s path then takes (record s { marks = record { path = path; kind = kind } ∷ s.marks }) []
     else refuses s (TooMany Paths)
 
@@ -63,8 +63,8 @@ flush_turn s = takes (record s { flushed = Some (flush_of s) }) (page (flush_of 
 
 -- one event
 unfoldable pub turn : State → Event → Turn
-turn s (File path text) = marked s path (kind_of text)
-turn s (Exclude path) = marked s path Out
+turn s (File path text) = mark_turn s path (kind_of text)
+turn s (Exclude path) = mark_turn s path Out
 turn s FlushEvent = flush_turn s
 
 -- the state after an event that failed with nothing else said: a flush ends the session

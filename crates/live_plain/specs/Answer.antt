@@ -3,7 +3,7 @@ use Rattle.std.specs.Prelude.{ℕ, List, [], Option, Some, None}
 use Rattle.live.specs.declared.config.LiveConfig.{LiveConfig}
 use Rattle.live.specs.declared.fault.LiveError.{LiveError}
 use Rattle.live.specs.declared.fault.LiveError.TheVariants.{Usage}
-use Rattle.live.specs.Cli.{configured}
+use Rattle.live.specs.Cli.{with_config}
 use Rattle.live.specs.Fault.{status_of}
 use Rattle.live.specs.Session.{Outcome, session}
 use Rattle.live.specs.Turn.{first_state}
@@ -21,4 +21,4 @@ answer_after o = record { status = status_after o.refusal; pages = o.pages }
 -- the answer where words give this configuration, or none
 abbrev pub answer_of : Option LiveConfig → List ℕ → PlainAnswer
 answer_of None script = record { status = status_of Usage; pages = [] }
-answer_of (Some config) script = answer_after (session (configured first_state config) script)
+answer_of (Some config) script = answer_after (session (with_config first_state config) script)

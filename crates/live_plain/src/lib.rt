@@ -52,12 +52,12 @@ impl Model for PlainState {
 
 impl PlainState {
     ghost use Rattle.std.specs.Prelude.{◌≡◌};
-    ghost use Rattle.live.specs.Cli.{configured};
+    ghost use Rattle.live.specs.Cli.{with_config};
     ghost use Rattle.live.specs.Turn.{first_state};
 
     /// Before the first event.
     pub fn new(alloc: Global, config: LiveConfig) -> PlainState
-        ensures { result ≡ configured first_state config }
+        ensures { result ≡ with_config first_state config }
     {
         PlainState {
             config,
@@ -167,7 +167,7 @@ impl PlainOutcome {
 }
 
 /// The session of a state and the bytes of a script. Its time grows with the square of the script.
-#[tactic(auto, unfolding(live::specs::Session::session, live::specs::Lines::script_lines, live::specs::Lines::whole_lines, live::specs::Lines::unfinished))]
+#[tactic(auto, unfolding(live::specs::Session::session, live::specs::Lines::script_lines, live::specs::Lines::whole_lines, live::specs::Lines::partial_line))]
 pub fn plain_session(
     alloc: Global,
     state: PlainState,

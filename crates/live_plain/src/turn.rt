@@ -3,7 +3,7 @@
 ghost use Rattle.std.specs.Prelude.{◌≡◌, ◌^◌, ◌+◌, ◌-◌, ◌<◌, ◌≤◌, [], ◌∷◌, ◌++◌, IfOk, Some, map};
 ghost use Rattle.vfs_core.specs.Files.{kind_of};
 ghost use Rattle.live.specs.Event.{event};
-ghost use Rattle.live.specs.Session.{has_room, marked, refuses, take_line, takes, turn, turn_of, turns};
+ghost use Rattle.live.specs.Session.{has_room, mark_turn, refuses, take_line, takes, turn, turn_of, turns};
 
 use crate::page::{flush_of, is_among, mentioned_paths, page};
 use crate::{PlainFlush, PlainOutcome, PlainState};
@@ -101,13 +101,13 @@ fn with_flush(mut state: PlainState, flush: PlainFlush) -> PlainState
 }
 
 // What is said of a path that has room.
-fn marked(
+fn mark_turn(
     alloc: Global,
     state: PlainState,
     path: VfsPath,
     kind: MarkKind,
 ) -> Result<PlainTurn, AllocError>
-    ensures { IfOk result (λ made. made ≡ marked state path kind) }
+    ensures { IfOk result (λ made. made ≡ mark_turn state path kind) }
 {
     if has_room(alloc, &state, &path)? {
         let mark = Mark { path, kind };
@@ -124,8 +124,8 @@ fn turn(alloc: Global, state: PlainState, event: Event) -> Result<PlainTurn, All
     ensures { IfOk result (λ made. made ≡ turn state event) }
 {
     match event {
-        Event::File { path, text } => marked(alloc, state, path, kind_of(text)),
-        Event::Exclude { path } => marked(alloc, state, path, MarkKind::Out),
+        Event::File { path, text } => mark_turn(alloc, state, path, kind_of(text)),
+        Event::Exclude { path } => mark_turn(alloc, state, path, MarkKind::Out),
         Event::Flush => {
             let flush = flush_of(alloc, state.marks.as_slice())?;
             let text = page(alloc, &flush)?;

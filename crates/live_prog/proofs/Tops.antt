@@ -1,14 +1,14 @@
 -- What a call on a new session does, and what stands where there was no memory for one.
-use Rattle.std.proofs.Common.{String, ◌≡◌, ℕ, List, Option, Some, None, refl, sym, subst, inl, inr, arith}
+use Rattle.std.proofs.Common.{String, ◌≡◌, ℕ, List, Option, sym, subst, arith}
 use Rattle.std.specs.declared.alloc.Global.{Global}
 use Rattle.live.specs.declared.fault.LiveError.TheVariants.{OutOfMemory}
-use Rattle.live.specs.declared.fault.LiveError.{LiveError}
 use Rattle.live.specs.declared.session.Live.{Live}
 use Rattle.live.specs.Cli.{CompletesAs, FailsAs, StatusOf}
 use Rattle.live.specs.Fault.{status_of}
 use Rattle.live.specs.Session.{State, session}
 use Rattle.live.specs.Turn.{Holds, first_state}
 use Rattle.live.proofs.Outcomes.{AppendsFront-nil}
+use Rattle.live.proofs.Words.{memory_as}
 use Rattle.live_prog.specs.Top.{FailsTop}
 
 -- a call on a session that holds the first state
@@ -31,10 +31,6 @@ memory_top words status left held told is = record {
   text = AppendsFront-nil told _;
   fails = λ s given all known. record { written = AppendsFront-nil held (session s all).pages; refused = λ refusal. absurd (omega (arith, refusal)) };
 }
-
-memory_as : (refusal : Option LiveError) → StatusOf refusal 1
-memory_as None = inr refl
-memory_as (Some error) = inr refl
 
 pub memory_completes : (start : Option State) (all : List ℕ) (status : ℕ) → status ≡ 1 → CompletesAs start all status
 memory_completes start all status is s given = subst (StatusOf (session s all).refusal) (sym is) (memory_as (session s all).refusal)
