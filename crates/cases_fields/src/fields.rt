@@ -3,10 +3,7 @@
 use base_text::{Items, Text};
 use cases::{Case, Fault, error_answer, missed_answer};
 use json_fields::{BareError, Json, ReadError, bare_version, of_text};
-use json_fields_tests::diagnostic::Diagnostic;
-use json_fields_tests::project::Project;
 use json_fields_tests::release::Release;
-use json_fields_tests::span::Span;
 use serde_json::Value;
 use std::alloc::{AllocError, Global};
 
@@ -14,9 +11,6 @@ use std::alloc::{AllocError, Global};
 pub fn answer(alloc: Global, case: Case<'_>) -> Result<Value, Fault> {
     match case.text("call")? {
         "Release" => round_trip::<Release>(alloc, case.text("text")?),
-        "Project" => written_again::<Project>(alloc, case.text("text")?),
-        "Diagnostic" => written_again::<Diagnostic>(alloc, case.text("text")?),
-        "Span" => written_again::<Span>(alloc, case.text("text")?),
         "texts" => texts(alloc, case),
         "bare_version" => bare(alloc, case.text("text")?),
         _ => Err(Fault::Call),
@@ -68,20 +62,6 @@ fn is_read_again<T: Json + PartialEq>(alloc: Global, text: &str, value: &T) -> b
     match of_text::<T>(alloc, text) {
         Ok(again) => again == *value,
         Err(_) => false,
-    }
-}
-
-// What is written of a value that is not compared, once the same is written of what is read of that.
-fn written_again<T: Json>(alloc: Global, text: &str) -> Result<Value, Fault> {
-    let written = match of_text::<T>(alloc, text) {
-        Ok(value) => value.write(alloc)?,
-        Err(ReadError::Missed(place)) => return missed_answer(alloc, place.as_str()),
-        Err(ReadError::OutOfMemory) => return Err(Fault::OutOfMemory),
-    };
-    let text = written.to_string(alloc)?;
-    match of_text::<T>(alloc, text.as_str()) {
-        Ok(again) if again.write(alloc)? == written => Ok(written),
-        _ => Err(Fault::Condition),
     }
 }
 

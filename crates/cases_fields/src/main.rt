@@ -2,6 +2,7 @@
 #![tactic(auto)]
 
 mod fields;
+mod recursive;
 
 use cases::{Case, Family, Fault, run_files};
 use serde_json::Value;
@@ -15,6 +16,7 @@ impl<R: AllocGlobal> Family<R> for FieldFamily {
     fn answer(rt: &R, file: &str, case: Case<'_>) -> Result<Value, Fault> {
         match file {
             "fields.jsonl" => fields::answer(rt.alloc(), case),
+            "recursive.jsonl" => recursive::answer(rt.alloc(), case),
             _ => Err(Fault::Kind),
         }
     }
