@@ -1,4 +1,3 @@
 pub mod ListLemmas
 pub mod ClosureLemmas
 pub mod GraphLemmas
-pub mod ManifestLemmas

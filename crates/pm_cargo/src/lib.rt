@@ -2,8 +2,11 @@
 #![tactic(auto)]
 
 mod closure;
-pub mod manifest_path;
 pub mod workspace_error;
 
-pub use manifest_path::ManifestPath;
+pub use pm_packages::{
+    DepKind, ManifestPath, Package, PackageData, PackageDependency, PackageTag,
+    RustAnalyzerPackageMetaData, Target, TargetData, TargetTag, manifest_path, package, target,
+    target_kind_new,
+};
 pub use workspace_error::WorkspaceError;

@@ -3,8 +3,8 @@ use Rattle.std.specs.Option.{option_and_then, option_copied}
 use Rattle.base_text.specs.AbsPath.{abs_text}
 use Rattle.base_text.specs.FileName.{extension_of}
 use Rattle.base_text.specs.Paths.{file_name}
-use Rattle.pm_cargo.proofs.ManifestLemmas.{no_extension, with_extension}
-use Rattle.pm_cargo.proofs.manifest_path.ManifestPath.is_rust_manifest.Goals as goal
+use Rattle.pm_packages.proofs.ManifestLemmas.{no_extension, with_extension}
+use Rattle.pm_packages.proofs.manifest_path.ManifestPath.is_rust_manifest.Goals as goal
 
 pub returns-in-Some : goal.returns-in-Some
 returns-in-Some c =

@@ -3,7 +3,7 @@
 ghost use Rattle.std.specs.Prelude.{◌≡◌, ◌↔◌, IfErr, IfOk, IsErr, Some, codes};
 ghost use Rattle.base_text.specs.AbsPath.{abs_text};
 ghost use Rattle.base_text.specs.Paths.{parent_text};
-ghost use Rattle.pm_cargo.specs.ManifestPath.{is_rust_manifest};
+ghost use Rattle.pm_packages.specs.ManifestPath.{is_rust_manifest};
 
 use base_text::{AbsPath, AbsPathBuf, TryClone};
 use std::alloc::{AllocError, Global};
@@ -21,7 +21,7 @@ pub struct ManifestPath {
 /// Contracts see a manifest's path as its text.
 impl Model for ManifestPath {
     ghost use Rattle.std.specs.Prelude.{ℕ, List};
-    ghost use Rattle.pm_cargo.specs.ManifestPath.{HasParent};
+    ghost use Rattle.pm_packages.specs.ManifestPath.{HasParent};
 
     ghost Value = { List ℕ };
 

@@ -7,7 +7,7 @@ use Rattle.base_text.specs.AbsPath.{abs_text}
 use Rattle.base_text.specs.Paths.{components, file_name, parent_text, path_text, without_last}
 use Rattle.base_text.specs.declared.paths.abs_path.AbsPath.{AbsPath}
 use Rattle.base_text.proofs.Parents.{parent_text-none, parent_text-some, root_components, root_text}
-use Rattle.pm_cargo.specs.ManifestPath.{HasParent, is_rust_manifest}
+use Rattle.pm_packages.specs.ManifestPath.{HasParent, is_rust_manifest}
 
 none_from : {A B : Type 0} (f : A → B) (o : Option A) (p : Option B) → option_map f o ≡ p → is_none o ≡ true → p ≡ None
 none_from f None p is none = sym is

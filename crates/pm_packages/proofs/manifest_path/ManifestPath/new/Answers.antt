@@ -1,6 +1,6 @@
 use Rattle.std.proofs.Common.{refl, sym, true≢false}
-use Rattle.pm_cargo.proofs.ManifestLemmas.{has_parent, no_parent_at_root, root_has_none}
-use Rattle.pm_cargo.proofs.manifest_path.ManifestPath.new.Goals as goal
+use Rattle.pm_packages.proofs.ManifestLemmas.{has_parent, no_parent_at_root, root_has_none}
+use Rattle.pm_packages.proofs.manifest_path.ManifestPath.new.Goals as goal
 
 pub returns-then-is_none-clause-root : goal.returns-then-is_none-clause-root
 returns-then-is_none-clause-root c =
