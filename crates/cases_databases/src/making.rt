@@ -1,0 +1,88 @@
+//! Changes as cases give them: roots with their files, a graph, and texts.
+
+use base_text::{FileId, TryClone};
+use case_graph::graph_of;
+use cases::{Case, Fault, file_number_of, item, items_of, text_of};
+use input_db::{FileChange, SourceRoot};
+use serde_json::Value;
+use std::alloc::Global;
+use vfs_core::VfsPath;
+use vfs_sets::FileSet;
+
+/// The change that a case gives.
+pub fn change_of(alloc: Global, given: Case<'_>) -> Result<FileChange, Fault> {
+    let mut change = FileChange::new(alloc);
+    if given.find("roots").is_some() {
+        let roots = roots_of(alloc, given.list("roots")?)?;
+        change.set_roots(roots);
+    }
+    if let Some(graph) = given.find("graph") {
+        let graph = graph_of(alloc, graph)?;
+        change.set_crate_graph(graph);
+    }
+    for pair in given.list("texts")? {
+        change_file(alloc, &mut change, pair)?;
+    }
+    Ok(change)
+}
+
+fn roots_of(alloc: Global, values: &[Value]) -> Result<Vec<SourceRoot>, Fault> {
+    let mut roots = Vec::new(alloc);
+    for value in values {
+        roots.push(root_of(alloc, Case::new(value))?)?;
+    }
+    Ok(roots)
+}
+
+// Sets a file's text, or none.
+fn change_file(alloc: Global, change: &mut FileChange, pair: &Value) -> Result<(), Fault> {
+    let pair = items_of(pair, "texts")?;
+    let id = file_number_of(item(pair, 0, "texts")?, "texts")?;
+    let text = text(alloc, item(pair, 1, "texts")?)?;
+    change.change_file(FileId::from_raw(id), text)?;
+    Ok(())
+}
+
+fn text(alloc: Global, value: &Value) -> Result<Option<String>, Fault> {
+    match value.as_str() {
+        Some(text) => Ok(Some(String::from_str(alloc, text)?)),
+        None => Ok(None),
+    }
+}
+
+/// The root that a case gives: its files, which are local or of a library.
+pub fn root_of(alloc: Global, given: Case<'_>) -> Result<SourceRoot, Fault> {
+    let files = files_of(alloc, given.list("files")?)?;
+    let root = if given.flag("local") {
+        SourceRoot::new_local(files)
+    } else {
+        SourceRoot::new_library(files)
+    };
+    if root.try_clone(alloc)? == root {
+        Ok(root)
+    } else {
+        Err(Fault::Condition)
+    }
+}
+
+// A set of files, each a number and a real path.
+fn files_of(alloc: Global, pairs: &[Value]) -> Result<FileSet, Fault> {
+    let mut files = FileSet::new(alloc);
+    for pair in pairs {
+        insert(alloc, &mut files, pair)?;
+    }
+    Ok(files)
+}
+
+fn insert(alloc: Global, files: &mut FileSet, pair: &Value) -> Result<(), Fault> {
+    let pair = items_of(pair, "files")?;
+    let id = file_number_of(item(pair, 0, "files")?, "files")?;
+    let path = path_of(alloc, item(pair, 1, "files")?)?;
+    files.insert(FileId::from_raw(id), path)?;
+    Ok(())
+}
+
+fn path_of(alloc: Global, value: &Value) -> Result<VfsPath, Fault> {
+    let text = text_of(value, "files")?;
+    VfsPath::new_real_path(alloc, text).map_err(|_| Fault::Member("files"))
+}
