@@ -67,7 +67,8 @@ fn set_flag(command: &mut MetadataCommand, name: &str) -> Result<(), Fault> {
 fn set_words(alloc: Global, command: &mut MetadataCommand, call: &[Value]) -> Result<(), Fault> {
     let words = texts(alloc, call.get(1..).unwrap_or(&[]))?;
     if text_of(item(call, 0, "set")?, "set")? == "features" {
-        drop(command.features(CargoOpt::SomeFeatures(words))?);
+        let features = CargoOpt::SomeFeatures(words);
+        drop(command.features(features.try_clone(alloc)?)?);
     } else {
         command.other_options(words);
     }
