@@ -1,17 +1,21 @@
 //! Documents by tables: what is written of what was read, or the first place that does not fit.
 
-use base_text::{Items, Text};
+use base_text::{ByText, Items, Text};
 use cases::{Case, Fault, error_answer, missed_answer};
 use json_fields::{BareError, Json, ReadError, bare_version, of_text};
 use json_fields_tests::release::Release;
 use serde_json::Value;
 use std::alloc::{AllocError, Global};
 
+// Lists of maps of lists of maps, and lists of texts in the innermost.
+type ListsByKey = ByText<Items<ByText<Items<ByText<Items<Text>>>>>>;
+
 /// What a call on a document gives.
 pub fn answer(alloc: Global, case: Case<'_>) -> Result<Value, Fault> {
     match case.text("call")? {
         "Release" => round_trip::<Release>(alloc, case.text("text")?),
         "texts" => texts(alloc, case),
+        "lists_by_key" => round_trip::<ListsByKey>(alloc, case.text("text")?),
         "bare_version" => bare(alloc, case.text("text")?),
         _ => Err(Fault::Call),
     }

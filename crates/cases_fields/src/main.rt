@@ -1,8 +1,9 @@
-//! Cases of json_fields: documents that are read and written by tables, and bare versions.
+//! Cases of json_fields: documents that are read and written by tables, bare versions, and values of fields.
 #![tactic(auto)]
 
 mod fields;
 mod recursive;
+mod values;
 
 use cases::{Case, Family, Fault, run_files};
 use serde_json::Value;
@@ -17,6 +18,7 @@ impl<R: AllocGlobal> Family<R> for FieldFamily {
         match file {
             "fields.jsonl" => fields::answer(rt.alloc(), case),
             "recursive.jsonl" => recursive::answer(rt.alloc(), case),
+            "values.jsonl" => values::answer(rt.alloc(), case),
             _ => Err(Fault::Kind),
         }
     }

@@ -7,5 +7,3 @@ pub mod level;
 pub mod project;
 pub mod release;
 pub mod span;
-#[cfg(test)]
-mod tests;
