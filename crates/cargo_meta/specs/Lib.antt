@@ -10,5 +10,6 @@ pub mod Metadata
 pub mod Errors
 pub mod Select
 pub mod Command
+pub mod GivesBack
 pub mod Answer
 pub mod laws

@@ -1,6 +1,7 @@
 //! The command that asks for metadata, set option by option.
 
 ghost use Rattle.std.specs.Prelude.{◌≡◌, true, IfOk, OnErr, OnOk, Some, None};
+ghost use Rattle.std.specs.Borrow.{sem};
 ghost use Rattle.base_values.specs.ByText.{HasAscendingKeys};
 ghost use Rattle.cargo_meta.specs.Command.{IsFirst, command_of, nothing_set, with_features, with_variable, words_of};
 
@@ -67,6 +68,8 @@ impl Model for MetadataCommand {
 }
 
 impl MetadataCommand {
+    ghost use Rattle.cargo_meta.specs.GivesBack.{unchanged_if_refused};
+
     /// The command with nothing set, which takes no memory.
     pub fn new(alloc: Global) -> MetadataCommand
         ensures { result ≡ nothing_set }
@@ -138,6 +141,7 @@ impl MetadataCommand {
     /// As `add_features`, and gives the command back.
     pub fn features(&mut self, features: CargoOpt) -> Result<&mut MetadataCommand, AllocError>
         requires { IsFirst features self.old }
+        ensures* err { sem 𝓛 (unchanged_if_refused self.entry result) }
         ensures same_command { IfOk result (λ command. command.ghost_name ≡ self.entry.ghost_name) }
         ensures set { IfOk result (λ command. command.now ≡ with_features features self.old) }
     {
@@ -179,6 +183,7 @@ impl MetadataCommand {
 
     /// Sets a variable of the command, as `set_variable`, and gives the command back.
     pub fn env(&mut self, key: Text, val: Text) -> Result<&mut MetadataCommand, AllocError>
+        ensures* err { sem 𝓛 (unchanged_if_refused self.entry result) }
         ensures same_command { IfOk result (λ command. command.ghost_name ≡ self.entry.ghost_name) }
         ensures set { IfOk result (λ command. command.now ≡ with_variable key (Some val) self.old) }
     {
@@ -188,6 +193,7 @@ impl MetadataCommand {
 
     /// Removes a variable of the command, as `set_variable`, and gives the command back.
     pub fn env_remove(&mut self, key: Text) -> Result<&mut MetadataCommand, AllocError>
+        ensures* err { sem 𝓛 (unchanged_if_refused self.entry result) }
         ensures same_command { IfOk result (λ command. command.ghost_name ≡ self.entry.ghost_name) }
         ensures set { IfOk result (λ command. command.now ≡ with_variable key None self.old) }
     {
