@@ -22,8 +22,8 @@ known_kind (of.Unknown text) = None
 
 -- the first kind that is known, or other
 abbrev pub first_known : Option TargetKind → TargetKind → TargetKind
-first_known (Some kind) others = kind
-first_known None others = others
+first_known (Some kind) fallback = kind
+first_known None fallback = fallback
 
 -- the kind of a target that has the kinds of a document
 abbrev pub target_kind : List document.TargetKind → TargetKind
