@@ -8,10 +8,10 @@ use Rattle.std.specs.List.{All}
 use Rattle.base_text.specs.declared.arena.Idx.{Idx}
 use Rattle.graph_base.specs.Edges.{HasEdge, IsInRange, row, with_edge, with_node}
 use Rattle.graph_base.specs.Reach.{IsAcyclic}
-use Rattle.crate_graph.specs.declared.builder.CrateBuilder.{CrateBuilder}
-use Rattle.crate_graph.specs.declared.crate_data.CrateTag.{CrateTag}
-use Rattle.crate_graph.specs.declared.crate_data.Dependency.{Dependency}
-use Rattle.crate_graph.specs.Laws.{HasCleanPath}
+use Rattle.crate_values.specs.declared.builder.CrateBuilder.{CrateBuilder}
+use Rattle.crate_values.specs.declared.crate_data.CrateTag.{CrateTag}
+use Rattle.crate_values.specs.declared.crate_data.Dependency.{Dependency}
+use Rattle.crate_values.specs.Laws.{HasCleanPath}
 use Rattle.crate_graph.specs.Graph.{HasDependency, IsWellMade, edges, row_of, target_of, with_dependency}
 
 pub length-edges : (crates : List CrateBuilder) → length (edges crates) ≡ length crates

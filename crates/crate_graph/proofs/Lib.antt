@@ -1,7 +1,4 @@
 pub mod CyclicLemmas
-pub mod NameLemmas
-pub mod EnvLemmas
-pub mod LawLemmas
 pub mod GraphLemmas
 pub mod ExtendLemmas
 pub mod TakenLemmas

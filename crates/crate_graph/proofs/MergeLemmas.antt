@@ -11,9 +11,9 @@ use Rattle.std.proofs.lemmas.Option.{slice_get-get_or, slice_get_within}
 use Rattle.base_text.specs.Arena.{number_of}
 use Rattle.graph_base.specs.Edges.{HasEdge, IsInRange}
 use Rattle.graph_base.specs.Reach.{IsAcyclic}
-use Rattle.crate_graph.specs.declared.builder.CrateBuilder.{CrateBuilder}
+use Rattle.crate_values.specs.declared.builder.CrateBuilder.{CrateBuilder}
 use Rattle.crate_graph.specs.Extend.{AreApart, PassesLimit, HasEquals, Id, Merge, before_merge, with_dependencies, with_sorted_dependencies, merge_of, moved_entry, new_id, with_new_ids, new_id_at, take_in, with_first_equal, with_crate_at}
-use Rattle.crate_graph.specs.Laws.{HasCleanPath}
+use Rattle.crate_values.specs.Laws.{HasCleanPath}
 use Rattle.graph_base.specs.Finish.{IsFinishOrder}
 use Rattle.graph_base.proofs.FinishLemmas.{visits_unique}
 use Rattle.crate_graph.specs.Graph.{Graph, IsWellMade, edges, row_of}

@@ -15,7 +15,7 @@ use Rattle.std.proofs.lemmas.List.{get_or_append_left, get_or_at, length-take-le
 use Rattle.base_text.specs.Arena.{number_of}
 use Rattle.base_text.specs.contracts.arena.IdxOrd.TheImpl as orders
 use Rattle.base_text.specs.contracts.arena.IdxPartialEq.TheImpl as equals
-use Rattle.crate_graph.specs.contracts.crate_data.CrateTag.{the_row}
+use Rattle.crate_values.specs.contracts.crate_data.CrateTag.{the_row}
 use Rattle.crate_graph.specs.Extend.{Id, moved_entry}
 
 -- comparing two numbers tells whether they are one

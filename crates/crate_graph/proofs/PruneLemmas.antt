@@ -14,11 +14,11 @@ use Rattle.graph_base.specs.Edges.{IsInRange, row}
 use Rattle.graph_base.specs.Reach.{IsAcyclic}
 use Rattle.graph_base.specs.Kept.{IsClosed, is_named, kept_below, kept_rows}
 use Rattle.crate_graph.proofs.GraphLemmas.{length-edges}
-use Rattle.crate_graph.specs.declared.builder.CrateBuilder.{CrateBuilder}
-use Rattle.crate_graph.specs.declared.crate_data.CrateTag.{CrateTag}
-use Rattle.crate_graph.specs.declared.crate_data.Dependency.{Dependency}
+use Rattle.crate_values.specs.declared.builder.CrateBuilder.{CrateBuilder}
+use Rattle.crate_values.specs.declared.crate_data.CrateTag.{CrateTag}
+use Rattle.crate_values.specs.declared.crate_data.Dependency.{Dependency}
 use Rattle.crate_graph.specs.Graph.{IsWellMade, edges, row_of, target_of}
-use Rattle.crate_graph.specs.Laws.{HasCleanPath, renamed_dependency}
+use Rattle.crate_values.specs.Laws.{HasCleanPath, renamed_dependency}
 use Rattle.crate_graph.specs.Prune.{Stays, kept_crates, renumbered_crate, renumbered_id, new_number, number_at}
 
 -- each number of a list is named by it

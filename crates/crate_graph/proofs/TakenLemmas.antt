@@ -13,11 +13,11 @@ use Rattle.base_values.proofs.InOrder.{sorted-IsPermutation}
 use Rattle.base_values.specs.Sorted.{sorted}
 use Rattle.graph_base.specs.Edges.{HasEdge}
 use Rattle.graph_base.specs.Finish.{IsBehindTargets}
-use Rattle.crate_graph.specs.declared.builder.CrateBuilder.{CrateBuilder}
-use Rattle.crate_graph.specs.declared.crate_data.Dependency.{Dependency}
+use Rattle.crate_values.specs.declared.builder.CrateBuilder.{CrateBuilder}
+use Rattle.crate_values.specs.declared.crate_data.Dependency.{Dependency}
 use Rattle.crate_graph.specs.Extend.{Id, Merge, KeepsCrates, before_merge, by_number, with_dependencies, with_sorted_dependencies, merge_of, with_new_ids, new_id_at, take_in, with_crate_at}
 use Rattle.crate_graph.specs.Graph.{edges, row_of, target_of}
-use Rattle.crate_graph.specs.Laws.{renamed_dependency}
+use Rattle.crate_values.specs.Laws.{renamed_dependency}
 use Rattle.crate_graph.proofs.ExtendLemmas.{before_merge-long, before_merge-new_numbers, crate_edge, edge_crate, take_in-at}
 use Rattle.crate_graph.proofs.GraphLemmas.{length-edges, slice_get_some}
 

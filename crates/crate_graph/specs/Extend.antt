@@ -9,10 +9,10 @@ use Rattle.base_values.specs.Sorted.{sorted}
 use Rattle.base_text.specs.declared.arena.Idx.{Idx}
 use Rattle.graph_base.specs.Finish.{IsFinishOrder}
 use Rattle.crate_graph.specs.Graph.{Graph, edges, target_of}
-use Rattle.crate_graph.specs.Laws.{renamed_dependency}
-use Rattle.crate_graph.specs.declared.builder.CrateBuilder.{CrateBuilder}
-use Rattle.crate_graph.specs.declared.crate_data.CrateTag.{CrateTag}
-use Rattle.crate_graph.specs.declared.crate_data.Dependency.{Dependency}
+use Rattle.crate_values.specs.Laws.{renamed_dependency}
+use Rattle.crate_values.specs.declared.builder.CrateBuilder.{CrateBuilder}
+use Rattle.crate_values.specs.declared.crate_data.CrateTag.{CrateTag}
+use Rattle.crate_values.specs.declared.crate_data.Dependency.{Dependency}
 
 -- the number of a crate
 abbrev pub Id : Type 0

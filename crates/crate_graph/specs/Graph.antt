@@ -5,10 +5,10 @@ use Rattle.base_text.specs.Arena.{number_of}
 use Rattle.base_text.specs.declared.arena.Idx.{Idx}
 use Rattle.graph_base.specs.Edges.{IsInRange}
 use Rattle.graph_base.specs.Reach.{IsAcyclic}
-use Rattle.crate_graph.specs.Laws.{HasCleanPath}
-use Rattle.crate_graph.specs.declared.builder.CrateBuilder.{CrateBuilder}
-use Rattle.crate_graph.specs.declared.crate_data.Dependency.{Dependency}
-use Rattle.crate_graph.specs.declared.crate_data.CrateTag.{CrateTag}
+use Rattle.crate_values.specs.Laws.{HasCleanPath}
+use Rattle.crate_values.specs.declared.builder.CrateBuilder.{CrateBuilder}
+use Rattle.crate_values.specs.declared.crate_data.Dependency.{Dependency}
+use Rattle.crate_values.specs.declared.crate_data.CrateTag.{CrateTag}
 
 -- the number of the crate that a dependency names
 abbrev pub target_of : Dependency (Idx CrateTag) → ℕ

@@ -1,16 +1,6 @@
-pub mod Builder
-pub mod CrateData
 pub mod Cyclic
-pub mod Env
 pub mod Extend
 pub mod Graph
 pub mod GraphError
-pub mod Laws
-pub mod Names
-pub mod Origin
-pub mod ProcMacro
 pub mod Prune
 pub mod Refused
-pub mod ReleaseChannel
-pub mod TargetKind
-pub mod Toolchain

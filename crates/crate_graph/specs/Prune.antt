@@ -5,9 +5,9 @@ use Rattle.base_text.specs.declared.arena.Idx.{Idx}
 use Rattle.graph_base.specs.Edges.{HasEdge}
 use Rattle.graph_base.specs.Kept.{is_named, kept_below}
 use Rattle.crate_graph.specs.Graph.{Graph}
-use Rattle.crate_graph.specs.Laws.{renamed_crate}
-use Rattle.crate_graph.specs.declared.builder.CrateBuilder.{CrateBuilder}
-use Rattle.crate_graph.specs.declared.crate_data.CrateTag.{CrateTag}
+use Rattle.crate_values.specs.Laws.{renamed_crate}
+use Rattle.crate_values.specs.declared.builder.CrateBuilder.{CrateBuilder}
+use Rattle.crate_values.specs.declared.crate_data.CrateTag.{CrateTag}
 
 -- a number under a new name
 abbrev pub renumbered_id : (ℕ → ℕ) → Idx CrateTag → Idx CrateTag

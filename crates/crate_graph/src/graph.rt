@@ -7,7 +7,7 @@ ghost use Rattle.std.specs.List.{range_with_len};
 ghost use Rattle.std.specs.Option.{option_map};
 ghost use Rattle.base_text.specs.Arena.{number_of};
 ghost use Rattle.graph_base.specs.Reach.{IsAcyclic};
-ghost use Rattle.crate_graph.specs.Builder.{crate_of};
+ghost use Rattle.crate_values.specs.Builder.{crate_of};
 ghost use Rattle.crate_graph.specs.Graph.{AddsCrate, IsWellMade, attribute, edges};
 
 mod add_dep;
@@ -17,14 +17,11 @@ mod prune;
 mod reach;
 mod renaming;
 
-use crate::builder::{CrateBuilder, ExtraCrateData};
-use crate::crate_data::{CrateBuilderId, CrateData};
-use crate::env::Env;
-use crate::names::CrateDisplayName;
-use crate::origin::CrateOrigin;
-use crate::target_kind::TargetKind;
-use crate::workspace_data::CrateWorkspaceData;
 use base_text::{AbsPathBuf, CfgOptions, Edition, FileId, Items, Shared, Text};
+use crate_values::{
+    CrateBuilder, CrateBuilderId, CrateData, CrateDisplayName, CrateOrigin, CrateWorkspaceData,
+    Env, ExtraCrateData, TargetKind,
+};
 use graph_base::Graph;
 use std::alloc::{AllocError, Global};
 use std::error::Error;

@@ -1,31 +1,15 @@
-//! The crates of a project as a graph: what each crate is, before any of its code is read.
+//! The crates of a project as a graph, before any of their code is read. What is known of each crate is found here too.
 #![tactic(auto)]
 
-pub mod builder;
-pub mod crate_data;
 pub mod cyclic;
-pub mod env;
 pub mod graph;
-pub mod laws;
-pub mod names;
-pub mod origin;
-pub mod proc_macro;
-pub mod release_channel;
-pub mod target;
-pub mod target_kind;
-pub mod workspace_data;
 
-pub use base_text::{Shared, Version as ToolchainVersion};
-pub use builder::{CrateBuilder, ExtraCrateData, ProcMacroPaths};
-pub use crate_data::{
-    CrateBuilderId, CrateData, CrateDataBuilder, CrateTag, Dependency, DependencyBuilder,
+pub use crate_values::{
+    CrateBuilder, CrateBuilderId, CrateData, CrateDataBuilder, CrateDisplayName, CrateName,
+    CrateOrigin, CrateTag, CrateWorkspaceData, Dependency, DependencyBuilder, Env, ExtraCrateData,
+    LangCrateOrigin, ProcMacroLoadingError, ProcMacroPaths, ReleaseChannel, Shared, TargetKind,
+    ToolchainVersion, builder, crate_data, env, laws, names, origin, proc_macro, release_channel,
+    target, target_kind, workspace_data,
 };
 pub use cyclic::{AddDepError, CyclicDependenciesError};
-pub use env::Env;
 pub use graph::{CrateGraphBuilder, CrateIds, GraphError};
-pub use names::{CrateDisplayName, CrateName};
-pub use origin::{CrateOrigin, LangCrateOrigin};
-pub use proc_macro::ProcMacroLoadingError;
-pub use release_channel::ReleaseChannel;
-pub use target_kind::TargetKind;
-pub use workspace_data::CrateWorkspaceData;

@@ -5,9 +5,9 @@ use Rattle.std.proofs.lemmas.Bool.{and_parts, eqb-true, false≢true}
 use Rattle.base_values.specs.Equality.{IsContentEquality}
 use Rattle.base_text.specs.Paths.{IsClean}
 use Rattle.base_text.specs.declared.cfg.CfgAtom.{CfgAtom}
-use Rattle.crate_graph.specs.declared.builder.ExtraCrateData.{ExtraCrateData}
-use Rattle.crate_graph.specs.declared.crate_data.CrateData.{CrateData}
-use Rattle.crate_graph.specs.declared.workspace_data.CrateWorkspaceData.{CrateWorkspaceData}
+use Rattle.crate_values.specs.declared.builder.ExtraCrateData.{ExtraCrateData}
+use Rattle.crate_values.specs.declared.crate_data.CrateData.{CrateData}
+use Rattle.crate_values.specs.declared.workspace_data.CrateWorkspaceData.{CrateWorkspaceData}
 use Rattle.input_db.specs.Identity.{HasCleanIdentity, HasCleanInput, full_identity, input_eq, root_identity, unique_eq}
 use Rattle.input_db.specs.declared.crate_input.CrateInput.{CrateInput}
 use Rattle.input_db.specs.declared.crate_input.UniqueCrateData.{UniqueCrateData}

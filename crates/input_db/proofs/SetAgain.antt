@@ -14,10 +14,10 @@ use Rattle.std.proofs.lemmas.Option.{same_Some}
 use Rattle.indexmap.specs.IndexMap.{insert_entry}
 use Rattle.graph_base.proofs.FinishLemmas.{visits_unique}
 use Rattle.graph_base.specs.Finish.{IsBehindTargets}
-use Rattle.crate_graph.specs.Builder.{workspace_of}
+use Rattle.crate_values.specs.Builder.{workspace_of}
 use Rattle.crate_graph.specs.Graph.{edges, row_of}
-use Rattle.crate_graph.specs.declared.builder.CrateBuilder.{CrateBuilder}
-use Rattle.crate_graph.specs.declared.crate_data.CrateData.{CrateData}
+use Rattle.crate_values.specs.declared.builder.CrateBuilder.{CrateBuilder}
+use Rattle.crate_values.specs.declared.crate_data.CrateData.{CrateData}
 use Rattle.input_db.specs.Database.{Database, with_crate_input, with_crate_list, writes_after}
 use Rattle.input_db.specs.FinishSteps.{IsSetInSteps, Progress, progress_after, with_new_list}
 use Rattle.input_db.specs.Identity.{Id, Table, crate_for, crate_in, data_of, full_identity, identity_of, input_in, input_of}

@@ -7,9 +7,9 @@ use Rattle.std.specs.Cmp.{unsigned_Decides}
 use Rattle.std.specs.Cmp.Lexicographic.{pointwise_decides}
 use Rattle.std.proofs.lemmas.Bool.{cases_Bool}
 use Rattle.std.proofs.lemmas.List.{take_all}
-use Rattle.crate_graph.specs.declared.builder.CrateBuilder.{CrateBuilder}
+use Rattle.crate_values.specs.declared.builder.CrateBuilder.{CrateBuilder}
 use Rattle.base_text.specs.declared.cfg.CfgAtom.{CfgAtom}
-use Rattle.crate_graph.specs.declared.crate_data.CrateData.{CrateData}
+use Rattle.crate_values.specs.declared.crate_data.CrateData.{CrateData}
 use Rattle.input_db.specs.Database.{Database, with_crate_list}
 use Rattle.input_db.specs.Identity.{named_in, names_of}
 use Rattle.input_db.specs.Identity.{full_identity, root_identity}

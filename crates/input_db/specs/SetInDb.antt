@@ -10,7 +10,7 @@ use Rattle.std.specs.declared.cmp.Ordering.{Ordering}
 use Rattle.base_text.specs.Arena.{number_of}
 use Rattle.graph_base.specs.Finish.{IsBehindTargets, IsFinishOrder}
 use Rattle.crate_graph.specs.Graph.{edges}
-use Rattle.crate_graph.specs.declared.builder.CrateBuilder.{CrateBuilder}
+use Rattle.crate_values.specs.declared.builder.CrateBuilder.{CrateBuilder}
 use Rattle.input_db.specs.Database.{Database}
 use Rattle.input_db.specs.Identity.{Id, IsTable, Table, crate_in, data_of, identity_of, input_in, input_of, number_in, uniques_in}
 use Rattle.input_db.specs.declared.crate_input.UniqueCrateData.{UniqueCrateData}

@@ -3,7 +3,7 @@
 ghost use Rattle.std.specs.Prelude.{◌≡◌, ◌↔◌, ℕ, List, true};
 ghost use Rattle.std.specs.BTreeMap as tree;
 ghost use Rattle.std.specs.declared.cmp.Ordering.{Ordering};
-ghost use Rattle.crate_graph.specs.declared.builder.CrateBuilder.{CrateBuilder};
+ghost use Rattle.crate_values.specs.declared.builder.CrateBuilder.{CrateBuilder};
 ghost use Rattle.input_db.specs.Database.{Database};
 ghost use Rattle.input_db.specs.FinishSteps.{IsSetInSteps};
 ghost use Rattle.input_db.specs.Identity.{Id, HasCleanIdentity, HasCleanInput, input_eq, unique_eq};

@@ -2,8 +2,8 @@
 use Rattle.std.specs.Prelude.{true, false, List, [], ◌∷◌, Option, Some, None}
 use Rattle.cargo_meta.specs.declared.kinds.TargetKind as document
 use Rattle.cargo_meta.specs.declared.kinds.TargetKind.TheVariants as of
-use Rattle.crate_graph.specs.declared.target_kind.TargetKind.{TargetKind}
-use Rattle.crate_graph.specs.declared.target_kind.TargetKind.TheVariants.{Bin, Lib, Example, Test, Bench, BuildScript, Other}
+use Rattle.crate_values.specs.declared.target_kind.TargetKind.{TargetKind}
+use Rattle.crate_values.specs.declared.target_kind.TargetKind.TheVariants.{Bin, Lib, Example, Test, Bench, BuildScript, Other}
 
 -- what a kind of a document is, where it is known
 abbrev pub known_kind : document.TargetKind → Option TargetKind

@@ -7,11 +7,10 @@ ghost use Rattle.crate_graph.specs.Cyclic.{names, numbers, shown_of};
 ghost use Rattle.crate_graph.specs.Refused.{IfCyclic};
 ghost use Rattle.crate_graph.specs.Graph.{AddsDependency, HasDependency, edges, target_of};
 
-use crate::builder::CrateBuilder;
-use crate::crate_data::{CrateBuilderId, DependencyBuilder};
 use crate::cyclic::{AddDepError, CyclicDependenciesError};
 use crate::graph::CrateGraphBuilder;
 use base_text::Items;
+use crate_values::{CrateBuilder, CrateBuilderId, DependencyBuilder};
 use std::alloc::{AllocError, Global};
 use std::mem;
 

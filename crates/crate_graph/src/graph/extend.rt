@@ -10,10 +10,9 @@ ghost use Rattle.crate_graph.specs.Extend.{HoldsBoth, Id, Merges, PassesLimit, m
 mod macros;
 mod merge;
 
-use crate::builder::{CrateBuilder, ProcMacroPaths};
-use crate::crate_data::CrateBuilderId;
 use crate::graph::renaming::ids_of_numbers;
 use crate::graph::{CrateGraphBuilder, GraphError};
+use crate_values::{CrateBuilder, CrateBuilderId, ProcMacroPaths};
 use std::alloc::Global;
 use std::collections::BTreeMap;
 

@@ -10,11 +10,10 @@ ghost use Rattle.crate_graph.specs.Graph.{edges, row_of, target_of};
 ghost use Rattle.crate_graph.specs.Prune.{KeepsNamed, Stays, kept_crates, new_number, number_at};
 ghost use Rattle.crate_graph.specs.Prune.{renumbered_crate};
 
-use crate::builder::CrateBuilder;
-use crate::crate_data::CrateBuilderId;
 use crate::graph::CrateGraphBuilder;
 use crate::graph::renaming::renamed_dependencies;
 use base_text::TryClone;
+use crate_values::{CrateBuilder, CrateBuilderId};
 use std::alloc::{AllocError, Global};
 
 impl CrateGraphBuilder {

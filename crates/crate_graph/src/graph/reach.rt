@@ -7,8 +7,8 @@ ghost use Rattle.graph_base.specs.Edges.{IsAscending};
 ghost use Rattle.graph_base.specs.Reach.{Reaches};
 ghost use Rattle.crate_graph.specs.Graph.{edges};
 
-use crate::crate_data::CrateBuilderId;
 use crate::graph::CrateGraphBuilder;
+use crate_values::CrateBuilderId;
 use std::alloc::{AllocError, Global};
 
 impl CrateGraphBuilder {

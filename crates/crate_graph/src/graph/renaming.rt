@@ -8,11 +8,10 @@ ghost use Rattle.base_text.specs.Arena.{number_of};
 ghost use Rattle.base_values.specs.Sorted.{sorted};
 ghost use Rattle.crate_graph.specs.Extend.{Id, by_number, with_dependencies, with_sorted_dependencies, with_new_ids, new_id_at};
 ghost use Rattle.crate_graph.specs.Graph.{target_of};
-ghost use Rattle.crate_graph.specs.Laws.{renamed_dependency};
+ghost use Rattle.crate_values.specs.Laws.{renamed_dependency};
 
-use crate::builder::CrateBuilder;
-use crate::crate_data::{CrateBuilderId, DependencyBuilder};
 use base_text::{Items, TryClone};
+use crate_values::{CrateBuilder, CrateBuilderId, DependencyBuilder};
 use std::alloc::{AllocError, Global};
 use std::collections::BTreeMap;
 

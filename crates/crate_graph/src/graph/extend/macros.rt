@@ -6,11 +6,9 @@ ghost use Rattle.std.specs.List.{All};
 ghost use Rattle.base_text.specs.Arena.{number_of};
 ghost use Rattle.crate_graph.specs.Extend.{Id, moved_entry, new_id_at};
 
-use crate::builder::ProcMacroPaths;
-use crate::crate_data::CrateBuilderId;
 use crate::graph::renaming::new_id_at;
-use crate::proc_macro::ProcMacroLoadingError;
 use base_text::{AbsPathBuf, Text, TryClone};
+use crate_values::{CrateBuilderId, ProcMacroLoadingError, ProcMacroPaths};
 use std::alloc::{AllocError, Global};
 use std::collections::BTreeMap;
 

@@ -6,9 +6,9 @@ ghost use Rattle.graph_base.specs.Edges.{IsInRange};
 ghost use Rattle.crate_graph.specs.Extend.{before_merge, merge_of, take_in, with_first_equal, with_crate_at};
 ghost use Rattle.crate_graph.specs.Graph.{edges};
 
-use crate::builder::CrateBuilder;
 use crate::graph::renaming::{copies_in_order, renamed_copy};
 use crate::graph::{GraphError, put};
+use crate_values::CrateBuilder;
 use std::alloc::{AllocError, Global};
 use std::marker::Model;
 

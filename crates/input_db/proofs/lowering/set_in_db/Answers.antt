@@ -4,7 +4,7 @@ use Rattle.std.specs.List.{All}
 use Rattle.graph_base.specs.Finish.{IsBehindTargets}
 use Rattle.base_text.specs.Paths.{IsClean}
 use Rattle.crate_graph.specs.Graph.{edges}
-use Rattle.crate_graph.specs.declared.builder.CrateBuilder.{CrateBuilder}
+use Rattle.crate_values.specs.declared.builder.CrateBuilder.{CrateBuilder}
 use Rattle.input_db.specs.Database.{Database}
 use Rattle.input_db.specs.Identity.{IsTable}
 use Rattle.input_db.specs.FinishSteps.{Progress, progress_after, with_new_list}

@@ -1,7 +1,7 @@
 use Rattle.std.proofs.Common.{◌≡◌, ◌<◌, [], ap, ◌∙◌, arith, length, subst, sym}
 use Rattle.crate_graph.specs.Graph.{edges}
 use Rattle.base_text.specs.Paths.{IsClean}
-use Rattle.crate_graph.specs.Laws.{HasCleanPath}
+use Rattle.crate_values.specs.Laws.{HasCleanPath}
 use Rattle.graph_base.proofs.ReachLemmas.{acyclic_with_node, in_range_with_node}
 use Rattle.crate_graph.proofs.GraphLemmas.{well_made-with_crate}
 use Rattle.crate_graph.proofs.graph.CrateGraphBuilder.add_crate_root.Goals as goal

@@ -7,10 +7,10 @@ use Rattle.std.proofs.lemmas.List.Elements.{Contains-get_or}
 use Rattle.graph_base.specs.Edges.{IsInRange}
 use Rattle.base_text.specs.Arena.{number_of}
 use Rattle.base_text.specs.contracts.arena.IdxOrd.TheImpl as numbers
-use Rattle.crate_graph.specs.contracts.builder.CrateBuilderPartialEq.TheImpl as krates
-use Rattle.crate_graph.specs.contracts.builder.CrateBuilderEq.TheImpl.Laws as krate_eq
-use Rattle.crate_graph.specs.contracts.crate_data.CrateTag.{the_row}
-use Rattle.crate_graph.specs.Laws.{HasCleanPath}
+use Rattle.crate_values.specs.contracts.builder.CrateBuilderPartialEq.TheImpl as krates
+use Rattle.crate_values.specs.contracts.builder.CrateBuilderEq.TheImpl.Laws as krate_eq
+use Rattle.crate_values.specs.contracts.crate_data.CrateTag.{the_row}
+use Rattle.crate_values.specs.Laws.{HasCleanPath}
 use Rattle.crate_graph.specs.Extend.{AreApart, HasEquals, Id, KeepsCrates, merge_of, moved_entry, new_id, new_id_at}
 use Rattle.crate_graph.specs.Graph.{IsWellMade, edges}
 use Rattle.graph_base.proofs.FinishLemmas.{acyclic_above}

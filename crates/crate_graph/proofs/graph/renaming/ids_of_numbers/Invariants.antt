@@ -4,7 +4,7 @@ use Rattle.std.specs.Prelude.{slice_get}
 use Rattle.std.specs.Option.{option_map}
 use Rattle.base_text.specs.Arena.{number_of}
 use Rattle.base_text.specs.contracts.arena.IdxOrd.TheImpl as numbers
-use Rattle.crate_graph.specs.contracts.crate_data.CrateTag.{the_row}
+use Rattle.crate_values.specs.contracts.crate_data.CrateTag.{the_row}
 use Rattle.crate_graph.specs.Extend.{Id}
 use Rattle.crate_graph.proofs.graph.renaming.ids_of_numbers.Given as goal
 

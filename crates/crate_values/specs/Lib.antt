@@ -1,0 +1,10 @@
+pub mod Builder
+pub mod CrateData
+pub mod Env
+pub mod Laws
+pub mod Names
+pub mod Origin
+pub mod ProcMacro
+pub mod ReleaseChannel
+pub mod TargetKind
+pub mod Toolchain
