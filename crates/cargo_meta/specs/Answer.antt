@@ -7,8 +7,8 @@ use Rattle.json_fields.specs.Document.{document}
 use Rattle.json_fields.specs.Outcome.{Reading}
 use Rattle.cargo_meta.specs.Command.{joined}
 use Rattle.cargo_meta.specs.Metadata.{metadata_at}
-use Rattle.cargo_meta.specs.declared.errors.Error.{Error}
-use Rattle.cargo_meta.specs.declared.errors.Error.TheVariants.{CargoMetadata, Io, Json, NoJson, OutOfMemory}
+use Rattle.cargo_values.specs.declared.errors.Error.{Error}
+use Rattle.cargo_values.specs.declared.errors.Error.TheVariants.{CargoMetadata, Io, Json, NoJson, OutOfMemory}
 use Rattle.cargo_meta.specs.declared.metadata.Metadata.{Metadata}
 
 -- the program and its words, with a space between each two

@@ -1,13 +1,7 @@
-pub mod Kinds
-pub mod Names
-pub mod Target
-pub mod Dependency
 pub mod Package
 pub mod NewPackage
 pub mod Beside
-pub mod Resolve
 pub mod Metadata
-pub mod Errors
 pub mod Select
 pub mod Command
 pub mod GivesBack

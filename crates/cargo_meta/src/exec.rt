@@ -7,14 +7,14 @@ ghost use Rattle.json_fields.specs.Document.{IsWholeAgain};
 ghost use Rattle.cargo_meta.specs.Answer as spec;
 ghost use Rattle.cargo_meta.specs.Answer.{Answers, of_answer, of_output};
 ghost use Rattle.cargo_meta.specs.Command.{command_of};
-ghost use Rattle.cargo_meta.specs.Errors.{GivesDocument};
+ghost use Rattle.cargo_values.specs.Errors.{GivesDocument};
 ghost use Rattle.cargo_meta.specs.Metadata.{metadata_at, metadata_data};
 
 use crate::command::MetadataCommand;
-use crate::errors::{Error, as_error};
 use crate::metadata::Metadata;
 use crate::words::joined;
 use base_text::{CommandLine, Output, Runner, Text};
+use cargo_values::{Error, as_error};
 use json_fields::of_text;
 use std::alloc::{AllocError, Global};
 

@@ -3,31 +3,21 @@
 
 mod beside;
 pub mod command;
-pub mod dependency;
 pub mod documents;
-pub mod errors;
 pub mod exec;
-pub mod kinds;
 pub mod metadata;
-pub mod names;
 pub mod package;
 mod package_rows;
-mod printed;
-pub mod resolve;
 pub mod select;
-pub mod target;
 mod words;
 
 pub use base_text::Version;
-pub use command::{CargoOpt, MetadataCommand};
-pub use dependency::Dependency;
-pub use errors::Error;
-pub use json_fields::{AnyValue, BareError, Requirement, bare_version};
-pub use kinds::{CrateType, DependencyKind, Edition, TargetKind};
-pub use metadata::{Metadata, WorkspaceDefaultMembers};
-pub use names::{
-    FeatureName, FeatureTag, PackageId, PackageName, PackageTag, Source, names_compare_as_texts,
+pub use cargo_values::{
+    CrateType, DepKindInfo, Dependency, DependencyKind, Edition, Error, FeatureName, FeatureTag,
+    Node, NodeDep, PackageId, PackageName, PackageTag, Resolve, Source, Target, TargetKind,
+    dependency, errors, kinds, names, names_compare_as_texts, resolve, target,
 };
+pub use command::{CargoOpt, MetadataCommand};
+pub use json_fields::{AnyValue, BareError, Requirement, bare_version};
+pub use metadata::{Metadata, WorkspaceDefaultMembers};
 pub use package::Package;
-pub use resolve::{DepKindInfo, Node, NodeDep, Resolve};
-pub use target::Target;

@@ -5,9 +5,9 @@ ghost use Rattle.serde_json.specs.View.{members_view};
 ghost use Rattle.json_fields.specs.Outcome.{Gives};
 ghost use Rattle.cargo_meta.specs.Package.{body_from, body_set, head_from, head_set, tail_from, tail_set};
 
-use crate::kinds::Edition;
 use crate::package::Package;
 use base_text::{Text, Version};
+use cargo_values::Edition;
 use json_fields::{
     AnyValue, BareVersion, ReadError, defaulted, listed, optional, required, set, set_unless_null,
 };

@@ -1,7 +1,7 @@
 -- The kind of a target, one kind of the document after another.
 use Rattle.std.proofs.Common.{◌≡◌, ℕ, ◌+◌, ◌<◌, suc, List, ap, arith, drop, get_or, length, sym, ◌∙◌}
 use Rattle.std.proofs.Math.Seq.{drop-cons}
-use Rattle.cargo_meta.specs.declared.kinds.TargetKind.{TargetKind}
+use Rattle.cargo_values.specs.declared.kinds.TargetKind.{TargetKind}
 use Rattle.pm_packages.specs.TargetKinds.{first_known, known_kind, target_kind}
 
 -- the first kind that is left decides, where it is known

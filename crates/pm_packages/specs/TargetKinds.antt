@@ -1,7 +1,7 @@
 -- The kind of a target: documents of `cargo metadata` list several kinds, of which the first that is known counts.
 use Rattle.std.specs.Prelude.{true, false, List, [], ◌∷◌, Option, Some, None}
-use Rattle.cargo_meta.specs.declared.kinds.TargetKind as document
-use Rattle.cargo_meta.specs.declared.kinds.TargetKind.TheVariants as of
+use Rattle.cargo_values.specs.declared.kinds.TargetKind as document
+use Rattle.cargo_values.specs.declared.kinds.TargetKind.TheVariants as of
 use Rattle.crate_values.specs.declared.target_kind.TargetKind.{TargetKind}
 use Rattle.crate_values.specs.declared.target_kind.TargetKind.TheVariants.{Bin, Lib, Example, Test, Bench, BuildScript, Other}
 

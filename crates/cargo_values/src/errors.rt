@@ -2,7 +2,7 @@
 
 ghost use Rattle.std.specs.Prelude.{◌≡◌, IfOk, Ok};
 ghost use Rattle.json_fields.specs.Outcome.{Gives, Reading};
-ghost use Rattle.cargo_meta.specs.Errors.{GivesDocument};
+ghost use Rattle.cargo_values.specs.Errors.{GivesDocument};
 
 use base_text::{Text, TryClone};
 use json_fields::ReadError;
@@ -25,7 +25,7 @@ pub enum Error {
 
 impl From<AllocError> for Error {
     ghost use Rattle.std.specs.Prelude.{◌≡◌};
-    ghost use Rattle.cargo_meta.specs.declared.errors.Error.TheVariants.{OutOfMemory};
+    ghost use Rattle.cargo_values.specs.declared.errors.Error.TheVariants.{OutOfMemory};
 
     ghost from_gives = { λ _ e. e ≡ OutOfMemory };
 
@@ -56,7 +56,7 @@ impl error::Error for Error {}
 
 impl fmt::Display for Error {
     ghost use Rattle.std.specs.Prelude.{Some};
-    ghost use Rattle.cargo_meta.specs.Errors.{error_text};
+    ghost use Rattle.cargo_values.specs.Errors.{error_text};
 
     ghost output = { λ e. Some (error_text e) };
 
@@ -83,7 +83,7 @@ impl fmt::Display for Error {
 }
 
 /// What a document's reader returned, with this crate's error.
-pub(crate) fn as_error<T>(answer: Result<T, ReadError>) -> Result<T, Error>
+pub fn as_error<T>(answer: Result<T, ReadError>) -> Result<T, Error>
     ensures exact { (reading : Reading T) → Gives answer reading → GivesDocument result reading }
     ensures same { IfOk result (λ x. answer ≡ Ok x) }
 {

@@ -5,7 +5,7 @@ use std::fmt;
 
 impl fmt::Display for TargetKind {
     ghost use Rattle.std.specs.Prelude.{Some};
-    ghost use Rattle.cargo_meta.specs.Kinds.{target_kind_text};
+    ghost use Rattle.cargo_values.specs.Kinds.{target_kind_text};
 
     ghost output = { λ kind. Some (target_kind_text kind) };
 
@@ -16,7 +16,7 @@ impl fmt::Display for TargetKind {
 
 impl fmt::Display for CrateType {
     ghost use Rattle.std.specs.Prelude.{Some};
-    ghost use Rattle.cargo_meta.specs.Kinds.{crate_type_text};
+    ghost use Rattle.cargo_values.specs.Kinds.{crate_type_text};
 
     ghost output = { λ kind. Some (crate_type_text kind) };
 
@@ -27,7 +27,7 @@ impl fmt::Display for CrateType {
 
 impl fmt::Display for DependencyKind {
     ghost use Rattle.std.specs.Prelude.{Some};
-    ghost use Rattle.cargo_meta.specs.Kinds.{dependency_kind_text};
+    ghost use Rattle.cargo_values.specs.Kinds.{dependency_kind_text};
 
     ghost output = { λ kind. Some (dependency_kind_text kind) };
 
@@ -38,7 +38,7 @@ impl fmt::Display for DependencyKind {
 
 impl fmt::Display for Edition {
     ghost use Rattle.std.specs.Prelude.{Some};
-    ghost use Rattle.cargo_meta.specs.Kinds.{edition_text};
+    ghost use Rattle.cargo_values.specs.Kinds.{edition_text};
 
     ghost output = { λ edition. Some (edition_text edition) };
 

@@ -7,8 +7,8 @@ use Rattle.std.specs.Ordering.{nat_cmp}
 use Rattle.serde_json.specs.Data.{Data}
 use Rattle.json_fields.specs.Outcome.{Reading}
 use Rattle.json_fields.specs.TextJson.{text_form_at, text_form_data}
-use Rattle.cargo_meta.specs.declared.names.PackageId.{PackageId}
-use Rattle.cargo_meta.specs.declared.names.Source.{Source}
+use Rattle.cargo_values.specs.declared.names.PackageId.{PackageId}
+use Rattle.cargo_values.specs.declared.names.Source.{Source}
 
 -- equality, order and what a hash takes are those of a text
 pub record ComparesAsText {T : Type 0} (text : T → List ℕ) (eq : T → T → Bool) (cmp : T → T → Ordering) (hash_input : T → List (List ℕ)) : Type 0 where

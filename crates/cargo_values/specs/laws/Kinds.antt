@@ -7,14 +7,14 @@ use Rattle.serde_json.specs.Written.{has_float}
 use Rattle.json_fields.specs.Laws.Names.{value_named-again, value_named_or-again, value_named_or_one-again}
 use Rattle.json_fields.specs.Laws.TextForms.{text_form-round_trips}
 use Rattle.json_fields.specs.RoundTrip.{IsKept, RoundTrips}
-use Rattle.cargo_meta.specs.Kinds.{crate_types, dependency_kinds, editions, target_kinds, crate_type_at, crate_type_data, crate_type_of, crate_type_text, dependency_kind_at, dependency_kind_data, dependency_kind_of, dependency_kind_text, edition_at, edition_data, edition_of, edition_text, target_kind_at, target_kind_data, target_kind_of, target_kind_text}
+use Rattle.cargo_values.specs.Kinds.{crate_types, dependency_kinds, editions, target_kinds, crate_type_at, crate_type_data, crate_type_of, crate_type_text, dependency_kind_at, dependency_kind_data, dependency_kind_of, dependency_kind_text, edition_at, edition_data, edition_of, edition_text, target_kind_at, target_kind_data, target_kind_of, target_kind_text}
 use Rattle.json_fields.specs.Outcome.{Reading}
-use Rattle.cargo_meta.specs.declared.kinds.TargetKind.{TargetKind}
-use Rattle.cargo_meta.specs.declared.kinds.CrateType.{CrateType}
-use Rattle.cargo_meta.specs.declared.kinds.DependencyKind.{DependencyKind}
-use Rattle.cargo_meta.specs.declared.kinds.TargetKind.TheVariants as target
-use Rattle.cargo_meta.specs.declared.kinds.CrateType.TheVariants as crate_type
-use Rattle.cargo_meta.specs.declared.kinds.DependencyKind.TheVariants as dependency
+use Rattle.cargo_values.specs.declared.kinds.TargetKind.{TargetKind}
+use Rattle.cargo_values.specs.declared.kinds.CrateType.{CrateType}
+use Rattle.cargo_values.specs.declared.kinds.DependencyKind.{DependencyKind}
+use Rattle.cargo_values.specs.declared.kinds.TargetKind.TheVariants as target
+use Rattle.cargo_values.specs.declared.kinds.CrateType.TheVariants as crate_type
+use Rattle.cargo_values.specs.declared.kinds.DependencyKind.TheVariants as dependency
 
 -- the text of a target kind that was read gives the same kind
 pub target_kind-again : (text : List ℕ) → ◌≡◌ {A = Reading TargetKind} (Ok (target_kind_of (target_kind_text (target_kind_of text)))) (Ok (target_kind_of text))

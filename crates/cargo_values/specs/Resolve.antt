@@ -5,13 +5,13 @@ use Rattle.serde_json.specs.Data.{Data, object, no_members, string}
 use Rattle.json_fields.specs.Fields.{members_at, required, optional, defaulted, text_at, list_at}
 use Rattle.json_fields.specs.Outcome.{Reading, ◌>>=◌}
 use Rattle.json_fields.specs.Written.{is_null, list_data, option_data, set_member}
-use Rattle.cargo_meta.specs.Kinds.{dependency_kind_at, dependency_kind_data}
-use Rattle.cargo_meta.specs.Names.{package_id_at, package_id_data}
-use Rattle.cargo_meta.specs.declared.names.PackageId.{PackageId}
-use Rattle.cargo_meta.specs.declared.resolve.DepKindInfo.{DepKindInfo}
-use Rattle.cargo_meta.specs.declared.resolve.NodeDep.{NodeDep}
-use Rattle.cargo_meta.specs.declared.resolve.Node.{Node}
-use Rattle.cargo_meta.specs.declared.resolve.Resolve.{Resolve}
+use Rattle.cargo_values.specs.Kinds.{dependency_kind_at, dependency_kind_data}
+use Rattle.cargo_values.specs.Names.{package_id_at, package_id_data}
+use Rattle.cargo_values.specs.declared.names.PackageId.{PackageId}
+use Rattle.cargo_values.specs.declared.resolve.DepKindInfo.{DepKindInfo}
+use Rattle.cargo_values.specs.declared.resolve.NodeDep.{NodeDep}
+use Rattle.cargo_values.specs.declared.resolve.Node.{Node}
+use Rattle.cargo_values.specs.declared.resolve.Resolve.{Resolve}
 
 -- when and where a dependency is needed
 unfoldable pub dep_kind_at : Data → Reading DepKindInfo

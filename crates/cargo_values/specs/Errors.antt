@@ -1,8 +1,8 @@
 -- why metadata was not had, and what is printed of it: the texts of the crate `cargo_metadata`
 use Rattle.std.specs.Prelude.{◌≡◌, ◌++◌, ℕ, List, codes, Result, Ok, Err}
 use Rattle.json_fields.specs.Outcome.{Reading}
-use Rattle.cargo_meta.specs.declared.errors.Error.{Error}
-use Rattle.cargo_meta.specs.declared.errors.Error.TheVariants.{CargoMetadata, Io, Json, NoJson, OutOfMemory}
+use Rattle.cargo_values.specs.declared.errors.Error.{Error}
+use Rattle.cargo_values.specs.declared.errors.Error.TheVariants.{CargoMetadata, Io, Json, NoJson, OutOfMemory}
 
 -- the text that is printed
 abbrev pub error_text : Error → List ℕ

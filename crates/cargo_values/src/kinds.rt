@@ -1,8 +1,8 @@
 //! The kinds of targets, crates and dependencies, and the editions, each with its text.
 
 ghost use Rattle.std.specs.Prelude.{◌≡◌, IfOk, Ok};
-ghost use Rattle.cargo_meta.specs.Kinds.{crate_type_of, crate_type_text, dependency_kind_at, dependency_kind_data, dependency_kind_of, dependency_kind_text, edition_of, edition_text, target_kind_of, target_kind_text};
-ghost use Rattle.cargo_meta.specs.laws.Kinds.{crate_type-again, dependency_kind-round_trips, edition-again, target_kind-again};
+ghost use Rattle.cargo_values.specs.Kinds.{crate_type_of, crate_type_text, dependency_kind_at, dependency_kind_data, dependency_kind_of, dependency_kind_text, edition_of, edition_text, target_kind_of, target_kind_text};
+ghost use Rattle.cargo_values.specs.laws.Kinds.{crate_type-again, dependency_kind-round_trips, edition-again, target_kind-again};
 
 use base_text::{Text, TryClone};
 use json_fields::{Json, ReadError, ReadJson, TextJson, missed};
@@ -237,7 +237,7 @@ impl DependencyKind {
 }
 
 impl Default for DependencyKind {
-    ghost use Rattle.cargo_meta.specs.declared.kinds.DependencyKind.TheVariants.{Normal};
+    ghost use Rattle.cargo_values.specs.declared.kinds.DependencyKind.TheVariants.{Normal};
     ghost use Rattle.std.specs.Prelude.{◌≡◌};
 
     ghost is_default = { λ kind. kind ≡ Normal };
@@ -294,7 +294,7 @@ impl Edition {
 }
 
 impl Default for Edition {
-    ghost use Rattle.cargo_meta.specs.declared.kinds.Edition.TheVariants.{E2015};
+    ghost use Rattle.cargo_values.specs.declared.kinds.Edition.TheVariants.{E2015};
     ghost use Rattle.std.specs.Prelude.{◌≡◌};
 
     ghost is_default = { λ edition. edition ≡ E2015 };

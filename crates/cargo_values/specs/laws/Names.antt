@@ -2,7 +2,7 @@
 use Rattle.std.specs.Prelude.{refl}
 use Rattle.json_fields.specs.Laws.TextForms.{text_form-round_trips}
 use Rattle.json_fields.specs.RoundTrip.{RoundTrips}
-use Rattle.cargo_meta.specs.Names.{package_id_at, package_id_data, package_id_of, package_id_text, source_at, source_data, source_of, source_text}
+use Rattle.cargo_values.specs.Names.{package_id_at, package_id_data, package_id_of, package_id_text, source_at, source_data, source_of, source_text}
 
 -- ids of packages
 pub package_id-round_trips : RoundTrips package_id_at package_id_data 0

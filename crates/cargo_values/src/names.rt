@@ -1,7 +1,7 @@
 //! The names of packages and features, and the ids and sources of packages.
 
 ghost use Rattle.std.specs.Prelude.{◌≡◌, ℕ, List, refl};
-ghost use Rattle.cargo_meta.specs.Names.{ComparesAsText, is_crates_io, package_id_of, package_id_text, source_of, source_text};
+ghost use Rattle.cargo_values.specs.Names.{ComparesAsText, is_crates_io, package_id_of, package_id_text, source_of, source_text};
 
 use base_text::{Name, Text, TryClone};
 use json_fields::{ReadError, TextJson};

@@ -45,7 +45,7 @@ impl TryClone for Dependency {
 
 #[tactic(auto, unfolding(crate::specs::Dependency::dependency_at, json_fields::specs::Fields::required, json_fields::specs::Fields::optional, json_fields::specs::Fields::defaulted))]
 impl ReadJson for Dependency {
-    ghost use Rattle.cargo_meta.specs.Dependency.{dependency_at};
+    ghost use Rattle.cargo_values.specs.Dependency.{dependency_at};
 
     ghost reads = { dependency_at };
 
@@ -69,8 +69,8 @@ impl ReadJson for Dependency {
 
 #[tactic(auto, unfolding(crate::specs::Dependency::dependency_data, json_fields::specs::Written::set_member))]
 impl Json for Dependency {
-    ghost use Rattle.cargo_meta.specs.Dependency.{dependency_data};
-    ghost use Rattle.cargo_meta.specs.laws.Dependency.{dependency-round_trips};
+    ghost use Rattle.cargo_values.specs.Dependency.{dependency_data};
+    ghost use Rattle.cargo_values.specs.laws.Dependency.{dependency-round_trips};
 
     ghost writes = { dependency_data };
 
@@ -101,7 +101,7 @@ impl Json for Dependency {
 }
 
 impl Present for Dependency {
-    ghost use Rattle.cargo_meta.specs.Dependency.{dependency_data-present};
+    ghost use Rattle.cargo_values.specs.Dependency.{dependency_data-present};
 
     ghost present = { dependency_data-present };
 }

@@ -6,10 +6,10 @@ use Rattle.json_fields.specs.Fields.{defaulted, required}
 use Rattle.json_fields.specs.Laws.RoundTrips.{AreWithin, and_then, at_last, defaulted-kept, flag-round_trips, list-round_trips, listed-kept, no_members-written, required-kept, set_member-written, table-round_trips, text-round_trips}
 use Rattle.json_fields.specs.RoundTrip.{RoundTrips}
 use Rattle.json_fields.specs.Written.{set_member}
-use Rattle.cargo_meta.specs.Kinds.{edition_of}
-use Rattle.cargo_meta.specs.Target.{target_at, target_data}
-use Rattle.cargo_meta.specs.declared.kinds.Edition.TheVariants.{E2015}
-use Rattle.cargo_meta.specs.laws.Kinds.{crate_type-round_trips, edition-round_trips, target_kind-round_trips}
+use Rattle.cargo_values.specs.Kinds.{edition_of}
+use Rattle.cargo_values.specs.Target.{target_at, target_data}
+use Rattle.cargo_values.specs.declared.kinds.Edition.TheVariants.{E2015}
+use Rattle.cargo_values.specs.laws.Kinds.{crate_type-round_trips, edition-round_trips, target_kind-round_trips}
 
 -- a target of a package
 pub target-round_trips : RoundTrips target_at target_data 2

@@ -4,14 +4,14 @@ use Rattle.serde_json.specs.Data.{Data, null, boolean, number, string, array, ob
 use Rattle.json_fields.specs.Names.{value_named, value_named_or}
 use Rattle.json_fields.specs.Outcome.{Reading}
 use Rattle.json_fields.specs.TextJson.{text_form_at, text_form_data}
-use Rattle.cargo_meta.specs.declared.kinds.TargetKind.{TargetKind}
-use Rattle.cargo_meta.specs.declared.kinds.TargetKind.TheVariants as target
-use Rattle.cargo_meta.specs.declared.kinds.CrateType.{CrateType}
-use Rattle.cargo_meta.specs.declared.kinds.CrateType.TheVariants as crate_type
-use Rattle.cargo_meta.specs.declared.kinds.DependencyKind.{DependencyKind}
-use Rattle.cargo_meta.specs.declared.kinds.DependencyKind.TheVariants as dependency
-use Rattle.cargo_meta.specs.declared.kinds.Edition.{Edition}
-use Rattle.cargo_meta.specs.declared.kinds.Edition.TheVariants as edition
+use Rattle.cargo_values.specs.declared.kinds.TargetKind.{TargetKind}
+use Rattle.cargo_values.specs.declared.kinds.TargetKind.TheVariants as target
+use Rattle.cargo_values.specs.declared.kinds.CrateType.{CrateType}
+use Rattle.cargo_values.specs.declared.kinds.CrateType.TheVariants as crate_type
+use Rattle.cargo_values.specs.declared.kinds.DependencyKind.{DependencyKind}
+use Rattle.cargo_values.specs.declared.kinds.DependencyKind.TheVariants as dependency
+use Rattle.cargo_values.specs.declared.kinds.Edition.{Edition}
+use Rattle.cargo_values.specs.declared.kinds.Edition.TheVariants as edition
 
 -- the text of a kind of target
 abbrev pub target_kind_text : TargetKind → List ℕ

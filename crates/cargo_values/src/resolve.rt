@@ -1,7 +1,7 @@
 //! The resolved graph: which package depends on which, when and where.
 
 ghost use Rattle.std.specs.Prelude.{◌≡◌, option_copied};
-ghost use Rattle.cargo_meta.specs.Resolve.{node_of};
+ghost use Rattle.cargo_values.specs.Resolve.{node_of};
 
 use crate::kinds::DependencyKind;
 use crate::names::{FeatureName, PackageId};
@@ -55,7 +55,7 @@ impl Index<&PackageId> for Resolve {
     type Output = Node;
 
     ghost use Rattle.std.specs.Prelude.{◌≡◌, IsSome, Some};
-    ghost use Rattle.cargo_meta.specs.Resolve.{node_of};
+    ghost use Rattle.cargo_values.specs.Resolve.{node_of};
 
     ghost can_index = { λ r id. IsSome (node_of id.now r) };
 
@@ -110,7 +110,7 @@ impl TryClone for Resolve {
 
 #[tactic(auto, unfolding(crate::specs::Kinds::dependency_kind_of, crate::specs::Resolve::dep_kind_at, json_fields::specs::Fields::required, json_fields::specs::Fields::optional))]
 impl ReadJson for DepKindInfo {
-    ghost use Rattle.cargo_meta.specs.Resolve.{dep_kind_at};
+    ghost use Rattle.cargo_values.specs.Resolve.{dep_kind_at};
 
     ghost reads = { dep_kind_at };
 
@@ -125,8 +125,8 @@ impl ReadJson for DepKindInfo {
 
 #[tactic(auto, unfolding(crate::specs::Resolve::dep_kind_data, json_fields::specs::Written::set_member))]
 impl Json for DepKindInfo {
-    ghost use Rattle.cargo_meta.specs.Resolve.{dep_kind_data};
-    ghost use Rattle.cargo_meta.specs.laws.Resolve.{dep_kind-round_trips};
+    ghost use Rattle.cargo_values.specs.Resolve.{dep_kind_data};
+    ghost use Rattle.cargo_values.specs.laws.Resolve.{dep_kind-round_trips};
 
     ghost writes = { dep_kind_data };
 
@@ -144,7 +144,7 @@ impl Json for DepKindInfo {
 
 #[tactic(auto, unfolding(crate::specs::Resolve::node_dep_at, json_fields::specs::Fields::required, json_fields::specs::Fields::defaulted))]
 impl ReadJson for NodeDep {
-    ghost use Rattle.cargo_meta.specs.Resolve.{node_dep_at};
+    ghost use Rattle.cargo_values.specs.Resolve.{node_dep_at};
 
     ghost reads = { node_dep_at };
 
@@ -160,8 +160,8 @@ impl ReadJson for NodeDep {
 
 #[tactic(auto, unfolding(crate::specs::Resolve::node_dep_data, json_fields::specs::Written::set_member))]
 impl Json for NodeDep {
-    ghost use Rattle.cargo_meta.specs.Resolve.{node_dep_data};
-    ghost use Rattle.cargo_meta.specs.laws.Resolve.{node_dep-round_trips};
+    ghost use Rattle.cargo_values.specs.Resolve.{node_dep_data};
+    ghost use Rattle.cargo_values.specs.laws.Resolve.{node_dep-round_trips};
 
     ghost writes = { node_dep_data };
 
@@ -180,7 +180,7 @@ impl Json for NodeDep {
 
 #[tactic(auto, unfolding(crate::specs::Resolve::node_at, json_fields::specs::Fields::required, json_fields::specs::Fields::defaulted))]
 impl ReadJson for Node {
-    ghost use Rattle.cargo_meta.specs.Resolve.{node_at};
+    ghost use Rattle.cargo_values.specs.Resolve.{node_at};
 
     ghost reads = { node_at };
 
@@ -197,8 +197,8 @@ impl ReadJson for Node {
 
 #[tactic(auto, unfolding(crate::specs::Resolve::node_data, json_fields::specs::Written::set_member))]
 impl Json for Node {
-    ghost use Rattle.cargo_meta.specs.Resolve.{node_data};
-    ghost use Rattle.cargo_meta.specs.laws.Resolve.{node-round_trips};
+    ghost use Rattle.cargo_values.specs.Resolve.{node_data};
+    ghost use Rattle.cargo_values.specs.laws.Resolve.{node-round_trips};
 
     ghost writes = { node_data };
 
@@ -218,7 +218,7 @@ impl Json for Node {
 
 #[tactic(auto, unfolding(crate::specs::Resolve::resolve_at, json_fields::specs::Fields::required, json_fields::specs::Fields::optional))]
 impl ReadJson for Resolve {
-    ghost use Rattle.cargo_meta.specs.Resolve.{resolve_at};
+    ghost use Rattle.cargo_values.specs.Resolve.{resolve_at};
 
     ghost reads = { resolve_at };
 
@@ -233,8 +233,8 @@ impl ReadJson for Resolve {
 
 #[tactic(auto, unfolding(crate::specs::Resolve::resolve_data, json_fields::specs::Written::set_member))]
 impl Json for Resolve {
-    ghost use Rattle.cargo_meta.specs.Resolve.{resolve_data};
-    ghost use Rattle.cargo_meta.specs.laws.Resolve.{resolve-round_trips};
+    ghost use Rattle.cargo_values.specs.Resolve.{resolve_data};
+    ghost use Rattle.cargo_values.specs.laws.Resolve.{resolve-round_trips};
 
     ghost writes = { resolve_data };
 
@@ -251,7 +251,7 @@ impl Json for Resolve {
 }
 
 impl Present for Resolve {
-    ghost use Rattle.cargo_meta.specs.Resolve.{resolve_data-present};
+    ghost use Rattle.cargo_values.specs.Resolve.{resolve_data-present};
 
     ghost present = { resolve_data-present };
 }

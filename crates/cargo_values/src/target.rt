@@ -4,9 +4,9 @@ ghost use Rattle.std.specs.Prelude.{◌≡◌, ◌↔◌, IfOk, IsTrue};
 ghost use Rattle.std.specs.List.{Contains};
 ghost use Rattle.serde_json.specs.View.{view};
 ghost use Rattle.json_fields.specs.Document.{IsWholeAgain, whole};
-ghost use Rattle.cargo_meta.specs.Errors.{GivesDocument};
-ghost use Rattle.cargo_meta.specs.Target.{target_at, target_data};
-ghost use Rattle.cargo_meta.specs.declared.kinds.TargetKind.{TargetKind};
+ghost use Rattle.cargo_values.specs.Errors.{GivesDocument};
+ghost use Rattle.cargo_values.specs.Target.{target_at, target_data};
+ghost use Rattle.cargo_values.specs.declared.kinds.TargetKind.{TargetKind};
 
 use crate::errors::{Error, as_error};
 use crate::kinds::{CrateType, Edition, TargetKind};
@@ -139,7 +139,7 @@ impl TryClone for Target {
 
 #[tactic(auto, unfolding(crate::specs::Kinds::edition_of, crate::specs::Target::target_at, json_fields::specs::Fields::required, json_fields::specs::Fields::optional, json_fields::specs::Fields::defaulted))]
 impl ReadJson for Target {
-    ghost use Rattle.cargo_meta.specs.Target.{target_at};
+    ghost use Rattle.cargo_values.specs.Target.{target_at};
 
     ghost reads = { target_at };
 
@@ -161,8 +161,8 @@ impl ReadJson for Target {
 
 #[tactic(auto, unfolding(crate::specs::Target::target_data, json_fields::specs::Written::set_member))]
 impl Json for Target {
-    ghost use Rattle.cargo_meta.specs.Target.{target_data};
-    ghost use Rattle.cargo_meta.specs.laws.Target.{target-round_trips};
+    ghost use Rattle.cargo_values.specs.Target.{target_data};
+    ghost use Rattle.cargo_values.specs.laws.Target.{target-round_trips};
 
     ghost writes = { target_data };
 
@@ -191,7 +191,7 @@ impl Json for Target {
 }
 
 impl Present for Target {
-    ghost use Rattle.cargo_meta.specs.Target.{target_data-present};
+    ghost use Rattle.cargo_values.specs.Target.{target_data-present};
 
     ghost present = { target_data-present };
 }

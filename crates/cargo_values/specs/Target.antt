@@ -4,9 +4,9 @@ use Rattle.serde_json.specs.Data.{Data, object, no_members, boolean, string}
 use Rattle.json_fields.specs.Fields.{members_at, required, defaulted, text_at, flag_at, list_at}
 use Rattle.json_fields.specs.Outcome.{Reading, ◌>>=◌}
 use Rattle.json_fields.specs.Written.{is_null, list_data, set_member}
-use Rattle.cargo_meta.specs.Kinds.{crate_type_at, crate_type_data, edition_at, edition_data, target_kind_at, target_kind_data}
-use Rattle.cargo_meta.specs.declared.kinds.Edition.TheVariants.{E2015}
-use Rattle.cargo_meta.specs.declared.target.Target.{Target}
+use Rattle.cargo_values.specs.Kinds.{crate_type_at, crate_type_data, edition_at, edition_data, target_kind_at, target_kind_data}
+use Rattle.cargo_values.specs.declared.kinds.Edition.TheVariants.{E2015}
+use Rattle.cargo_values.specs.declared.target.Target.{Target}
 
 -- a target as its document tells it
 unfoldable pub target_at : Data → Reading Target

@@ -6,9 +6,9 @@ use Rattle.json_fields.specs.Fields.{defaulted, optional, required}
 use Rattle.json_fields.specs.Laws.RoundTrips.{AreWithin, and_then, at_last, list-round_trips, listed-kept, no_members-written, optional-kept, required-kept, set_member-written, table-round_trips, text-round_trips}
 use Rattle.json_fields.specs.RoundTrip.{RoundTrips}
 use Rattle.json_fields.specs.Written.{set_member}
-use Rattle.cargo_meta.specs.Resolve.{dep_kind_at, dep_kind_data, node_at, node_data, node_dep_at, node_dep_data, resolve_at, resolve_data}
-use Rattle.cargo_meta.specs.laws.Kinds.{dependency_kind-of_text, dependency_kind-round_trips}
-use Rattle.cargo_meta.specs.laws.Names.{package_id-round_trips}
+use Rattle.cargo_values.specs.Resolve.{dep_kind_at, dep_kind_data, node_at, node_data, node_dep_at, node_dep_data, resolve_at, resolve_data}
+use Rattle.cargo_values.specs.laws.Kinds.{dependency_kind-of_text, dependency_kind-round_trips}
+use Rattle.cargo_values.specs.laws.Names.{package_id-round_trips}
 
 -- the kind of a resolved dependency
 pub dep_kind-round_trips : RoundTrips dep_kind_at dep_kind_data 0

@@ -7,9 +7,9 @@ use Rattle.json_fields.specs.Laws.RoundTrips.{AreWithin, and_then, at_last, flag
 use Rattle.json_fields.specs.Laws.TextForms.{requirement-round_trips}
 use Rattle.json_fields.specs.RoundTrip.{RoundTrips}
 use Rattle.json_fields.specs.Written.{set_member}
-use Rattle.cargo_meta.specs.Dependency.{dependency_at, dependency_data}
-use Rattle.cargo_meta.specs.laws.Kinds.{dependency_kind-of_text, dependency_kind-round_trips}
-use Rattle.cargo_meta.specs.laws.Names.{source-round_trips}
+use Rattle.cargo_values.specs.Dependency.{dependency_at, dependency_data}
+use Rattle.cargo_values.specs.laws.Kinds.{dependency_kind-of_text, dependency_kind-round_trips}
+use Rattle.cargo_values.specs.laws.Names.{source-round_trips}
 
 -- a dependency that a package declares
 pub dependency-round_trips : RoundTrips dependency_at dependency_data 0

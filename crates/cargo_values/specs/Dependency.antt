@@ -5,9 +5,9 @@ use Rattle.json_fields.specs.Fields.{members_at, required, optional, text_at, fl
 use Rattle.json_fields.specs.Outcome.{Reading, ◌>>=◌}
 use Rattle.json_fields.specs.Versions.{requirement_at}
 use Rattle.json_fields.specs.Written.{is_null, list_data, option_data, set_member}
-use Rattle.cargo_meta.specs.Kinds.{dependency_kind_at, dependency_kind_data}
-use Rattle.cargo_meta.specs.Names.{source_at, source_data}
-use Rattle.cargo_meta.specs.declared.dependency.Dependency.{Dependency}
+use Rattle.cargo_values.specs.Kinds.{dependency_kind_at, dependency_kind_data}
+use Rattle.cargo_values.specs.Names.{source_at, source_data}
+use Rattle.cargo_values.specs.declared.dependency.Dependency.{Dependency}
 
 -- a dependency as its document tells it
 unfoldable pub dependency_at : Data → Reading Dependency
