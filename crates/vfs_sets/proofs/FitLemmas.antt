@@ -4,7 +4,7 @@ use Rattle.std.proofs.Common.{add-one, ap, arith, get_or, if◌then◌else◌, l
 use Rattle.std.proofs.lemmas.Bool.{cond-true}
 use Rattle.std.proofs.lemmas.Bool.Decides.{nat_tests}
 use Rattle.vfs_core.specs.VfsPath.{PathContent}
-use Rattle.vfs_sets.specs.Placement.{IsFit, IsPlaceOf, FitsNoRoot, fits, longest_reach, longest_reach_of_all, place_of, reach, takes}
+use Rattle.vfs_sets.specs.Placement.{IsPlaceOf, FitsNoRoot, fits, longest_reach, longest_reach_of_all, place_of, reach, takes}
 
 -- the reach of a root that fits
 reach-fits : (root path : PathContent) → fits root path ≡ true → reach root path ≡ length root.text + 1

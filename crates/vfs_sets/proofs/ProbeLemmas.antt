@@ -1,5 +1,5 @@
 -- The set that the longest prefix among the roots gives is the place of a path.
-use Rattle.std.proofs.Common.{◌≡◌, ℕ, zero, suc, ◌+◌, ◌<◌, ◌≤◌, Bool, true, false, ◌&&◌, ◌||◌, ◌-◌, List, [], ◌∷◌, ◌++◌, Option, Some, None}
+use Rattle.std.proofs.Common.{◌≡◌, ℕ, zero, suc, ◌+◌, ◌<◌, ◌≤◌, Bool, true, false, ◌&&◌, ◌||◌, ◌-◌, List, [], ◌∷◌, Option, Some, None}
 use Rattle.std.proofs.Common.{ap, arith, cond, Contains, get_or, length, nat_eq, nat_lt, refl, subst, sym, take, true≢false, ◌∙◌, Vec}
 use Rattle.std.proofs.lemmas.Bool.Decides.{nat_tests}
 use Rattle.std.proofs.lemmas.Grind.{common_steps}
@@ -9,8 +9,8 @@ use Rattle.std.specs.List.{list_any, position_from}
 use Rattle.std.specs.Str.{bytes_eq}
 use Rattle.vfs_core.specs.VfsPath.{PathContent}
 use Rattle.vfs_sets.specs.Placement.{FitsNoRoot, IsFit, IsPlaceOf, fits, place_of, placed_text}
-use Rattle.vfs_sets.specs.Probes.{CountsProbes, IsLongestFit, raised_by}
-use Rattle.vfs_sets.specs.RootMaps.{HasNoPrefix, IsOfLongestPrefix, MapsRoots, first_set_of, is_root_of, number_at}
+use Rattle.vfs_sets.specs.Probes.{CountsProbes, raised_by}
+use Rattle.vfs_sets.specs.RootMaps.{HasNoPrefix, IsOfLongestPrefix, MapsRoots, is_root_of, number_at}
 use Rattle.vfs_sets.proofs.CountLemmas.{raised_by-most}
 use Rattle.vfs_sets.proofs.FitLemmas.{fits_no_root, place_of_is, IsPlaceOf-one}
 use Rattle.vfs_sets.proofs.PlaceLemmas.{place_within}

@@ -1,15 +1,12 @@
 -- Roots of a kind that are put beside a set's number, from the last set to the first.
 use Rattle.std.proofs.Common.{◌≡◌, ℕ, suc, ◌+◌, ◌<◌, ◌≤◌, Bool, true, false, cond, ◌&&◌, ◌||◌, List, [], ◌∷◌, Option, Some}
-use Rattle.std.proofs.Common.{Vec, get_or, drop, length, refl, sym, ◌∙◌, ap, arith, add-one, drop-cons, nat_le, subst, None, ◌-◌, if◌then◌else◌}
+use Rattle.std.proofs.Common.{Vec, get_or, drop, length, refl, sym, ◌∙◌, ap, arith, add-one, drop-cons, nat_le, subst, None, ◌-◌}
 use Rattle.std.proofs.lemmas.Bool.Decides.{nat_tests}
-use Rattle.std.proofs.lemmas.Map.Text.{is_eq-slice_cmp}
-use Rattle.std.specs.BTreeMap.{BTreeMap, Updates, is_at}
 use Rattle.std.specs.Bool.{beq}
-use Rattle.std.specs.Cmp.{eq_by_cmp_equiv}
-use Rattle.std.specs.Cmp.Lexicographic.{bytes_decides, nat_list_cmp_total, nat_list_eq_equiv, slice_cmp}
+use Rattle.std.specs.Cmp.Lexicographic.{bytes_decides, nat_list_eq_equiv}
+use Rattle.std.specs.HashMap.{HashMap, Updates}
 use Rattle.std.specs.List.{list_any, position_from}
-use Rattle.std.specs.Map.{lookup, KeepsOthers}
-use Rattle.std.specs.Ordering.{eq_by_cmp, is_eq, nat_cmp}
+use Rattle.std.specs.Map.{KeepsOthers}
 use Rattle.std.specs.Str.{bytes_eq}
 use Rattle.outside.specs.Causes.{raised}
 use Rattle.vfs_core.specs.VfsPath.{PathContent}
@@ -17,55 +14,40 @@ use Rattle.vfs_sets.specs.Probes.{raised_by}
 use Rattle.vfs_sets.specs.RootMaps.{MapsRoots, PutsRoot, PutsRootsOf, is_root_of, number_at}
 use Rattle.vfs_sets.proofs.PlaceLemmas.{drop_end}
 
--- a look-up by order is one by the bytes
-pub number_at_is : {Z : Type 0} (text : List ℕ) (entries : List (Vec ℕ Z × ℕ))
-    → lookup (is_at (λ (key : Vec ℕ Z). slice_cmp nat_cmp text key.items)) entries ≡ number_at text entries
-number_at_is text [] = refl
-number_at_is {Z} text (entry ∷ entries) =
-    ap (λ (b : Bool). cond b (Some entry.1) (lookup (is_at (λ (key : Vec ℕ Z). slice_cmp nat_cmp text key.items)) entries)) (is_eq-slice_cmp text entry.0.items)
-    ∙ ap (λ (n : Option ℕ). cond (bytes_eq text entry.0.items) (Some entry.1) n) (number_at_is text entries)
-
--- a key that ties with one text does not tie with another
-apart-order : (own text key : List ℕ) → bytes_eq own text ≡ false → is_eq (slice_cmp nat_cmp own key) ≡ true
-    → is_eq (slice_cmp nat_cmp text key) ≡ false
-apart-order own text key differs ties =
-    let same : bytes_eq own key ≡ true = sym (is_eq-slice_cmp own key) ∙ ties in
-    is_eq-slice_cmp text key ∙ nat_list_eq_equiv.symm text key
-    ∙ sym (nat_list_eq_equiv.congr own key text same) ∙ differs
+-- a key with one text does not have another
+apart : (own text key : List ℕ) → bytes_eq own text ≡ false → bytes_eq own key ≡ true → bytes_eq text key ≡ false
+apart own text key differs same =
+    nat_list_eq_equiv.symm text key ∙ sym (nat_list_eq_equiv.congr own key text same) ∙ differs
 
 -- other texts keep what stood beside them
 others-keep : {Z : Type 0} (own : Vec ℕ Z) (text : List ℕ) (old new : List (Vec ℕ Z × ℕ))
-    → KeepsOthers (eq_by_cmp (λ (x y : Vec ℕ Z). slice_cmp nat_cmp x.items y.items)) (is_at (λ (k : Vec ℕ Z). slice_cmp nat_cmp own.items k.items)) old new
-    → bytes_eq own.items text ≡ false
-    → lookup (is_at (λ (k : Vec ℕ Z). slice_cmp nat_cmp text k.items)) new ≡ lookup (is_at (λ (k : Vec ℕ Z). slice_cmp nat_cmp text k.items)) old
+    → KeepsOthers (λ (x y : Vec ℕ Z). bytes_eq x.items y.items) (λ (k : Vec ℕ Z). bytes_eq own.items k.items) old new
+    → bytes_eq own.items text ≡ false → number_at text new ≡ number_at text old
 unfolding KeepsOthers
 others-keep {Z} own text old new keeps differs =
-    keeps (is_at (λ (k : Vec ℕ Z). slice_cmp nat_cmp text k.items))
-    (λ x y. (eq_by_cmp_equiv nat_list_cmp_total).congr text x.items y.items) (λ k. apart-order own.items text k.items differs)
+    keeps (λ (k : Vec ℕ Z). bytes_eq text k.items) (λ x y. nat_list_eq_equiv.congr text x.items y.items)
+    (λ k. apart own.items text k.items differs)
 
 -- what stands beside each text after a number was put beside one: the same by whether the text is that one
-put-split : {Z : Type 0} (old new : BTreeMap (Vec ℕ Z) ℕ) (own : Vec ℕ Z) (number : ℕ)
-    → Updates (λ x y. slice_cmp nat_cmp x.items y.items) old new own (Some number)
+put-split : {Z S : Type 0} (old new : HashMap (Vec ℕ Z) ℕ S) (own : Vec ℕ Z) (number : ℕ)
+    → Updates (λ (x y : Vec ℕ Z). bytes_eq x.items y.items) old new own (Some number)
     → (text : List ℕ) (is_own : Bool) → bytes_eq own.items text ≡ is_own
     → number_at text new.entries ≡ cond is_own (Some number) (number_at text old.entries)
-put-split {Z} old new own number updates text true e =
-    sym (number_at_is text new.entries)
-    ∙ subst (λ (t : List ℕ). lookup (is_at (λ (k : Vec ℕ Z). slice_cmp nat_cmp t k.items)) new.entries ≡ Some number)
-    ((bytes_decides own.items text).0 e) updates.1
-put-split old new own number updates text false e =
-    sym (number_at_is text new.entries) ∙ others-keep own text old.entries new.entries updates.3 e ∙ number_at_is text old.entries
+put-split old new own number updates text true e =
+    subst (λ (t : List ℕ). number_at t new.entries ≡ Some number) ((bytes_decides own.items text).0 e) updates.1
+put-split old new own number updates text false e = others-keep own text old.entries new.entries updates.3 e
 
-put-after : {Z : Type 0} (old new : BTreeMap (Vec ℕ Z) ℕ) (own : Vec ℕ Z) (number : ℕ)
-    → Updates (λ x y. slice_cmp nat_cmp x.items y.items) old new own (Some number)
+put-after : {Z S : Type 0} (old new : HashMap (Vec ℕ Z) ℕ S) (own : Vec ℕ Z) (number : ℕ)
+    → Updates (λ (x y : Vec ℕ Z). bytes_eq x.items y.items) old new own (Some number)
     → (text : List ℕ) → number_at text new.entries ≡ cond (bytes_eq text own.items) (Some number) (number_at text old.entries)
 put-after old new own number updates text =
     put-split old new own number updates text (bytes_eq own.items text) refl
     ∙ ap (λ (b : Bool). cond b (Some number) (number_at text old.entries)) (nat_list_eq_equiv.symm own.items text)
 
 -- a root of the kind
-pub PutsRoot_own : {Z : Type 0} (old new : BTreeMap (Vec ℕ Z) ℕ) (own : Vec ℕ Z) (kind : Bool) (root : PathContent) (number : ℕ)
+pub PutsRoot_own : {Z S : Type 0} (old new : HashMap (Vec ℕ Z) ℕ S) (own : Vec ℕ Z) (kind : Bool) (root : PathContent) (number : ℕ)
     → beq root.is_virtual kind ≡ true → own.items ≡ root.text
-    → Updates (λ x y. slice_cmp nat_cmp x.items y.items) old new own (Some number)
+    → Updates (λ (x y : Vec ℕ Z). bytes_eq x.items y.items) old new own (Some number)
     → PutsRoot kind root number old.entries new.entries
 PutsRoot_own old new own kind root number same own_is updates = record {
   each = λ text.

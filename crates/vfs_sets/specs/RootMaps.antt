@@ -1,7 +1,7 @@
 -- The roots of one kind by their texts, each text with the least set that has a root of it, and the longest prefix of a text
 -- that stands among them.
 -- From the documentation of the file system's partition into sets.
-use Rattle.std.specs.Prelude.{◌≡◌, ◌<◌, ◌≤◌, ◌&&◌, ◌+◌, ◌-◌, ℕ, Bool, true, false, List, Option, None, Some, length, take, if◌then◌else◌}
+use Rattle.std.specs.Prelude.{◌≡◌, ◌<◌, ◌≤◌, ◌&&◌, ◌+◌, ◌-◌, ℕ, Bool, true, false, List, [], ◌∷◌, Option, None, Some, length, max, take, if◌then◌else◌}
 use Rattle.std.specs.Bool.{beq}
 use Rattle.std.specs.List.{list_any, position_from}
 use Rattle.std.specs.Map.{lookup}
@@ -21,6 +21,20 @@ first_set_of kind text sets = position_from (list_any (is_root_of kind text)) 0 
 -- the number that stands beside a text, or none
 abbrev pub number_at : {Z : Type 0} → List ℕ → List (Vec ℕ Z × ℕ) → Option ℕ
 number_at text entries = lookup (λ key. bytes_eq text key.items) entries
+
+-- the length of the longest text of some roots, and 0 for no root
+abbrev pub longest_text : List PathContent → ℕ
+longest_text [] = 0
+longest_text (root ∷ roots) = max (length root.text) (longest_text roots)
+
+-- the same of all sets
+abbrev pub longest_text_of_all : List (List PathContent) → ℕ
+longest_text_of_all [] = 0
+longest_text_of_all (roots ∷ sets) = max (longest_text roots) (longest_text_of_all sets)
+
+-- no number stands beside a text of more bytes
+abbrev pub HasTextsUpTo : {Z : Type 0} → ℕ → List (Vec ℕ Z × ℕ) → Type 0
+HasTextsUpTo longest entries = (text : List ℕ) → longest < length text → number_at text entries ≡ None
 
 -- beside each text stands the first set with a root of the kind and that text, where there is one
 pub record MapsRoots {Z : Type 0} (kind : Bool) (sets : List (List PathContent)) (entries : List (Vec ℕ Z × ℕ)) : Type 0 where

@@ -10,11 +10,11 @@ ghost use Rattle.vfs_sets.specs.Roots.{AreRoots};
 
 use crate::file_set::FileSet;
 use crate::place::placed_text;
-use crate::root_map::{map_roots, number_of_longest_prefix};
+use crate::root_map::{longest_root, map_roots, number_of_longest_prefix};
 use crate::roots::roots;
 use base_text::{Counter, Items, Ledger, Steps, TryClone, copy_items};
 use std::alloc::{AllocError, Global};
-use std::collections::BTreeMap;
+use std::collections::HashMap;
 use std::marker::Model;
 use vfs_core::{FileId, Vfs, VfsPath};
 
@@ -75,24 +75,27 @@ impl TryClone for FileSetConfigBuilder {
     }
 }
 
-/// The roots of each set. Contracts see them. A map for each kind of root has the least set of each.
+/// The roots of each set. Contracts see them. A map for each kind of root has the least set of each, and the length of the
+/// longest says which texts need not be looked up there.
 #[derive(Drop)]
 pub struct FileSetConfig {
     sets: Vec<Items<VfsPath>>,
-    real_roots: BTreeMap<Vec<u8>, u64>,
-    virtual_roots: BTreeMap<Vec<u8>, u64>,
+    longest: usize,
+    real_roots: HashMap<Vec<u8>, u64>,
+    virtual_roots: HashMap<Vec<u8>, u64>,
 }
 
 impl Model for FileSetConfig {
-    ghost use Rattle.std.specs.Prelude.{List};
+    ghost use Rattle.std.specs.Prelude.{◌≡◌, List};
     ghost use Rattle.vfs_core.specs.VfsPath.{PathContent};
-    ghost use Rattle.vfs_sets.specs.RootMaps.{HasRootMaps};
+    ghost use Rattle.vfs_sets.specs.RootMaps.{HasRootMaps, longest_text_of_all};
 
     ghost Value = { List (List PathContent) };
 
     ghost view = { λ a. a.sets.items };
 
-    ghost invariant = { λ a. HasRootMaps a.sets.items a.real_roots.entries a.virtual_roots.entries };
+    ghost invariant = { λ a. HasRootMaps a.sets.items a.real_roots.entries a.virtual_roots.entries
+        × (a.longest ≡ longest_text_of_all a.sets.items) };
 }
 
 impl FileSetConfig {
@@ -114,15 +117,17 @@ impl FileSetConfig {
     {
         let real_roots = map_roots(alloc, sets.as_slice(), false)?;
         let virtual_roots = map_roots(alloc, sets.as_slice(), true)?;
+        let longest = longest_root(sets.as_slice());
         Ok(FileSetConfig {
             sets,
+            longest,
             real_roots,
             virtual_roots,
         })
     }
 
     /// The map of the roots of a kind.
-    fn roots_of_kind(&self, is_virtual: bool) -> &BTreeMap<Vec<u8>, u64>
+    fn roots_of_kind(&self, is_virtual: bool) -> &HashMap<Vec<u8>, u64>
         ensures { MapsRoots is_virtual self.now result.now.entries }
     {
         if is_virtual {
@@ -141,7 +146,8 @@ impl FileSetConfig {
             (L.count steps.old.ledger) (L.count steps.new.ledger) }
     {
         let roots = self.roots_of_kind(path.is_virtual());
-        match number_of_longest_prefix(roots, placed_text(path).as_bytes(), steps) {
+        let text = placed_text(path).as_bytes();
+        match number_of_longest_prefix(roots, self.longest, text, steps) {
             Some(number) => number as usize,
             None => self.sets.len(),
         }

@@ -1,11 +1,11 @@
 //! The roots of sets by their texts, one map for each kind, and the search for the longest that begins a text.
 
 ghost use Rattle.std.specs.Prelude.{◌≡◌, IfOk, MatchOption, OnOk};
-ghost use Rattle.vfs_sets.specs.RootMaps.{HasNoPrefix, IsOfLongestPrefix, MapsRoots, PutsRoot, PutsRootsOf};
+ghost use Rattle.vfs_sets.specs.RootMaps.{HasNoPrefix, HasTextsUpTo, IsOfLongestPrefix, MapsRoots, PutsRoot, PutsRootsOf, longest_text, longest_text_of_all};
 
 use base_text::{Items, Ledger, Steps};
 use std::alloc::{AllocError, Global};
-use std::collections::BTreeMap;
+use std::collections::HashMap;
 use vfs_core::VfsPath;
 
 /// The roots of a kind, each with the least set that has it. The sets come from the last to the first.
@@ -13,10 +13,10 @@ pub(crate) fn map_roots(
     alloc: Global,
     sets: &[Items<VfsPath>],
     is_virtual: bool,
-) -> Result<BTreeMap<Vec<u8>, u64>, AllocError>
+) -> Result<HashMap<Vec<u8>, u64>, AllocError>
     ensures { IfOk result (λ map. MapsRoots is_virtual sets.now map.entries) }
 {
-    let mut map = BTreeMap::new(alloc);
+    let mut map = HashMap::new(alloc);
     let mut number = sets.len();
     while number > 0 {
         number -= 1;
@@ -34,7 +34,7 @@ pub(crate) fn map_roots(
 /// Puts a set's number beside each of its roots of a kind, over what stood there.
 fn put_roots_of(
     alloc: Global,
-    map: &mut BTreeMap<Vec<u8>, u64>,
+    map: &mut HashMap<Vec<u8>, u64>,
     roots: &[VfsPath],
     is_virtual: bool,
     number: u64,
@@ -51,7 +51,7 @@ fn put_roots_of(
 /// Puts a set's number beside a root, if that is of a kind.
 fn put_root(
     alloc: Global,
-    map: &mut BTreeMap<Vec<u8>, u64>,
+    map: &mut HashMap<Vec<u8>, u64>,
     root: &VfsPath,
     is_virtual: bool,
     number: u64,
@@ -65,13 +65,37 @@ fn put_root(
     Ok(())
 }
 
+/// The length of the longest text of all roots of sets, or 0 where there is none.
+pub(crate) fn longest_root(sets: &[Items<VfsPath>]) -> usize
+    ensures { result ≡ longest_text_of_all sets.now }
+{
+    let mut longest = 0;
+    for roots in sets {
+        longest = longest.max(longest_root_of(roots.as_slice()));
+    }
+    longest
+}
+
+/// The same of the roots of a set.
+fn longest_root_of(roots: &[VfsPath]) -> usize
+    ensures { result ≡ longest_text roots.now }
+{
+    let mut longest = 0;
+    for root in roots {
+        longest = longest.max(root.as_str().len());
+    }
+    longest
+}
+
 /// The number beside the longest prefix of a text that has one. The text itself comes first, the empty prefix last, and
-/// each look-up is a step.
+/// each prefix is a step. One that is longer than every text of the map is not looked up.
 pub(crate) fn number_of_longest_prefix<L: Ledger>(
-    map: &BTreeMap<Vec<u8>, u64>,
+    map: &HashMap<Vec<u8>, u64>,
+    longest: usize,
     text: &[u8],
     steps: &mut Steps<L>,
 ) -> Option<u64>
+    requires { HasTextsUpTo longest map.now.entries }
     ensures { MatchOption result
         (HasNoPrefix map.now.entries text.now
         (L.count steps.old.ledger) (L.count steps.new.ledger))
@@ -82,8 +106,10 @@ pub(crate) fn number_of_longest_prefix<L: Ledger>(
     while untried > 0 {
         untried -= 1;
         steps.ledger.tick();
-        if let Some(number) = map.get(&text[..untried]) {
-            return Some(*number);
+        if untried <= longest {
+            if let Some(number) = map.get(&text[..untried]) {
+                return Some(*number);
+            }
         }
     }
     None

@@ -1,7 +1,8 @@
-use Rattle.std.proofs.Common.{◌≡◌, ◌-◌, ◌∙◌, ap, arith, length, None, Some, sym, take}
+use Rattle.std.proofs.Common.{◌≡◌, ◌-◌, ◌∙◌, ◌<◌, ap, arith, length, None, sym, take}
+use Rattle.std.proofs.lemmas.Grind.{common_steps}
 use Rattle.std.specs.Option.{option_copied}
 use Rattle.vfs_sets.specs.RootMaps.{number_at}
-use Rattle.vfs_sets.proofs.RootMapLemmas.{number_at_is, raised_next, untried_next}
+use Rattle.vfs_sets.proofs.RootMapLemmas.{raised_next, untried_next}
 use Rattle.vfs_sets.proofs.root_map.number_of_longest_prefix.Goals as goal
 
 pub returns-in-Some : goal.returns-in-Some
@@ -9,16 +10,26 @@ returns-in-Some g c = record {
   size = c.loop-untried.untried - 1;
   counts = raised_next _ _ c.loop-untried.untried _ _ (omega arith) c.loop-untried.invariant.0 c.loop-untried.invariant.2 c.tick.ensures;
   within = omega (arith, c.loop-untried.invariant.0);
-  has = sym (number_at_is (take (c.loop-untried.untried - 1) c.args.text.now) c.args.map.now.entries)
-      ∙ sym c.get.ensures.value ∙ ap option_copied c.in-Some.is;
+  has = sym c.get.ensures.value ∙ ap option_copied c.in-Some.is;
   none_longer = λ longer more short. c.loop-untried.invariant.1 longer (omega (arith, more)) short;
 }
 
+pub loop-untried-preserved-in_default : goal.loop-untried-preserved-in_default
+loop-untried-preserved-in_default g c =
+    let none : number_at (take (c.loop-untried.untried - 1) c.args.text.now) c.args.map.now.entries ≡ None =
+    sym c.get.ensures.value ∙ ap option_copied c.in_default.is in (
+      omega (arith, c.loop-untried.invariant.0),
+      untried_next (λ n. number_at (take n c.args.text.now) c.args.map.now.entries) c.loop-untried.untried (length c.args.text.now)
+          c.loop-untried.invariant.1 none (omega arith),
+      raised_next _ _ c.loop-untried.untried _ _ (omega arith) c.loop-untried.invariant.0 c.loop-untried.invariant.2 c.tick.ensures,
+    )
+
 pub loop-untried-preserved : goal.loop-untried-preserved
 loop-untried-preserved g c =
+    let within = c.loop-untried.invariant.0 in
+    let longer : c.args.longest < length (take (c.loop-untried.untried - 1) c.args.text.now) = grind (arith, common_steps) in
     let none : number_at (take (c.loop-untried.untried - 1) c.args.text.now) c.args.map.now.entries ≡ None =
-    sym (number_at_is (take (c.loop-untried.untried - 1) c.args.text.now) c.args.map.now.entries)
-    ∙ sym c.get.ensures.value ∙ ap option_copied c.in_default.is in (
+    c.requires (take (c.loop-untried.untried - 1) c.args.text.now) longer in (
       omega (arith, c.loop-untried.invariant.0),
       untried_next (λ n. number_at (take n c.args.text.now) c.args.map.now.entries) c.loop-untried.untried (length c.args.text.now)
           c.loop-untried.invariant.1 none (omega arith),

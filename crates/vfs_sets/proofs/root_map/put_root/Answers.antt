@@ -1,4 +1,4 @@
-use Rattle.std.proofs.Common.{◌≡◌, ◌∙◌, ap, rules, sym}
+use Rattle.std.proofs.Common.{◌∙◌, ap, rules, sym}
 use Rattle.std.specs.Bool.{beq}
 use Rattle.vfs_sets.proofs.RootMapLemmas.{PutsRoot_own}
 use Rattle.vfs_sets.proofs.root_map.put_root.Goals as goal

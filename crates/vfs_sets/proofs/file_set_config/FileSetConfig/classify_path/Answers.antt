@@ -1,6 +1,5 @@
-use Rattle.std.proofs.Common.{◌≡◌, ◌<◌, ◌∙◌, List, ap, arith, length, subst, sym}
+use Rattle.std.proofs.Common.{◌≡◌, ◌<◌, arith, length, subst, sym}
 use Rattle.std.proofs.lemmas.Grind.{common_steps}
-use Rattle.vfs_core.specs.VfsPath.{PathContent}
 use Rattle.vfs_sets.specs.Placement.{place_of, IsPlaceOf}
 use Rattle.vfs_sets.proofs.FitLemmas.{fits_no_root, place_of_is}
 use Rattle.vfs_sets.proofs.file_set_config.FileSetConfig.classify_path.Goals as goal
