@@ -2,7 +2,7 @@
 
 ghost use Rattle.std.specs.Prelude.{◌≡◌, Some};
 ghost use Rattle.std.specs.Io.KnownBytes.{ReadConsumes};
-ghost use Rattle.outside.specs.Causes.{raised};
+ghost use Rattle.outside.specs.Causes.{next_count};
 ghost use Rattle.outside.specs.Nonce.{given};
 
 use base_text::{
@@ -137,7 +137,7 @@ fn a_sink_that_takes_nothing_has_failed(rt: HostRuntime) -> Result<(), Fail> {
 }
 
 fn tick_twice<L: Ledger>(steps: &mut Steps<L>)
-    ensures { L.count steps.new.ledger ≡ raised (raised (L.count steps.old.ledger)) }
+    ensures { L.count steps.new.ledger ≡ next_count (next_count (L.count steps.old.ledger)) }
 {
     steps.ledger.tick();
     steps.ledger.tick();
@@ -161,7 +161,7 @@ fn a_counter_counts_its_ticks(rt: HostRuntime) -> Result<(), Fail> {
 
 // The next two numbers, asked at the bound.
 fn two<N: NonceSource>(source: &mut N) -> (Option<u64>, Option<u64>)
-    ensures { result ≡ (given (N.upcoming source.old), given (raised (N.upcoming source.old))) }
+    ensures { result ≡ (given (N.upcoming source.old), given (next_count (N.upcoming source.old))) }
 {
     let first = source.next();
     (first, source.next())

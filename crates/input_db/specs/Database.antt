@@ -3,7 +3,7 @@
 use Rattle.std.specs.Prelude.{ℕ, ◌<◌, List, [], Option, Some, None, if◌then◌else◌, length, refl}
 use Rattle.std.specs.Coded.{Coded, code_by, coded×, coded_list, coded_ℕ}
 use Rattle.std.specs.List.{All}
-use Rattle.outside.specs.Causes.{raised}
+use Rattle.outside.specs.Causes.{next_count}
 use Rattle.source_files.specs.Files.{Held, held_code, no_files}
 use Rattle.input_db.specs.Identity.{IsTable, Table, input_eq, input_under, with_entry}
 use Rattle.input_db.specs.contracts.crate_input.CrateInput as input
@@ -96,8 +96,8 @@ with_lists db local library = record db { local = local; library = library }
 
 -- how many writes there were when an identity's crate is given an input: one more where the crate is new, or had another
 abbrev pub writes_after : ℕ → Option CrateInput → CrateInput → ℕ
-writes_after writes None input = raised writes
-writes_after writes (Some old) input = if input_eq old input then writes else raised writes
+writes_after writes None input = next_count writes
+writes_after writes (Some old) input = if input_eq old input then writes else next_count writes
 
 -- the database with an input for the crate of an identity
 abbrev pub with_crate_input : Database → UniqueCrateData → CrateInput → Database
@@ -111,5 +111,5 @@ abbrev pub with_crate_list : Database → List ℕ → Durability → Database
 with_crate_list db crates durability = record db {
   listed = crates;
   listed_durability = durability;
-  writes = raised db.writes;
+  writes = next_count db.writes;
 }

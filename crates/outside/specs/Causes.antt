@@ -5,12 +5,12 @@ use Rattle.outside.specs.declared.sink.SinkError.{SinkError}
 use Rattle.outside.specs.declared.sink.SinkError.TheVariants.{Failed}
 
 -- one more, but never past the greatest u64
-abbrev pub raised : ℕ → ℕ
-raised n = min (n + 1) (2 ^ 64 - 1)
+abbrev pub next_count : ℕ → ℕ
+next_count n = min (n + 1) (2 ^ 64 - 1)
 
 -- the count rose, or stands at its end
 abbrev pub Rose : ℕ → ℕ → Type 0
-Rose before now = raised before ≤ now
+Rose before now = next_count before ≤ now
 
 -- the count of faults does not fall, and each error has its fault
 pub record HasCause {T E : Type 0} (before now : ℕ) (result : Result T E) : Type 0 where

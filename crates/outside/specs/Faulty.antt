@@ -1,7 +1,7 @@
 -- Sources and sinks in memory of which chosen calls fail: the calls are numbered from 0, and the failing numbers listed.
 use Rattle.std.specs.Prelude.{ℕ, ◌==◌, Bool, List, if◌then◌else◌}
 use Rattle.std.specs.List.{list_any}
-use Rattle.outside.specs.Causes.{raised}
+use Rattle.outside.specs.Causes.{next_count}
 
 -- what a source has left or a sink holds, the failing numbers, the calls so far, and those that failed
 pub record Faulty : Type 0 where
@@ -16,11 +16,11 @@ fails_next s = list_any (λ n. n == s.calls) s.failing
 
 -- after a call that failed
 abbrev pub after_fault : Faulty → Faulty
-after_fault s = record s { calls = raised s.calls; faults = raised s.faults }
+after_fault s = record s { calls = next_count s.calls; faults = next_count s.faults }
 
 -- after a call that did not fail and left these bytes
 abbrev pub after_service : Faulty → List ℕ → Faulty
-after_service s bytes = record s { bytes = bytes; calls = raised s.calls }
+after_service s bytes = record s { bytes = bytes; calls = next_count s.calls }
 
 -- the failing numbers, the calls so far, and those that failed
 pub record FaultCounts : Type 0 where
@@ -34,4 +34,4 @@ is_listed s = list_any (λ n. n == s.calls) s.failing
 
 -- after a call, which counts as a fault where its number is listed
 abbrev pub after_call : FaultCounts → FaultCounts
-after_call s = record s { calls = raised s.calls; faults = if is_listed s then raised s.faults else s.faults }
+after_call s = record s { calls = next_count s.calls; faults = if is_listed s then next_count s.faults else s.faults }

@@ -1,7 +1,7 @@
 //! Counts of steps that a caller can read back, where a promise speaks of work done.
 
 ghost use Rattle.std.specs.Prelude.{◌≡◌, ℕ};
-ghost use Rattle.outside.specs.Causes.{raised};
+ghost use Rattle.outside.specs.Causes.{next_count};
 
 use base_values::TryClone;
 use std::alloc::{AllocError, Global};
@@ -14,7 +14,7 @@ pub trait Ledger {
 
     /// Counts one step.
     fn tick(&mut self)
-        ensures { count self.new ≡ raised (count self.old) };
+        ensures { count self.new ≡ next_count (count self.old) };
 
     fn count(&self) -> u64
         ensures { result ≡ count self.now };
@@ -52,7 +52,7 @@ impl Ledger for Counter {
     ghost count = { λ n. n };
 
     fn tick(&mut self)
-        ensures { self.new ≡ raised self.old }
+        ensures { self.new ≡ next_count self.old }
     {
         self.steps = self.steps.saturating_add(1);
     }

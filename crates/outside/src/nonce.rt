@@ -1,7 +1,7 @@
 //! Numbers for things that must be told apart, none of which is given twice.
 
 ghost use Rattle.std.specs.Prelude.{◌≡◌, ℕ};
-ghost use Rattle.outside.specs.Causes.{raised};
+ghost use Rattle.outside.specs.Causes.{next_count};
 ghost use Rattle.outside.specs.Nonce.{given};
 
 use base_values::TryClone;
@@ -17,7 +17,7 @@ pub trait NonceSource {
     /// which is never given.
     fn next(&mut self) -> Option<u64>
         ensures gives { result ≡ given (upcoming self.old) }
-        ensures adds { upcoming self.new ≡ raised (upcoming self.old) };
+        ensures adds { upcoming self.new ≡ next_count (upcoming self.old) };
 }
 
 /// A source from 0 on, seen as the number that comes next.
@@ -55,7 +55,7 @@ impl NonceSource for Numbers {
 
     fn next(&mut self) -> Option<u64>
         ensures gives { result ≡ given self.old }
-        ensures adds { self.new ≡ raised self.old }
+        ensures adds { self.new ≡ next_count self.old }
     {
         let number = self.upcoming;
         if number == u64::MAX {

@@ -1,7 +1,7 @@
 //! What distinguishes one database from another.
 
 ghost use Rattle.std.specs.Prelude.{◌≡◌, ◌-◌, ◌^◌};
-ghost use Rattle.outside.specs.Causes.{raised};
+ghost use Rattle.outside.specs.Causes.{next_count};
 ghost use Rattle.outside.specs.Nonce.{given};
 
 use base_text::{NonceSource, TryClone};
@@ -28,7 +28,7 @@ impl Nonce {
     /// The next number of the source. None where that is the greatest u64.
     pub fn new<N: NonceSource>(source: &mut N) -> Option<Nonce>
         ensures number { result ≡ given (N.upcoming source.old) }
-        ensures next { N.upcoming source.new ≡ raised (N.upcoming source.old) }
+        ensures next { N.upcoming source.new ≡ next_count (N.upcoming source.old) }
     {
         match source.next() {
             Some(number) => Some(Nonce { number }),

@@ -1,7 +1,7 @@
 -- What placing adds to a count of steps: one path, and files one after the other.
 use Rattle.std.proofs.Common.{◌≡◌, ℕ, zero, suc, ◌+◌, ◌≤◌, List, [], ◌∷◌, ◌++◌, Result, Ok, Err, ap, append_assoc, arith, length, refl, subst, sym, zero-add, ◌∙◌}
 use Rattle.std.specs.Prelude.{OnErr}
-use Rattle.outside.specs.Causes.{raised}
+use Rattle.outside.specs.Causes.{next_count}
 use Rattle.vfs_core.specs.VfsPath.{PathContent}
 use Rattle.vfs_sets.specs.Placement.{placed_text}
 use Rattle.vfs_sets.specs.Probes.{CountsFiles, CountsFront, CountsPlacing, CountsProbes, RaisesAtMost, most_probes, raised_by}
@@ -11,10 +11,10 @@ pub raised_by-most : (steps count : ℕ) → raised_by steps count ≤ count + s
 raised_by-most zero count = omega arith
 raised_by-most (suc steps) count =
     let more = raised_by-most steps count in
-    let step : raised (raised_by steps count) ≤ raised_by steps count + 1 = raised-most (raised_by steps count) in
+    let step : next_count (raised_by steps count) ≤ raised_by steps count + 1 = raised-most (raised_by steps count) in
     omega (arith, more, step)
   where
-    raised-most : (n : ℕ) → raised n ≤ n + 1
+    raised-most : (n : ℕ) → next_count n ≤ n + 1
     raised-most n = omega arith
 
 -- steps after steps
@@ -22,7 +22,7 @@ raised_by-sum : (more steps count : ℕ) → raised_by more (raised_by steps cou
 raised_by-sum zero steps count = ap (λ n. raised_by n count) (sym (zero-add steps))
 raised_by-sum (suc more) steps count =
     let count_is : suc (more + steps) ≡ suc more + steps = omega arith in
-    ap raised (raised_by-sum more steps count) ∙ ap (λ n. raised_by n count) count_is
+    ap next_count (raised_by-sum more steps count) ∙ ap (λ n. raised_by n count) count_is
 
 -- a count that was raised, and raised again
 RaisesAtMost-again : (most more before now after : ℕ) → RaisesAtMost most before now → RaisesAtMost more now after

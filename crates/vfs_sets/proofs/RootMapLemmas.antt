@@ -8,7 +8,7 @@ use Rattle.std.specs.HashMap.{HashMap, Updates}
 use Rattle.std.specs.List.{list_any, position_from}
 use Rattle.std.specs.Map.{KeepsOthers}
 use Rattle.std.specs.Str.{bytes_eq}
-use Rattle.outside.specs.Causes.{raised}
+use Rattle.outside.specs.Causes.{next_count}
 use Rattle.vfs_core.specs.VfsPath.{PathContent}
 use Rattle.vfs_sets.specs.Probes.{raised_by}
 use Rattle.vfs_sets.specs.RootMaps.{MapsRoots, PutsRoot, PutsRootsOf, is_root_of, number_at}
@@ -169,7 +169,7 @@ untried_next look untried size tried none some longer =
 
 -- one step more
 pub raised_next : (before total untried now after : ℕ) → 0 < untried → untried ≤ total
-    → now ≡ raised_by (total - untried) before → after ≡ raised now → after ≡ raised_by (total - (untried - 1)) before
+    → now ≡ raised_by (total - untried) before → after ≡ next_count now → after ≡ raised_by (total - (untried - 1)) before
 raised_next before total untried now after some within counts ticks =
     let next : total - (untried - 1) ≡ suc (total - untried) = omega arith in
-    ticks ∙ ap raised counts ∙ sym (ap (λ n. raised_by n before) next)
+    ticks ∙ ap next_count counts ∙ sym (ap (λ n. raised_by n before) next)

@@ -1,14 +1,14 @@
 -- How often a count is raised while paths are placed: once for each prefix of the text by which a path is placed, the whole
 -- text first, down to the longest root that fits, or to the empty prefix where none does.
 use Rattle.std.specs.Prelude.{◌≡◌, ◌≤◌, ◌+◌, ◌-◌, ℕ, zero, suc, List, [], ◌∷◌, ◌++◌, length}
-use Rattle.outside.specs.Causes.{raised}
+use Rattle.outside.specs.Causes.{next_count}
 use Rattle.vfs_core.specs.VfsPath.{PathContent}
 use Rattle.vfs_sets.specs.Placement.{FitsNoRoot, IsFit, placed_text}
 
 -- a count after so many steps
 abbrev pub raised_by : ℕ → ℕ → ℕ
 raised_by zero count = count
-raised_by (suc steps) count = raised (raised_by steps count)
+raised_by (suc steps) count = next_count (raised_by steps count)
 
 -- a count was raised, and at most so often
 pub record RaisesAtMost (most before now : ℕ) : Type 0 where
