@@ -5,7 +5,7 @@ use Rattle.std.proofs.lemmas.List.Elements.{All-from_recursion, recursion_from_A
 use Rattle.std.proofs.lemmas.List.Sums.{fold-append}
 use Rattle.std.specs.List.{filter, fold, AllByRecursion}
 use Rattle.std.specs.Prelude.{codes, bytes_eq}
-use Rattle.base_text.specs.Paths.{components, is_component, resolve, resolved, slashed, without_last}
+use Rattle.base_text.specs.Paths.{components, is_component, resolve, resolved_components, slashed, without_last}
 use Rattle.base_text.specs.Rows.{IsRow, IsSlashed}
 use Rattle.base_text.proofs.Names.{AreNames, IsName, components_are_names, row_of_names, slashed-push}
 
@@ -56,8 +56,8 @@ HasTaken-skip text start parts part h e =
     record { built = rw same h.built; names = rw same h.names }
 
 -- a path resolved from nothing
-pub row_resolved : (none text path : List ℕ) → none ≡ [] → IsRow text (fold resolve (components none) (components path)) → IsRow text (resolved (components path))
-unfolding components resolved
+pub row_resolved : (none text path : List ℕ) → none ≡ [] → IsRow text (fold resolve (components none) (components path)) → IsRow text (resolved_components (components path))
+unfolding components resolved_components
 row_resolved none text path e h = rw e at h
 
 -- no component is `..`
@@ -90,20 +90,20 @@ fold_all_taken taken (part ∷ parts) h =
     ∙ append_assoc taken (part ∷ []) parts
 
 -- what is resolved stays as it is
-pub resolved_again : (parts : List (List ℕ)) → resolved (resolved parts) ≡ resolved parts
-unfolding resolved HasNoUp
+pub resolved_again : (parts : List (List ℕ)) → resolved_components (resolved_components parts) ≡ resolved_components parts
+unfolding resolved_components HasNoUp
 resolved_again parts = fold_all_taken [] (fold resolve [] parts) (fold_no_up [] parts tt)
 
 -- the components of a normal path are resolved
-pub normal_again : (text : List ℕ) (parts : List (List ℕ)) → components text ≡ resolved parts → resolved (components text) ≡ components text
-normal_again text parts e = ap resolved e ∙ resolved_again parts ∙ sym e
+pub normal_again : (text : List ℕ) (parts : List (List ℕ)) → components text ≡ resolved_components parts → resolved_components (components text) ≡ components text
+normal_again text parts e = ap resolved_components e ∙ resolved_again parts ∙ sym e
 
 -- a resolved path is resolved without its last component
-pub resolved_above : (text above : List ℕ) → resolved (components text) ≡ components text → components above ≡ without_last (components text) → resolved (components above) ≡ components above
-unfolding resolved HasNoUp
+pub resolved_above : (text above : List ℕ) → resolved_components (components text) ≡ components text → components above ≡ without_last (components text) → resolved_components (components above) ≡ components above
+unfolding resolved_components HasNoUp
 resolved_above text above done e =
     let NotUp : List ℕ → Type 0 = λ p. bytes_eq p (codes "..") ≡ false in
     let whole : HasNoUp (components text) = subst (λ (parts : List (List ℕ)). HasNoUp parts) done (fold_no_up [] (components text) tt) in
     let front : HasNoUp (without_last (components text)) =
     recursion_from_All NotUp _ (All-take NotUp (length (components text) - 1) _ (All-from_recursion NotUp _ whole)) in
-    ap resolved e ∙ fold_all_taken [] (without_last (components text)) front ∙ sym e
+    ap resolved_components e ∙ fold_all_taken [] (without_last (components text)) front ∙ sym e

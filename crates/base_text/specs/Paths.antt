@@ -29,12 +29,12 @@ unfoldable pub resolve : List (List ℕ) → List ℕ → List (List ℕ)
 resolve taken part = if bytes_eq part (codes "..") then without_last taken else taken ++ part ∷ []
 
 -- the components that are left once each `..` is resolved
-unfoldable pub resolved : List (List ℕ) → List (List ℕ)
-resolved parts = fold resolve [] parts
+unfoldable pub resolved_components : List (List ℕ) → List (List ℕ)
+resolved_components parts = fold resolve [] parts
 
 -- the components of the normal path
 abbrev pub normal : List ℕ → List (List ℕ)
-normal text = resolved (components text)
+normal text = resolved_components (components text)
 
 -- no `..` of the text is left to resolve
 abbrev pub IsResolved : List ℕ → Type 0

@@ -3,7 +3,7 @@ use Rattle.std.proofs.Common.{◌≡◌, ℕ, Bool, true, false, List, [], ◌�
 use Rattle.std.proofs.lemmas.List.Elements.{All-from_recursion, recursion_from_All, All-take, All-push}
 use Rattle.std.specs.List.{All, AllByRecursion, fold}
 use Rattle.std.specs.Prelude.{codes, bytes_eq}
-use Rattle.base_text.specs.Paths.{components, path_text, resolve, resolved, without_last, IsClean}
+use Rattle.base_text.specs.Paths.{components, path_text, resolve, resolved_components, without_last, IsClean}
 use Rattle.base_text.proofs.Resolving.{resolved_again}
 use Rattle.vfs_core.specs.RealPath.{IsNormal}
 
@@ -40,23 +40,23 @@ clean_from : (text : List ℕ) (parts : List (List ℕ)) → text ≡ path_text 
 clean_from text parts made e = made ∙ ap path_text (sym e)
 
 -- the path of resolved components is normal
-pub normal_from : (text : List ℕ) (parts : List (List ℕ)) → text ≡ path_text (resolved parts)
-    → components text ≡ resolved parts → IsNormal text
+pub normal_from : (text : List ℕ) (parts : List (List ℕ)) → text ≡ path_text (resolved_components parts)
+    → components text ≡ resolved_components parts → IsNormal text
 normal_from text parts made e = record {
-  clean = clean_from text (resolved parts) made e;
-  resolved = ap resolved e ∙ resolved_again parts ∙ sym e;
+  clean = clean_from text (resolved_components parts) made e;
+  resolved = ap resolved_components e ∙ resolved_again parts ∙ sym e;
 }
 
 -- no `..` is among the components of a normal path
 normal-down : (text : List ℕ) → IsNormal text → All IsDown (components text)
-unfolding resolved
+unfolding resolved_components
 normal-down text normal =
     subst (All IsDown) normal.resolved (All-resolved (components text) [] (All-from_recursion IsDown [] tt))
 
 -- a normal path is normal without its last component
 pub normal_above : (text above : List ℕ) → IsNormal text → IsClean above
     → components above ≡ without_last (components text) → IsNormal above
-unfolding resolved
+unfolding resolved_components
 normal_above text above normal clean e =
     let down : All IsDown (without_last (components text)) =
     All-take IsDown (length (components text) - 1) (components text) (normal-down text normal) in

@@ -16,7 +16,7 @@ pub struct AbsPath<'a> {
 impl<'a> AbsPath<'a> {
     ghost use Rattle.std.specs.Prelude.{◌≡◌, ◌++◌, [], if◌then◌else◌, string_bytes, IfOk};
     ghost use Rattle.base_text.specs.Paths.{components, is_absolute, joined, normal, path_text};
-    ghost use Rattle.base_text.specs.Paths.{resolved, IsClean, IsResolved};
+    ghost use Rattle.base_text.specs.Paths.{resolved_components, IsClean, IsResolved};
     ghost use Rattle.base_text.specs.Rows.{IsRow};
     ghost use Rattle.base_text.specs.AbsPath.{abs_text};
 
@@ -82,9 +82,9 @@ impl<'a> AbsPath<'a> {
     /// The normal path with a tail behind it: each `..` of both is resolved.
     pub fn absolutize(self, alloc: Global, tail: &str) -> Result<AbsPathBuf, AllocError>
         ensures ok { IfOk result (λ path.
-            path ≡ path_text (resolved (joined (abs_text self.entry) tail.now))) }
+            path ≡ path_text (resolved_components (joined (abs_text self.entry) tail.now))) }
         ensures same_components { IfOk result (λ path.
-            components path ≡ resolved (joined (abs_text self.entry) tail.now)) }
+            components path ≡ resolved_components (joined (abs_text self.entry) tail.now)) }
         ensures resolved { IfOk result IsResolved }
     {
         let whole = self.join(alloc, tail)?;
