@@ -1,6 +1,6 @@
 -- A path with a tail behind it, as the row that is built for it.
 use Rattle.std.proofs.Common.{◌≡◌, ℕ, ◌++◌, Bool, true, false, if◌then◌else◌, List, [], refl, ap, ◌∙◌}
-use Rattle.base_text.specs.Paths.{components, is_absolute, joined, slashed}
+use Rattle.base_text.specs.Paths.{components, components_with_tail, is_absolute, slashed}
 use Rattle.base_text.specs.Rows.{IsRow}
 
 -- before an absolute tail nothing stays
@@ -9,10 +9,10 @@ unfolding components slashed
 row_of_none tail row parts absolute e = rw (e, absolute) (record { text_is = refl; components_are = refl })
 
 -- the row of what stays and of the tail is that of both joined
-pub row_joined : (base tail row whole : List ℕ) → IsRow row (if is_absolute tail then [] else components base) → IsRow whole (components row ++ components tail) → IsRow whole (joined base tail)
-unfolding joined
+pub row_joined : (base tail row whole : List ℕ) → IsRow row (if is_absolute tail then [] else components base) → IsRow whole (components row ++ components tail) → IsRow whole (components_with_tail base tail)
+unfolding components_with_tail
 row_joined base tail row whole first both =
     let P : Bool → Type 0 = λ t. components row ≡ (if t then [] else components base) → components row ++ components tail ≡ (if t then components tail else components base ++ components tail) in
-    let same : components row ++ components tail ≡ joined base tail =
+    let same : components row ++ components tail ≡ components_with_tail base tail =
     (elim (is_absolute tail) as (λ t. P t) [ true ↦ λ e. ap (λ parts. parts ++ components tail) e | false ↦ λ e. ap (λ parts. parts ++ components tail) e ]) first.components_are in
     record { text_is = both.text_is ∙ ap slashed same; components_are = both.components_are ∙ same }

@@ -62,8 +62,8 @@ abbrev pub IsClean : List ℕ → Type 0
 IsClean text = text ≡ path_text (components text)
 
 -- the components of a path with a tail behind it, where an absolute tail stands alone
-unfoldable pub joined : List ℕ → List ℕ → List (List ℕ)
-joined base tail = if is_absolute tail then components tail else components base ++ components tail
+unfoldable pub components_with_tail : List ℕ → List ℕ → List (List ℕ)
+components_with_tail base tail = if is_absolute tail then components tail else components base ++ components tail
 
 -- the text of the path without its last component, and none for `/`
 unfoldable pub parent_text : List ℕ → Option (List ℕ)

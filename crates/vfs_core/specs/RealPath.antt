@@ -3,7 +3,7 @@ use Rattle.std.specs.Prelude.{◌≡◌, ℕ, Bool, List, Option}
 use Rattle.std.specs.Borrow.{Bor}
 use Rattle.std.specs.Option.{option_copied, option_map}
 use Rattle.base_text.specs.FileName.{extension_of, stem_of}
-use Rattle.base_text.specs.Paths.{components, file_name, is_prefix, joined, normal, path_text, resolved_components, text_below, IsClean}
+use Rattle.base_text.specs.Paths.{components, components_with_tail, file_name, is_prefix, normal, path_text, resolved_components, text_below, IsClean}
 
 -- the text is that of its components, and resolving them changes nothing
 pub record IsNormal (text : List ℕ) : Type 0 where
@@ -12,7 +12,7 @@ pub record IsNormal (text : List ℕ) : Type 0 where
 
 -- the text of a real path joined with a tail: no `..` of either is left
 abbrev pub real_joined_text : List ℕ → List ℕ → List ℕ
-real_joined_text text tail = path_text (resolved_components (joined text tail))
+real_joined_text text tail = path_text (resolved_components (components_with_tail text tail))
 
 -- whether the components of a front come first in a text
 abbrev pub is_text_prefix : List ℕ → List ℕ → Bool

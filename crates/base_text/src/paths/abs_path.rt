@@ -15,7 +15,7 @@ pub struct AbsPath<'a> {
 
 impl<'a> AbsPath<'a> {
     ghost use Rattle.std.specs.Prelude.{◌≡◌, ◌++◌, [], if◌then◌else◌, string_bytes, IfOk};
-    ghost use Rattle.base_text.specs.Paths.{components, is_absolute, joined, normal, path_text};
+    ghost use Rattle.base_text.specs.Paths.{components, components_with_tail, is_absolute, normal, path_text};
     ghost use Rattle.base_text.specs.Paths.{resolved_components, IsClean, IsResolved};
     ghost use Rattle.base_text.specs.Rows.{IsRow};
     ghost use Rattle.base_text.specs.AbsPath.{abs_text};
@@ -45,9 +45,9 @@ impl<'a> AbsPath<'a> {
     /// The path with a tail behind it. An absolute tail stands alone, and a `..` stays.
     pub fn join(self, alloc: Global, tail: &str) -> Result<AbsPathBuf, AllocError>
         ensures ok { IfOk result (λ path.
-            path ≡ path_text (joined (abs_text self.entry) tail.now)) }
+            path ≡ path_text (components_with_tail (abs_text self.entry) tail.now)) }
         ensures same_components { IfOk result (λ path.
-            components path ≡ joined (abs_text self.entry) tail.now) }
+            components path ≡ components_with_tail (abs_text self.entry) tail.now) }
     {
         let mut slashed = self.row_before(alloc, tail)?;
         push_components(&mut slashed, tail)?;
@@ -82,9 +82,11 @@ impl<'a> AbsPath<'a> {
     /// The normal path with a tail behind it: each `..` of both is resolved.
     pub fn absolutize(self, alloc: Global, tail: &str) -> Result<AbsPathBuf, AllocError>
         ensures ok { IfOk result (λ path.
-            path ≡ path_text (resolved_components (joined (abs_text self.entry) tail.now))) }
+            path ≡ path_text (resolved_components
+            (components_with_tail (abs_text self.entry) tail.now))) }
         ensures same_components { IfOk result (λ path.
-            components path ≡ resolved_components (joined (abs_text self.entry) tail.now)) }
+            components path ≡ resolved_components
+            (components_with_tail (abs_text self.entry) tail.now)) }
         ensures resolved { IfOk result IsResolved }
     {
         let whole = self.join(alloc, tail)?;

@@ -1,9 +1,9 @@
 use Rattle.base_text.specs.AbsPath.{abs_text}
-use Rattle.base_text.specs.Paths.{joined}
+use Rattle.base_text.specs.Paths.{components_with_tail}
 use Rattle.vfs_core.proofs.NormalLemmas.{normal_from}
 use Rattle.vfs_core.proofs.real_path.RealPath.join.Goals as goal
 
 pub invariant_of-result : goal.invariant_of-result
 invariant_of-result c =
-    normal_from _ (joined (abs_text c.as_path.result) c.args.path.now)
+    normal_from _ (components_with_tail (abs_text c.as_path.result) c.args.path.now)
     c.in_ok-path.ensures.ok c.in_ok-path.ensures.same_components
