@@ -28,5 +28,5 @@ abbrev pub alone : List CfgAtom → List CfgAtom → List CfgAtom
 alone atoms others = without_atoms (with_atoms [] atoms) others
 
 -- atoms in order after a change: some were put in, and others taken out
-abbrev pub changed : List CfgAtom → List CfgAtom → List CfgAtom → List CfgAtom
-changed atoms enabled disabled = without_atoms (with_atoms atoms enabled) disabled
+abbrev pub atoms_after_change : List CfgAtom → List CfgAtom → List CfgAtom → List CfgAtom
+atoms_after_change atoms enabled disabled = without_atoms (with_atoms atoms enabled) disabled

@@ -8,7 +8,7 @@ ghost use Rattle.std.specs.Slice.Iter.{iter_rest};
 ghost use Rattle.std.specs.List.Sorted.{IsStrictlySortedBy};
 ghost use Rattle.base_text.specs.declared.cfg.CfgAtom.{CfgAtom};
 ghost use Rattle.base_text.specs.declared.cfg.CfgAtom.TheVariants.{KeyValue};
-ghost use Rattle.base_text.specs.CfgOrder.{atom_cmp, changed, with_atom, with_atoms, without_atoms};
+ghost use Rattle.base_text.specs.CfgOrder.{atom_cmp, atoms_after_change, with_atom, with_atoms, without_atoms};
 
 use crate::cfg::CfgAtom;
 use crate::cfg_diff::CfgDiff;
@@ -120,7 +120,8 @@ fn apply(
 ) -> Result<(), AllocError>
     requires { IsStrictlySortedBy atom_cmp atoms.old.items }
     ensures sorted { IsStrictlySortedBy atom_cmp atoms.new.items }
-    ensures ok { OnOk result (atoms.new.items ≡ changed atoms.old.items enabled.now disabled.now) }
+    ensures ok { OnOk result (atoms.new.items
+        ≡ atoms_after_change atoms.old.items enabled.now disabled.now) }
     ensures unchanged { OnErr result (atoms.new.items ≡ atoms.old.items) }
 {
     let added = copy_items(*atoms.allocator(), enabled)?;
@@ -202,7 +203,8 @@ impl CfgOptions {
 
     /// Puts the enabled atoms in and takes the disabled ones out.
     pub fn apply_diff(&mut self, diff: &CfgDiff) -> Result<(), AllocError>
-        ensures ok { OnOk result (self.new ≡ changed self.old diff.now.enabled diff.now.disabled) }
+        ensures ok { OnOk result (self.new
+            ≡ atoms_after_change self.old diff.now.enabled diff.now.disabled) }
         ensures unchanged { OnErr result (self.new ≡ self.old) }
     {
         apply(&mut self.atoms, diff.enabled(), diff.disabled())?;
