@@ -6,7 +6,7 @@ ghost use Rattle.std.specs.List.{All, Contains, range_with_len};
 ghost use Rattle.std.specs.List.Sorted.{IsStrictlyIncreasing};
 ghost use Rattle.graph_base.specs.Edges.{HasEdge, IsInRange, row};
 ghost use Rattle.graph_base.specs.Reach.{Reaches};
-ghost use Rattle.graph_base.specs.Trail.{cleared, empty_trail};
+ghost use Rattle.graph_base.specs.Trail.{empty_trail, trail_after_clear};
 ghost use Rattle.pm_cargo.specs.Closure.{IsGraph, IsReversed, closure, rows_of};
 
 use graph_base::{Graph as _, Trail, search_into};
@@ -203,7 +203,8 @@ impl Graph {
         ensures reach { OnOk result (All (λ node. Reaches self.now node target) trail.new.nodes) }
         ensures within { OnOk result (All (λ node. node < length self.now) trail.new.nodes) }
         ensures marks { OnOk result (All (λ node. node < length trail.new.marks) trail.new.nodes) }
-        ensures cleared { OnOk result (cleared trail.new ≡ empty_trail (length self.now)) }
+        ensures cleared { OnOk result
+            (trail_after_clear trail.new ≡ empty_trail (length self.now)) }
     {
         search_into(&self.back, trail, target)
     }

@@ -4,7 +4,7 @@ use Rattle.std.proofs.lemmas.List.{get_or_default}
 use Rattle.std.proofs.lemmas.List.Elements.{Contains-get_or}
 use Rattle.std.proofs.lemmas.Result.{on_ok_weaker}
 use Rattle.graph_base.specs.Reach.{Reaches}
-use Rattle.graph_base.specs.Trail.{IsWhole, cleared, empty_trail}
+use Rattle.graph_base.specs.Trail.{IsWhole, empty_trail, trail_after_clear}
 use Rattle.graph_base.proofs.ClearLemmas.{cleared_trail, found_reached, nodes_marked}
 use Rattle.pm_cargo.proofs.GraphLemmas.{reversed_in_range, reversed_reaches}
 use Rattle.pm_cargo.proofs.closure.Graph.reaching.Goals as goal
@@ -55,6 +55,6 @@ returns-clause-cleared c =
     let back = c.self.inside.back in
     let trail = c.search_into.new.trail in
     let long : length back ≡ length c.args.self.now = c.self.invariant.long ∙ ap length c.self.view_is in
-    let empty : IsWhole back c.args.target trail → cleared trail ≡ empty_trail (length c.args.self.now) =
+    let empty : IsWhole back c.args.target trail → trail_after_clear trail ≡ empty_trail (length c.args.self.now) =
     λ whole. cleared_trail back c.args.target trail whole.trail ∙ ap empty_trail long in
     on_ok_weaker c.search_into.result empty c.search_into.ensures
