@@ -15,6 +15,6 @@ pub record RoundTrips {T : Type 0} (reads : Data → Reading T) (writes : T → 
   pub keeps : (d : Data) → IfOk (reads d) (IsKept reads writes (has_float d) (max height (depth d)))
 
 -- how deep the defaults nest in a list or a map of values whose defaults nest to so many levels
-abbrev pub raised : ℕ → ℕ
-raised zero = zero
-raised (suc h) = suc (suc h)
+abbrev pub outer_height : ℕ → ℕ
+outer_height zero = zero
+outer_height (suc h) = suc (suc h)

@@ -4,7 +4,7 @@ ghost use Rattle.std.specs.Prelude.{◌≡◌, IfOk, refl};
 ghost use Rattle.serde_json.specs.View.{view, members_view};
 ghost use Rattle.json_fields.specs.Fields.{map_at, members_from};
 ghost use Rattle.json_fields.specs.Outcome.{Gives, below_key};
-ghost use Rattle.json_fields.specs.RoundTrip.{raised};
+ghost use Rattle.json_fields.specs.RoundTrip.{outer_height};
 ghost use Rattle.json_fields.specs.Written.{map_data};
 ghost use Rattle.json_fields.specs.Laws.RoundTrips.{map-round_trips};
 
@@ -27,7 +27,7 @@ impl<T: ReadJson> ReadJson for ByText<T> {
 impl<T: Json> Json for ByText<T> {
     ghost writes = { map_data T.writes };
 
-    ghost height = { raised T.height };
+    ghost height = { outer_height T.height };
 
     fn write(&self, alloc: Global) -> Result<Value, AllocError> {
         let mut fields = Map::new(alloc);

@@ -3,7 +3,7 @@
 ghost use Rattle.std.specs.Prelude.{◌≡◌, max, refl};
 ghost use Rattle.json_fields.specs.Pairs.{pair_at, pair_data};
 ghost use Rattle.json_fields.specs.Laws.Pairs.{pair-round_trips};
-ghost use Rattle.json_fields.specs.RoundTrip.{raised};
+ghost use Rattle.json_fields.specs.RoundTrip.{outer_height};
 
 use crate::place::{ReadError, below_item};
 use crate::reading::{Json, Present, ReadJson, missed};
@@ -29,7 +29,7 @@ impl<A: ReadJson, B: ReadJson> ReadJson for (A, B) {
 impl<A: Json, B: Json> Json for (A, B) {
     ghost writes = { pair_data A.writes B.writes };
 
-    ghost height = { max (raised A.height) (raised B.height) };
+    ghost height = { max (outer_height A.height) (outer_height B.height) };
 
     fn write(&self, alloc: Global) -> Result<Value, AllocError> {
         let mut values = Vec::with_capacity(alloc, 2)?;

@@ -5,7 +5,7 @@ ghost use Rattle.serde_json.specs.Data.{boolean, string, number, unsigned};
 ghost use Rattle.serde_json.specs.View.{items_view};
 ghost use Rattle.json_fields.specs.Fields.{flag_at, items_from, list_at, number_at, option_at, text_at};
 ghost use Rattle.json_fields.specs.Outcome.{Gives};
-ghost use Rattle.json_fields.specs.RoundTrip.{raised};
+ghost use Rattle.json_fields.specs.RoundTrip.{outer_height};
 ghost use Rattle.json_fields.specs.Written.{list_data, option_data};
 ghost use Rattle.json_fields.specs.Laws.RoundTrips.{flag-round_trips, list-round_trips, number-round_trips, option-round_trips, text-round_trips};
 
@@ -164,7 +164,7 @@ impl<T: ReadJson> ReadJson for Items<T> {
 impl<T: Json> Json for Items<T> {
     ghost writes = { list_data T.writes };
 
-    ghost height = { raised T.height };
+    ghost height = { outer_height T.height };
 
     fn write(&self, alloc: Global) -> Result<Value, AllocError> {
         let items = self.as_slice();

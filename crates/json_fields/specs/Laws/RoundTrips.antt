@@ -11,7 +11,7 @@ use Rattle.json_fields.specs.Laws.Parts.{first_of_none, rest_of_none, get_member
 use Rattle.json_fields.specs.Laws.Rows.{set_member-no_float, set_unless_null-no_float}
 use Rattle.json_fields.specs.Fields.{any_at, defaulted, flag_at, found, items_from, list_at, map_at, members_at, members_from, number_at, option_at, optional, required, text_at, under}
 use Rattle.json_fields.specs.Outcome.{Reading, ◌>>=◌, below_key, below_position}
-use Rattle.json_fields.specs.RoundTrip.{IsKept, RoundTrips, raised}
+use Rattle.json_fields.specs.RoundTrip.{IsKept, RoundTrips, outer_height}
 use Rattle.json_fields.specs.Written.{entries_data, is_null, items_data, list_data, map_data, option_data, set_member, set_unless_null}
 
 -- what is read, where anything is, has that property
@@ -91,7 +91,7 @@ pub any-round_trips : RoundTrips any_at (λ d. d) 0
 any-round_trips = record { keeps = λ d. record { again = refl; clean = λ h. h; nests = omega arith } }
 
 -- a list of what nests so deep nests one level deeper
-pub raised-above : (h k m : ℕ) → m ≤ max h k → suc m ≤ max (raised h) (suc k)
+pub raised-above : (h k m : ℕ) → m ≤ max h k → suc m ≤ max (outer_height h) (suc k)
 raised-above zero k m low = omega (arith, low)
 raised-above (suc h) k m low = omega (arith, low)
 
@@ -144,7 +144,7 @@ module _ {T : Type 0} (reads : Data → Reading T) (writes : T → Data) (height
       })
       (items-kept (suc position) ds))
 
-  list-kept : (d : Data) → IfOk (list_at reads d) (IsKept (list_at reads) (list_data writes) (has_float d) (max (raised height) (depth d)))
+  list-kept : (d : Data) → IfOk (list_at reads d) (IsKept (list_at reads) (list_data writes) (has_float d) (max (outer_height height) (depth d)))
   list-kept null = tt
   list-kept (boolean b) = tt
   list-kept (number n) = tt
@@ -154,7 +154,7 @@ module _ {T : Type 0} (reads : Data → Reading T) (writes : T → Data) (height
   list-kept (object ms) = tt
 
   -- lists
-  pub list-round_trips : RoundTrips (list_at reads) (list_data writes) (raised height)
+  pub list-round_trips : RoundTrips (list_at reads) (list_data writes) (outer_height height)
   list-round_trips = record { keeps = list-kept }
 
   -- the values of a map
@@ -175,7 +175,7 @@ module _ {T : Type 0} (reads : Data → Reading T) (writes : T → Data) (height
       })
       (entries-kept ms))
 
-  map-kept : (d : Data) → IfOk (map_at reads d) (IsKept (map_at reads) (map_data writes) (has_float d) (max (raised height) (depth d)))
+  map-kept : (d : Data) → IfOk (map_at reads d) (IsKept (map_at reads) (map_data writes) (has_float d) (max (outer_height height) (depth d)))
   map-kept null = tt
   map-kept (boolean b) = tt
   map-kept (number n) = tt
@@ -185,7 +185,7 @@ module _ {T : Type 0} (reads : Data → Reading T) (writes : T → Data) (height
       (weaker (λ es all. record { again = all.again; clean = all.clean; nests = raised-above height (members_depth ms) _ all.nests }) (entries-kept ms)).holds
 
   -- maps
-  pub map-round_trips : RoundTrips (map_at reads) (map_data writes) (raised height)
+  pub map-round_trips : RoundTrips (map_at reads) (map_data writes) (outer_height height)
   map-round_trips = record { keeps = map-kept }
 
   -- what is read at a key, where what is read of nothing is kept
@@ -228,19 +228,19 @@ module _ {T : Type 0} {reads : Data → Reading T} {writes : T → Data} {height
       row-kept (option_at reads) (option_data writes) height (option-round_trips reads writes height kept present) k (Ok None) n ms low within.within
       (record { holds = record { again = refl; clean = λ _. refl; nests = omega arith } })
 
-module _ {T : Type 0} {reads : Data → Reading T} {writes : T → Data} {height : ℕ} (kept : RoundTrips reads writes height) {n : ℕ} {ms : Members} (low : raised height ≤ n) (some : 1 ≤ n) (within : AreWithin n ms) where
+module _ {T : Type 0} {reads : Data → Reading T} {writes : T → Data} {height : ℕ} (kept : RoundTrips reads writes height) {n : ℕ} {ms : Members} (low : outer_height height ≤ n) (some : 1 ≤ n) (within : AreWithin n ms) where
   -- a list that may be missing
   pub listed-kept : (k : List ℕ) → ReadsAs (defaulted k [] (list_at reads) ms) (IsKept (list_at reads) (list_data writes) (members_have_float ms) n)
   unfolding defaulted
   listed-kept k =
-      row-kept (list_at reads) (list_data writes) (raised height) (list-round_trips reads writes height kept) k (Ok []) n ms low within.within
+      row-kept (list_at reads) (list_data writes) (outer_height height) (list-round_trips reads writes height kept) k (Ok []) n ms low within.within
       (record { holds = record { again = refl; clean = λ _. refl; nests = some } })
 
   -- a map that may be missing
   pub mapped-kept : (k : List ℕ) → ReadsAs (defaulted k [] (map_at reads) ms) (IsKept (map_at reads) (map_data writes) (members_have_float ms) n)
   unfolding defaulted
   mapped-kept k =
-      row-kept (map_at reads) (map_data writes) (raised height) (map-round_trips reads writes height kept) k (Ok []) n ms low within.within
+      row-kept (map_at reads) (map_data writes) (outer_height height) (map-round_trips reads writes height kept) k (Ok []) n ms low within.within
       (record { holds = record { again = refl; clean = λ _. refl; nests = some } })
 
 -- members in which what is kept was put
