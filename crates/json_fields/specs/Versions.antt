@@ -47,8 +47,8 @@ abbrev pub first_mark : List ℕ → Option ℕ
 first_mark text = find (λ b. (b == 45) || (b == 43)) text
 
 -- with exactly one dot, `.0` is appended
-abbrev pub completed : List ℕ → List ℕ
-completed text = if count_by (λ b. b == 46) text == 1 then text ++ codes ".0" else text
+abbrev pub full_version_text : List ℕ → List ℕ
+full_version_text text = if count_by (λ b. b == 46) text == 1 then text ++ codes ".0" else text
 
 -- the version that a parser read, or none
 abbrev pub or_not_version : {E : Type 0} → Result Parts E → Result Parts BareError
@@ -62,7 +62,7 @@ unless_marked (Some mark) version = if mark == 45 then Err PreRelease else Err B
 
 -- a version with no pre-release and no build metadata, whose third number may be left out
 unfoldable pub bare_parts : List ℕ → Result Parts BareError
-bare_parts text = unless_marked (first_mark text) (or_not_version (version_parts (completed text)))
+bare_parts text = unless_marked (first_mark text) (or_not_version (version_parts (full_version_text text)))
 
 -- the bare version that a text is
 unfoldable pub bare_of : List ℕ → Reading Parts

@@ -3,7 +3,7 @@
 ghost use Rattle.std.specs.Prelude.{◌≡◌, ◌==◌, ◌||◌, IfOk, Ok, count_by, string_bytes};
 ghost use Rattle.semver.specs.Identifiers.{parts_text};
 ghost use Rattle.semver.specs.Parse.{version_parts};
-ghost use Rattle.json_fields.specs.Versions.{GivesBare, bare_of, bare_parts, completed, first_mark, or_not_version, version_text};
+ghost use Rattle.json_fields.specs.Versions.{GivesBare, bare_of, bare_parts, first_mark, full_version_text, or_not_version, version_text};
 ghost use Rattle.json_fields.specs.Laws.ReadAgain.{bare_of-again};
 
 use crate::place::ReadError;
@@ -61,7 +61,7 @@ fn first_mark(text: &[u8]) -> Option<u8>
 }
 
 fn completed_version(alloc: Global, text: &str) -> Result<Version, BareError>
-    ensures exact { GivesBare result (or_not_version (version_parts (completed text.now))) }
+    ensures exact { GivesBare result (or_not_version (version_parts (full_version_text text.now))) }
 {
     if count_dots(text.as_bytes()) != 1 {
         return parse_version(alloc, text);

@@ -8,7 +8,7 @@ use Rattle.json_fields.specs.declared.bare.BareError.{BareError}
 use Rattle.json_fields.specs.declared.bare.BareError.TheVariants.{PreRelease, BuildMetadata}
 use Rattle.json_fields.specs.Fields.{under}
 use Rattle.json_fields.specs.Outcome.{Reading}
-use Rattle.json_fields.specs.Versions.{GivesBare, bare_of, bare_parts, completed, first_mark, or_missed, or_not_version, requirement_of, unless_marked, version_of, version_text}
+use Rattle.json_fields.specs.Versions.{GivesBare, bare_of, bare_parts, first_mark, full_version_text, or_missed, or_not_version, requirement_of, unless_marked, version_of, version_text}
 use Rattle.semver.specs.Identifiers.{parts_text}
 use Rattle.semver.specs.Parse.{Parts, req_of, version_parts}
 use Rattle.semver.proofs.Grammar.{version_parts-sound}
@@ -18,7 +18,7 @@ pub version_parts_again : (text : List ℕ) (p : Parts) → version_parts text �
 version_parts_again text p h = ap version_parts (version_parts-sound text p h).0 ∙ h
 
 -- a completed text is complete
-completed-completed : (text : List ℕ) → completed (completed text) ≡ completed text
+completed-completed : (text : List ℕ) → full_version_text (full_version_text text) ≡ full_version_text text
 completed-completed text = elim (cases_Bool (count_by (λ b. b == 46) text == 1)) [
   | inl once ↦
       let two : count_by (λ b. b == 46) (text ++ codes ".0") ≡ 2 =
@@ -28,17 +28,17 @@ completed-completed text = elim (cases_Bool (count_by (λ b. b == 46) text == 1)
 ]
 
 -- completing a text adds no mark
-first_mark-completed : (text : List ℕ) → first_mark text ≡ None → first_mark (completed text) ≡ None
+first_mark-completed : (text : List ℕ) → first_mark text ≡ None → first_mark (full_version_text text) ≡ None
 first_mark-completed text none = elim (cases_Bool (count_by (λ b. b == 46) text == 1)) [
   | inl once ↦ rw once (find-append (λ b. (b == 45) || (b == 43)) text (codes ".0") ∙ rw none)
   | inr other ↦ rw other none
 ]
 
 -- a complete text with no mark is read as the version that it is
-bare_parts-complete : (text : List ℕ) (p : Parts) → first_mark text ≡ None → completed text ≡ text → or_not_version (version_parts text) ≡ Ok p → bare_parts text ≡ Ok p
+bare_parts-complete : (text : List ℕ) (p : Parts) → first_mark text ≡ None → full_version_text text ≡ text → or_not_version (version_parts text) ≡ Ok p → bare_parts text ≡ Ok p
 unfolding bare_parts
 bare_parts-complete text p none complete h =
-    ap (λ mark. unless_marked mark (or_not_version (version_parts (completed text)))) none
+    ap (λ mark. unless_marked mark (or_not_version (version_parts (full_version_text text)))) none
     ∙ ap (λ whole. or_not_version (version_parts whole)) complete
     ∙ h
 
@@ -47,13 +47,13 @@ read_version (Ok q) p h = cc
 read_version (Err e) p h = cc
 
 -- a bare version's text is the text that it was completed to
-pub bare_parts_again : (text : List ℕ) (p : Parts) → first_mark text ≡ None → or_not_version (version_parts (completed text)) ≡ Ok p → bare_parts (parts_text p) ≡ Ok p
+pub bare_parts_again : (text : List ℕ) (p : Parts) → first_mark text ≡ None → or_not_version (version_parts (full_version_text text)) ≡ Ok p → bare_parts (parts_text p) ≡ Ok p
 bare_parts_again text p none h =
-    ap bare_parts (version_parts-sound (completed text) p (read_version (version_parts (completed text)) p h)).0
-    ∙ bare_parts-complete (completed text) p (first_mark-completed text none) (completed-completed text) h
+    ap bare_parts (version_parts-sound (full_version_text text) p (read_version (version_parts (full_version_text text)) p h)).0
+    ∙ bare_parts-complete (full_version_text text) p (first_mark-completed text none) (completed-completed text) h
 
 -- the same of what a call answers
-pub bare_answer_again : (text : List ℕ) (r : Result Parts BareError) → first_mark text ≡ None → GivesBare r (or_not_version (version_parts (completed text)))
+pub bare_answer_again : (text : List ℕ) (r : Result Parts BareError) → first_mark text ≡ None → GivesBare r (or_not_version (version_parts (full_version_text text)))
     → IfOk r (λ p. bare_parts (parts_text p) ≡ Ok p)
 bare_answer_again text (Ok p) none h = bare_parts_again text p none h
 bare_answer_again text (Err e) none h = tt
@@ -95,5 +95,5 @@ unmarked (Some mark) v p h = absurd (refused (mark == 45) h)
 pub bare_of-again : (text : List ℕ) → IfOk (bare_of text) (λ p. bare_of (version_text p) ≡ Ok p)
 unfolding bare_of bare_parts version_text
 bare_of-again text = parsed-as (bare_parts text) λ p h.
-    let both = unmarked (first_mark text) (or_not_version (version_parts (completed text))) p h in
+    let both = unmarked (first_mark text) (or_not_version (version_parts (full_version_text text))) p h in
     ap or_missed (bare_parts_again text p both.0 both.1)
