@@ -2,7 +2,7 @@
 use Rattle.std.proofs.Common.{◌≡◌, ◌==◌, ℕ, List, [], ◌∷◌, ◌++◌, codes, false, length, map, refl, rules, sym, ap}
 use Rattle.std.specs.List.{flat_map, join_by}
 use Rattle.std.proofs.lemmas.List.{append_assoc}
-use Rattle.cargo_meta.specs.Command.{feature_words, joined}
+use Rattle.cargo_meta.specs.Command.{feature_words, joined_text}
 
 -- what a function makes of each, end to end, is what it makes of what another shows
 flat_map-map : {X Y A : Type 0} (f : X → Y) (g : Y → List A) (xs : List X) → flat_map g (map f xs) ≡ flat_map (λ x. g (f x)) xs
@@ -15,7 +15,7 @@ join_by-map f between (x ∷ xs) = ap (λ rest. f x ++ rest) (sym (flat_map-map 
 
 -- where some features are named, their word stands before them
 pub feature_words-some : (names : List (List ℕ)) → (length names == 0) ≡ false
-    → feature_words names ≡ codes "--features" ∷ joined (codes ",") names ∷ []
+    → feature_words names ≡ codes "--features" ∷ joined_text (codes ",") names ∷ []
 feature_words-some [] h = search (rules, h)
 feature_words-some (name ∷ names) h = refl
 

@@ -5,7 +5,7 @@ use Rattle.outside.specs.declared.command.CommandLine.{CommandLine}
 use Rattle.outside.specs.declared.command.Output.{Output}
 use Rattle.json_fields.specs.Document.{document}
 use Rattle.json_fields.specs.Outcome.{Reading}
-use Rattle.cargo_meta.specs.Command.{joined}
+use Rattle.cargo_meta.specs.Command.{joined_text}
 use Rattle.cargo_meta.specs.Metadata.{metadata_at}
 use Rattle.cargo_values.specs.declared.errors.Error.{Error}
 use Rattle.cargo_values.specs.declared.errors.Error.TheVariants.{CargoMetadata, Io, Json, NoJson, OutOfMemory}
@@ -13,7 +13,7 @@ use Rattle.cargo_meta.specs.declared.metadata.Metadata.{Metadata}
 
 -- the program and its words, with a space between each two
 abbrev pub line_text : CommandLine → List ℕ
-line_text line = joined (codes " ") (line.program ∷ line.words)
+line_text line = joined_text (codes " ") (line.program ∷ line.words)
 
 -- the text begins with `{`
 abbrev pub begins_an_object : List ℕ → Bool

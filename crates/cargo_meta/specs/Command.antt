@@ -51,8 +51,8 @@ abbrev pub with_variable : List ℕ → Option (List ℕ) → Settings → Setti
 with_variable key value s = record s { env = with_value key value s.env }
 
 -- the texts with one between each two
-abbrev pub joined : List ℕ → List (List ℕ) → List ℕ
-joined between texts = join_by (λ text. text) between texts
+abbrev pub joined_text : List ℕ → List (List ℕ) → List ℕ
+joined_text between texts = join_by (λ text. text) between texts
 
 -- a word that stands where its flag is set
 abbrev pub flag_word : Bool → List ℕ → List (List ℕ)
@@ -66,7 +66,7 @@ option_words word (Some value) = word ∷ value ∷ []
 -- the features, joined by commas, where some are named
 abbrev pub feature_words : List (List ℕ) → List (List ℕ)
 feature_words [] = []
-feature_words (name ∷ names) = codes "--features" ∷ joined (codes ",") (name ∷ names) ∷ []
+feature_words (name ∷ names) = codes "--features" ∷ joined_text (codes ",") (name ∷ names) ∷ []
 
 -- the words of the command
 unfoldable pub words_of : Settings → List (List ℕ)

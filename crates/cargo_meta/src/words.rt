@@ -90,7 +90,7 @@ pub(crate) fn push_features(
 
 /// The texts, with one between each two.
 pub(crate) fn joined(alloc: Global, texts: &[Text], between: &str) -> Result<String, AllocError>
-    ensures { IfOk result (λ whole. string_bytes whole ≡ spec.joined between.now texts.now) }
+    ensures { IfOk result (λ whole. string_bytes whole ≡ spec.joined_text between.now texts.now) }
 {
     let pieces: Vec<&str> = texts.iter().map(|text| text.as_str()).collect(alloc)?;
     pieces.join(alloc, between)

@@ -1,6 +1,6 @@
 use Rattle.std.proofs.Common.{◌∙◌, codes, rules}
 use Rattle.std.proofs.lemmas.Result.{on_ok_weaker}
-use Rattle.cargo_meta.specs.Command.{joined}
+use Rattle.cargo_meta.specs.Command.{joined_text}
 use Rattle.cargo_meta.proofs.Joins.{feature_words-some, pushed-both}
 use Rattle.cargo_meta.proofs.words.push_features.Goals as goal
 
@@ -11,5 +11,5 @@ returns c =
     let some = feature_words-some features (search rules) in
     on_ok_weaker c.push-2.result
     (λ pushed. rw some (pushed-both c.args.words.now.items c.push.new.words.items c.push-2.new.words.items
-    (codes "--features") (joined (codes ",") features) c.as_str.result.now
+    (codes "--features") (joined_text (codes ",") features) c.as_str.result.now
     c.in_ok-push.ensures (c.as_str.ensures.value ∙ c.in_ok-names.ensures) pushed)) c.push-2.ensures
