@@ -3,7 +3,7 @@ use Rattle.std.proofs.Common.{◌≡◌, ◌==◌, ℕ, Bool, true, false, List,
 use Rattle.std.proofs.Common.{sym, ap, ◌∙◌, eqb-true}
 use Rattle.std.specs.FinMap as map
 use Rattle.std.specs.Option.{option_map, option_or, unwrap_or}
-use Rattle.input_db.specs.Applied.{applied, with_changed_file, with_changed_files, with_roots_from}
+use Rattle.input_db.specs.Applied.{database_after_change, with_changed_file, with_changed_files, with_roots_from}
 use Rattle.input_db.specs.Change.{IsChanged, text_after, text_given}
 use Rattle.input_db.specs.Database.{Database}
 use Rattle.source_files.specs.Files.{Held, durability_of_file, stored_text, text_of}
@@ -75,7 +75,7 @@ texts_changed old ready changed q same =
 
 -- a change whose roots are given, or not
 changed_by : (change : FileChange) (roots : Option (List SourceRoot)) (db : Database) → change.roots ≡ roots
-    → IsChanged (record change { roots = roots }) db (applied (record change { roots = roots }) db)
+    → IsChanged (record change { roots = roots }) db (database_after_change (record change { roots = roots }) db)
 changed_by change None db e = record {
   local = refl;
   library = refl;
@@ -101,5 +101,5 @@ changed_by change (Some roots) db e =
     }
 
 -- a change that is made step by step makes each entry as it is said
-pub applied_changes : (change : FileChange) (db : Database) → IsChanged change db (applied change db)
+pub applied_changes : (change : FileChange) (db : Database) → IsChanged change db (database_after_change change db)
 applied_changes change db = changed_by change change.roots db refl

@@ -51,7 +51,7 @@ abbrev pub with_changed_files : Held → List (ℕ × Option (List ℕ)) → Hel
 with_changed_files files changed = fold with_changed_file files changed
 
 -- what a change makes of a database: the roots that are given, then the files that changed
-abbrev pub applied : FileChange → Database → Database
-applied change db =
+abbrev pub database_after_change : FileChange → Database → Database
+database_after_change change db =
     let ready = with_roots_if_any db change.roots in
     record ready { files = with_changed_files ready.files change.files_changed }

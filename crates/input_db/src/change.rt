@@ -3,7 +3,7 @@
 ghost use Rattle.std.specs.Prelude.{◌≡◌, ◌<◌, ◌^◌, [], ◌∷◌, ◌++◌, IfOk, IfSome, None, OnErr, OnOk, Some};
 ghost use Rattle.std.specs.Prelude.{length, string_bytes, true};
 ghost use Rattle.std.specs.Option.{option_map};
-ghost use Rattle.input_db.specs.Applied.{applied};
+ghost use Rattle.input_db.specs.Applied.{database_after_change};
 ghost use Rattle.input_db.specs.Change.{IsChanged, SetsCrates, fits, fits_file, given_roots};
 
 use crate::applying::{fits_file, give_roots, set_texts};
@@ -117,7 +117,7 @@ impl FileChange {
         requires few { IfSome self.roots (λ roots. length roots < 2 ^ 32) }
         ensures ok { OnOk result (IsChanged self (D.seen db.old) (D.seen db.new)) }
         ensures steps { IfOk result (SetsCrates ⟦<CrateBuilderId as Ord>⟧.cmp self.crate_graph
-            (applied self (D.seen db.old)) (D.seen db.new)) }
+            (database_after_change self (D.seen db.old)) (D.seen db.new)) }
     {
         let graph = self.make(alloc, db)?;
         Ok(set_crates(alloc, graph, db)?)
@@ -130,7 +130,7 @@ impl FileChange {
         db: &mut D,
     ) -> Result<Option<CrateGraphBuilder>, AllocError>
         requires { IfSome self.roots (λ roots. length roots < 2 ^ 32) }
-        ensures applied { OnOk result (D.seen db.new ≡ applied self (D.seen db.old)) }
+        ensures applied { OnOk result (D.seen db.new ≡ database_after_change self (D.seen db.old)) }
         ensures graph { IfOk result (λ graph. graph ≡ self.crate_graph) }
     {
         let FileChange {

@@ -11,7 +11,7 @@ use Rattle.vfs_core.specs.Files.{existing_files}
 use Rattle.vfs_sets.specs.FileSet as sets
 use Rattle.vfs_sets.specs.Partition.{IsPartition}
 use Rattle.vfs_sets.specs.Probes.{CountsPlacing}
-use Rattle.input_db.specs.Applied.{applied, with_roots_if_any}
+use Rattle.input_db.specs.Applied.{database_after_change, with_roots_if_any}
 use Rattle.input_db.specs.Change.{IsChanged, SetsCrates, fits_file, is_in_some, is_root, keeps_root, local_after, library_after, place_after, place_given, root_after, root_given, text_after, text_given}
 use Rattle.input_db.specs.Database.{Database}
 use Rattle.source_files.specs.Files.{Held, durability_of_file, file_root_of, root_of, stored_place, stored_text, text_of}
@@ -114,10 +114,10 @@ ready-crates db (Some roots) = record { crates = refl; listed = refl; durability
 
 -- and so has one to which a change without a graph was made
 module _ (cmp : Id → Id → Ordering) (change : FileChange) (old new : Database) (ids : Option (tree.BTreeMap Id ℕ)) where
-  crates-kept : change.crate_graph ≡ None → SetsCrates cmp change.crate_graph (applied change old) new ids → KeepsCrates old new
+  crates-kept : change.crate_graph ≡ None → SetsCrates cmp change.crate_graph (database_after_change change old) new ids → KeepsCrates old new
   crates-kept none steps =
-      let set : (ids ≡ None) × (new ≡ applied change old) =
-      subst (λ g. SetsCrates cmp g (applied change old) new ids) none steps in
+      let set : (ids ≡ None) × (new ≡ database_after_change change old) =
+      subst (λ g. SetsCrates cmp g (database_after_change change old) new ids) none steps in
       let ready = ready-crates old change.roots in record {
         crates = ap (λ d. d.crates) set.1 ∙ ready.crates;
         listed = ap (λ d. d.listed) set.1 ∙ ready.listed;
@@ -126,12 +126,12 @@ module _ (cmp : Id → Id → Ordering) (change : FileChange) (old new : Databas
       }
 
   pub gives_roots : (roots : List SourceRoot) → change.roots ≡ Some roots → change.files_changed ≡ [] → change.crate_graph ≡ None
-      → IsChanged change old new → SetsCrates cmp change.crate_graph (applied change old) new ids → GivesRoots roots old new
+      → IsChanged change old new → SetsCrates cmp change.crate_graph (database_after_change change old) new ids → GivesRoots roots old new
   gives_roots roots given no_file none changed steps =
       record { change = change; given = given; no_file = no_file; changed = changed; crates = crates-kept none steps }
 
   pub gives_changes : (batch : List (ℕ × ChangedFile)) → change.roots ≡ None → change.files_changed ≡ changes_taken old.files [] batch
-      → change.crate_graph ≡ None → IsChanged change old new → SetsCrates cmp change.crate_graph (applied change old) new ids
+      → change.crate_graph ≡ None → IsChanged change old new → SetsCrates cmp change.crate_graph (database_after_change change old) new ids
       → GivesChanges batch old new
   gives_changes batch no_roots taken none changed steps =
       record { change = change; no_roots = no_roots; taken = taken; changed = changed; crates = crates-kept none steps }
