@@ -137,8 +137,8 @@ impl FileSetConfig {
         }
     }
 
-    /// The set that takes a path, or the number of sets for the last one. It looks up the prefixes of the text by which the
-    /// path is placed, the longest first, and each look-up is a step.
+    /// The set that takes a path, or the number of sets for the last one. It tries the prefixes of the text by which the
+    /// path is placed, the longest first, and each is a step.
     pub fn classify_counted<L: Ledger>(&self, path: &VfsPath, steps: &mut Steps<L>) -> usize
         ensures place { result ≡ place_of self.now path.now }
         ensures within { result ≤ length self.now }
@@ -180,7 +180,7 @@ impl FileSetConfig {
         self.partition_counted(alloc, vfs, &mut steps)
     }
 
-    /// The same, with each look-up of a prefix as a step. Out of memory, the first files were placed.
+    /// The same, with each prefix that is tried as a step. Out of memory, the first files were placed.
     pub fn partition_counted<L: Ledger>(
         &self,
         alloc: Global,
