@@ -163,9 +163,9 @@ place-none (roots ∷ sets) path last =
     (takes roots sets path) refl (place-none sets path) (omega (arith, last))
 
 -- a number that no lesser one may be is the least: the same by whether the other is lesser
-least-split : (number other : ℕ) (is_less : Bool) → nat_lt other number ≡ is_less → (other < number → ⊥) → number ≤ other
-least-split number other true h no_less = absurd (no_less (grind (arith, nat_tests)))
-least-split number other false h no_less = grind (arith, nat_tests)
+pub at_most-split : (number other : ℕ) (is_less : Bool) → nat_lt other number ≡ is_less → (other < number → ⊥) → number ≤ other
+at_most-split number other true h no_less = absurd (no_less (grind (arith, nat_tests)))
+at_most-split number other false h no_less = grind (arith, nat_tests)
 
 -- the set that is computed is the place
 pub place_of_is : (sets : List (List PathContent)) (path : PathContent) → place_of sets path < length sets
@@ -182,7 +182,7 @@ place_of_is sets path less =
           let rival_far = reach-fits rival path fit.begins in
           omega (arith, bound, rival_far, far, has.furthest_is);
       least = λ other rival fit same.
-          least-split (place_of sets path) other (nat_lt other (place_of sets path)) refl (λ lesser.
+          at_most-split (place_of sets path) other (nat_lt other (place_of sets path)) refl (λ lesser.
           let short = has.least other lesser rival fit.own in
           let rival_far = reach-fits rival path fit.begins in
           omega (arith, short, rival_far, far, same));

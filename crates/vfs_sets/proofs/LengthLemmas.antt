@@ -10,11 +10,11 @@ use Rattle.vfs_core.specs.VfsPath.{PathContent}
 use Rattle.vfs_sets.specs.RootMaps.{HasTextsUpTo, MapsRoots, is_root_of, longest_text, longest_text_of_all}
 
 -- a text is not a shorter one: the same by whether they are equal
-shorter-split : (text other : List ℕ) (is_same : Bool) → bytes_eq text other ≡ is_same → length other < length text
+bytes-split : (text other : List ℕ) (is_same : Bool) → bytes_eq text other ≡ is_same → length other < length text
     → bytes_eq text other ≡ false
-shorter-split text other true e longer =
+bytes-split text other true e longer =
     let same : length text ≡ length other = ap length ((bytes_decides text other).0 e) in absurd (omega (arith, longer, same))
-shorter-split text other false e longer = e
+bytes-split text other false e longer = e
 
 -- a root of a kind and a text has that text
 root-false : (of_kind has_text : Bool) → has_text ≡ false → of_kind && has_text ≡ false
@@ -28,7 +28,7 @@ no_root kind text [] longer = refl
 no_root kind text (root ∷ roots) longer =
     ap (λ (b : Bool). b || list_any (is_root_of kind text) roots)
     (root-false (beq root.is_virtual kind) (bytes_eq text root.text)
-    (shorter-split text root.text (bytes_eq text root.text) refl (omega (arith, longer))))
+    (bytes-split text root.text (bytes_eq text root.text) refl (omega (arith, longer))))
     ∙ no_root kind text roots (omega (arith, longer))
 
 -- and none of some sets

@@ -1,6 +1,7 @@
 -- The set that the longest prefix among the roots gives is the place of a path.
 use Rattle.std.proofs.Common.{◌≡◌, ℕ, zero, suc, ◌+◌, ◌<◌, ◌≤◌, Bool, true, false, ◌&&◌, ◌||◌, ◌-◌, List, [], ◌∷◌, Option, Some, None}
 use Rattle.std.proofs.Common.{ap, arith, cond, Contains, get_or, length, nat_eq, nat_lt, refl, subst, sym, take, true≢false, ◌∙◌, Vec}
+use Rattle.std.proofs.lemmas.Bool.{and_parts, or_left, or_right}
 use Rattle.std.proofs.lemmas.Bool.Decides.{nat_tests}
 use Rattle.std.proofs.lemmas.Grind.{common_steps}
 use Rattle.std.specs.Bool.{beq}
@@ -12,17 +13,8 @@ use Rattle.vfs_sets.specs.Placement.{FitsNoRoot, IsFit, IsPlaceOf, fits, place_o
 use Rattle.vfs_sets.specs.Probes.{CountsProbes, raised_by}
 use Rattle.vfs_sets.specs.RootMaps.{HasNoPrefix, IsOfLongestPrefix, MapsRoots, is_root_of, number_at}
 use Rattle.vfs_sets.proofs.CountLemmas.{raised_by-most}
-use Rattle.vfs_sets.proofs.FitLemmas.{fits_no_root, place_of_is, IsPlaceOf-one}
+use Rattle.vfs_sets.proofs.FitLemmas.{at_most-split, fits_no_root, place_of_is, IsPlaceOf-one}
 use Rattle.vfs_sets.proofs.PlaceLemmas.{place_within}
-
--- both of two tests that hold together
-and-left : (a b : Bool) → a && b ≡ true → a ≡ true
-and-left true b h = refl
-and-left false b h = absurd (true≢false (sym h))
-
-and-right : (a b : Bool) → a && b ≡ true → b ≡ true
-and-right true b h = h
-and-right false b h = absurd (true≢false (sym h))
 
 -- an item that passes, where one does
 any-split : (test : PathContent → Bool) (first : PathContent) (rest : List PathContent) (is_first : Bool) → test first ≡ is_first
@@ -38,20 +30,12 @@ any-item test [] some = absurd (true≢false (sym some))
 any-item test (first ∷ rest) some = any-split test first rest (test first) refl (any-item test rest) some
 
 -- where an item passes, one does
-or-right : (a b : Bool) → b ≡ true → a || b ≡ true
-or-right true b h = refl
-or-right false b h = h
-
-or-left : (a b : Bool) → a ≡ true → a || b ≡ true
-or-left true b h = refl
-or-left false b h = absurd (true≢false (sym h))
-
 item-any : (test : PathContent → Bool) (roots : List PathContent) (root : PathContent) (k : ℕ) → k < length roots
     → get_or roots k root ≡ root → test root ≡ true → list_any test roots ≡ true
 item-any test [] root k within at passes = absurd (omega arith)
-item-any test (first ∷ rest) root zero within at passes = or-left (test first) (list_any test rest) (ap test at ∙ passes)
+item-any test (first ∷ rest) root zero within at passes = or_left (test first) (list_any test rest) (ap test at ∙ passes)
 item-any test (first ∷ rest) root (suc k) within at passes =
-    or-right (test first) (list_any test rest) (item-any test rest root k (omega arith) at passes)
+    or_right (test first) (list_any test rest) (item-any test rest root k (omega arith) at passes)
 
 -- a set with a root is one of the sets
 set-within : (sets : List (List PathContent)) (number k : ℕ) → k < length (get_or sets number []) → number < length sets
@@ -107,7 +91,7 @@ IsPrefix root path = root.text ≡ take (length root.text) (placed_text path)
 fit-prefix : (root path : PathContent) → fits root path ≡ true → IsPrefix root path
 fit-prefix root path h =
     (bytes_decides root.text (take (length root.text) (placed_text path))).0
-    (and-right (beq root.is_virtual path.is_virtual) (pointwise nat_eq root.text (take (length root.text) (placed_text path))) h)
+    (and_parts (beq root.is_virtual path.is_virtual) (pointwise nat_eq root.text (take (length root.text) (placed_text path))) h).1
 
 prefix-short : (root path : PathContent) → IsPrefix root path → length root.text ≤ length (placed_text path)
 prefix-short root path is =
@@ -121,7 +105,7 @@ fit-found sets path other rival fit =
     let text = take (length rival.text) (placed_text path) in
     let same : bytes_eq text rival.text ≡ true = (bytes_decides text rival.text).1 (sym (fit-prefix rival path fit.begins)) in
     let kind : beq rival.is_virtual path.is_virtual ≡ true =
-    and-left (beq rival.is_virtual path.is_virtual) (pointwise nat_eq rival.text text) fit.begins in
+    (and_parts (beq rival.is_virtual path.is_virtual) (pointwise nat_eq rival.text text) fit.begins).0 in
     let passes : is_root_of path.is_virtual text rival ≡ true = rw (kind, same) refl in
     least-is (list_any (is_root_of path.is_virtual text)) 0 sets other (set-within sets other fit.own.0 fit.own.1)
     (item-any (is_root_of path.is_virtual text) (get_or sets other []) rival fit.own.0 fit.own.1 fit.own.2 passes)
@@ -132,11 +116,6 @@ nothing found number none some = cc
 
 one-number : (found : Option ℕ) (a b : ℕ) → found ≡ Some a → found ≡ Some b → a ≡ b
 one-number found a b first second = cc
-
--- no longer root fits: the same by whether one is longer
-shorter-split : (long size : ℕ) (is_longer : Bool) → nat_lt size long ≡ is_longer → (size < long → ⊥) → long ≤ size
-shorter-split long size true h not_longer = absurd (not_longer (grind (arith, nat_tests)))
-shorter-split long size false h not_longer = grind (arith, nat_tests)
 
 -- the set of the longest prefix is the place
 pub probed_place : {Z : Type 0} (sets : List (List PathContent)) (path : PathContent) (entries : List (Vec ℕ Z × ℕ)) (number before now : ℕ)
@@ -150,8 +129,9 @@ probed_place {Z} sets path entries number before now maps longest =
     let set : number ≡ first.0 = omega (arith, first.1) in
     let item = any-item (is_root_of path.is_virtual text) (get_or sets first.0 []) first.3 in
     let root = item.0 in
-    let kind : beq root.is_virtual path.is_virtual ≡ true = and-left (beq root.is_virtual path.is_virtual) (bytes_eq text root.text) item.2 in
-    let is : text ≡ root.text = (bytes_decides text root.text).0 (and-right (beq root.is_virtual path.is_virtual) (bytes_eq text root.text) item.2) in
+    let kind : beq root.is_virtual path.is_virtual ≡ true = (and_parts (beq root.is_virtual path.is_virtual) (bytes_eq text root.text) item.2).0 in
+    let is : text ≡ root.text = (bytes_decides text root.text).0
+    (and_parts (beq root.is_virtual path.is_virtual) (bytes_eq text root.text) item.2).1 in
     let cut : length text ≡ longest.size = let within = longest.within in grind (arith, common_steps) in
     let size : length root.text ≡ longest.size = sym (ap length is) ∙ cut in
     let prefix : root.text ≡ take (length root.text) (placed_text path) =
@@ -166,7 +146,7 @@ probed_place {Z} sets path entries number before now maps longest =
         longest = λ other rival fit.
             let at = fit-found sets path other rival fit in
             let short = prefix-short rival path (fit-prefix rival path fit.begins) in
-            let no_longer = shorter-split (length rival.text) longest.size (nat_lt longest.size (length rival.text)) refl (λ longer.
+            let no_longer = at_most-split (length rival.text) longest.size (nat_lt longest.size (length rival.text)) refl (λ longer.
             nothing (number_at (take (length rival.text) (placed_text path)) entries) at.0
             (longest.none_longer (length rival.text) longer short)
             (maps.each (take (length rival.text) (placed_text path)) ∙ at.1)) in

@@ -44,7 +44,7 @@ pub rest_all : (old : List (List ℕ × ℕ)) (roots : List PathContent) (number
 rest_all old roots number = record { each = λ bytes. refl }
 
 -- a number that one of two notes
-either : (here rest : Bool) (number other : Option ℕ)
+pub either : (here rest : Bool) (number other : Option ℕ)
     → cond rest number (cond here number other) ≡ cond (here || rest) number other
 either true true number other = refl
 either true false number other = refl

@@ -13,6 +13,7 @@ use Rattle.vfs_core.specs.VfsPath.{PathContent}
 use Rattle.vfs_sets.specs.Probes.{raised_by}
 use Rattle.vfs_sets.specs.RootMaps.{MapsRoots, PutsRoot, PutsRootsOf, is_root_of, number_at}
 use Rattle.vfs_sets.proofs.PlaceLemmas.{drop_end}
+use Rattle.vfs_sets.proofs.RootLemmas.{either}
 
 -- a key with one text does not have another
 apart : (own text key : List ℕ) → bytes_eq own text ≡ false → bytes_eq own key ≡ true → bytes_eq text key ≡ false
@@ -75,14 +76,6 @@ pub record PutsRest {Z : Type 0} (kind : Bool) (roots : List PathContent) (numbe
 pub puts_rest_all : {Z : Type 0} (kind : Bool) (roots : List PathContent) (number : ℕ) (old : List (Vec ℕ Z × ℕ))
     → PutsRest kind roots number 0 old old
 puts_rest_all kind roots number old = record { each = λ text. refl }
-
--- a number that one of two gives
-either : (here rest : Bool) (number other : Option ℕ)
-    → cond rest number (cond here number other) ≡ cond (here || rest) number other
-either true true number other = refl
-either true false number other = refl
-either false true number other = refl
-either false false number other = refl
 
 -- after one root more
 pub puts_rest_more : {Z : Type 0} (kind : Bool) (roots : List PathContent) (root : PathContent) (number index : ℕ)
