@@ -1,7 +1,7 @@
 -- What reaches what over a list of edges is decided by a recursion over the list.
 use Rattle.std.proofs.Common.{◌≡◌, ℕ, ◌<◌, ◌⊎◌, inl, inr, Bool, true, false, ◌&&◌, ◌||◌, ◌==◌, cond, List, [], ◌∷◌, ◌++◌, map, filter, get_or, length, refl, sym, ap, ◌∙◌, subst, arith}
 use Rattle.std.specs.List.{All, Contains}
-use Rattle.std.proofs.lemmas.Bool.{cases_eq, cases_lt, eq-eqb, eqb-true, ne_eqb}
+use Rattle.std.proofs.lemmas.Bool.{and_from, and_parts, cases_eq, cases_lt, eq-eqb, eqb-true, ne_eqb, or_cases, or_left, or_right}
 use Rattle.std.proofs.lemmas.List.{append-nil, get_or_past, get_or-set_same, get_or-set_other, length-set, map-append, same_lists}
 use Rattle.std.proofs.lemmas.List.Elements.{All-head, All-tail, Contains-append_cases, Contains-append_left, Contains-append_right, Contains-push, Contains-push_cases, filter-append}
 use Rattle.std.proofs.lemmas.List.FromFn.{get_or-map-range_with_len, length-map-range_with_len}
@@ -78,19 +78,6 @@ way_cases count e es (further {a = x} {b = z} {c = y} has r) =
           ]
     ]
 
-or_cases : (a b c : Bool) → (a || (b && c)) ≡ true → (a ≡ true) ⊎ ((b ≡ true) × (c ≡ true))
-or_cases true b c is = inl refl
-or_cases false true true is = inr (refl, refl)
-or_cases false true false is = cc
-or_cases false false c is = cc
-
-or_right : (a b c : Bool) → b ≡ true → c ≡ true → (a || (b && c)) ≡ true
-or_right true b c p q = refl
-or_right false b c p q = ap (λ x. x && c) p ∙ q
-
-or_left : (a b : Bool) → a ≡ true → (a || b) ≡ true
-or_left a b p = ap (λ x. x || b) p
-
 no_way : (count : ℕ) {x y : ℕ} → Reaches (graph_of count []) x y → x ≡ y
 no_way count itself = refl
 no_way count (further {a = x} {b = z} has r) = absurd (none_in z (subst (λ w. Contains w z) (row-graph_of count [] x (edge_below count [] x z has)) has))
@@ -101,10 +88,11 @@ reaches_if count [] x y all is = subst (λ w. Reaches (graph_of count []) x w) (
 reaches_if count (e ∷ es) x y all is =
     let rest = All-tail (IsWithin count) e es all in
     let first = All-head (IsWithin count) e es all in
-    elim (or_cases (reach_over es x y) (reach_over es x e.0) (reach_over es e.1 y) is) [
+    elim (or_cases (reach_over es x y) (reach_over es x e.0 && reach_over es e.1 y) is) [
       | inl old ↦ reaches_mapped (λ n. n) (old_edge count e es) (reaches_if count es x y rest old)
-      | inr over ↦ reaches_on (reaches_mapped (λ n. n) (old_edge count e es) (reaches_if count es x e.0 rest over.0))
-          (further (new_edge count e es first.source) (reaches_mapped (λ n. n) (old_edge count e es) (reaches_if count es e.1 y rest over.1)))
+      | inr over ↦ let both = and_parts (reach_over es x e.0) (reach_over es e.1 y) over in
+          reaches_on (reaches_mapped (λ n. n) (old_edge count e es) (reaches_if count es x e.0 rest both.0))
+          (further (new_edge count e es first.source) (reaches_mapped (λ n. n) (old_edge count e es) (reaches_if count es e.1 y rest both.1)))
     ]
 
 -- what is reached the recursion finds
@@ -113,7 +101,8 @@ found_if count [] x y r = eq-eqb x y (no_way count r)
 found_if count (e ∷ es) x y r =
     elim (way_cases count e es r) [
       | inl old ↦ or_left (reach_over es x y) (reach_over es x e.0 && reach_over es e.1 y) (found_if count es x y old)
-      | inr over ↦ or_right (reach_over es x y) (reach_over es x e.0) (reach_over es e.1 y) (found_if count es x e.0 over.0) (found_if count es e.1 y over.1)
+      | inr over ↦ or_right (reach_over es x y) (reach_over es x e.0 && reach_over es e.1 y)
+          (and_from (reach_over es x e.0) (reach_over es e.1 y) (found_if count es x e.0 over.0) (found_if count es e.1 y over.1))
     ]
 
 module _ (count : ℕ) (edges : List Edge) (e : Edge) (source : e.0 < count) where

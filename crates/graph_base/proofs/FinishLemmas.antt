@@ -130,10 +130,10 @@ visits_once {g} acyclic (fresh {below = below} {node = node} not u v) old =
     ] in
     visits_once acyclic v (once_pushed below node new (visits_once acyclic u old))
 
-range_at : (n x : ℕ) → x < n → Contains (range_with_len 0 n) x
+pub range_at : (n x : ℕ) → x < n → Contains (range_with_len 0 n) x
 range_at n x within = (x, subst (λ l. x < l) (sym (length-range_with_len 0 n)) within, get_or-range_with_len 0 n x x within ∙ omega arith)
 
-range_below : (n x : ℕ) → Contains (range_with_len 0 n) x → x < n
+pub range_below : (n x : ℕ) → Contains (range_with_len 0 n) x → x < n
 range_below n x c =
     let within : c.0 < n = subst (λ l. c.0 < l) (length-range_with_len 0 n) c.1 in
     omega (arith, c.2, get_or-range_with_len 0 n c.0 x within)

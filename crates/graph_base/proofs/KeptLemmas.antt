@@ -123,7 +123,7 @@ pub record OldEdge (g : List (List ℕ)) (keep : List ℕ) (a b : ℕ) : Type 0 
 none_in : (y : ℕ) → Contains [] y → ⊥
 none_in y c = omega (arith, c.1)
 
-edge_within : (g : List (List ℕ)) (a b : ℕ) → HasEdge g a b → a < length g
+pub edge_within : (g : List (List ℕ)) (a b : ℕ) → HasEdge g a b → a < length g
 edge_within g a b e = elim (cases_lt a (length g)) [
   | inl within ↦ within
   | inr past ↦ absurd (none_in b (subst (λ r. Contains r b) (get_or_past g a [] past) e))
