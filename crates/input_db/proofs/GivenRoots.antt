@@ -5,6 +5,7 @@ use Rattle.std.proofs.lemmas.Bool.{cond-false, cond-true, ne_eqb}
 use Rattle.std.specs.FinMap as map
 use Rattle.std.specs.List.{list_any, slice_get}
 use Rattle.std.specs.Option.{option_map, option_or}
+use Rattle.input_db.proofs.Numbers.{at_start, shift}
 use Rattle.input_db.specs.Applied.{with_given_root, with_members, with_roots_from}
 use Rattle.input_db.specs.Change.{place_after, place_given, root_after, root_given}
 use Rattle.input_db.specs.Database.{Database, with_files}
@@ -13,12 +14,6 @@ use Rattle.source_files.specs.SourceRoot.{files_in, has_file, root_durability}
 use Rattle.source_files.specs.declared.durability.Durability.{Durability}
 use Rattle.source_files.specs.declared.source_root.SourceRoot.{SourceRoot}
 use Rattle.source_files.proofs.Entries.{get_set}
-
-shift : (n k : ℕ) → suc n + k ≡ n + suc k
-shift n k = omega arith
-
-at_start : (n : ℕ) → n ≡ n + 0
-at_start n = omega arith
 
 -- one root more is given
 roots_from-append : (n : ℕ) (files : Held) (roots : List SourceRoot) (root : SourceRoot)

@@ -6,19 +6,17 @@ use Rattle.std.proofs.lemmas.Bool.{cases_eq}
 use Rattle.std.proofs.lemmas.Bool.Decides.{nat_tests}
 use Rattle.std.proofs.lemmas.List.Elements.{filter_passes}
 use Rattle.std.proofs.lemmas.List.Kept.{AllPairs-from_increasing, IsStrictlyIncreasing-filter}
+use Rattle.graph_base.proofs.FinishLemmas.{contains_other}
 use Rattle.graph_base.specs.Edges.{IsAscending}
 use Rattle.graph_base.specs.Reach.{Reaches, itself}
 use Rattle.input_db.specs.Queries.{IsWithItselfFirst, others}
-
-behind : (n : ℕ) (ns : List ℕ) (b : ℕ) → Contains ns b → Contains (n ∷ ns) b
-behind n ns b h = (suc h.0, omega (arith, h.1), h.2)
 
 -- what a list contains that may have one more in front
 contained_split : (t : Bool) (n : ℕ) (rest ns : List ℕ) (b : ℕ) → (Contains rest b → Contains ns b)
     → Contains (cond t (n ∷ rest) rest) b → Contains (n ∷ ns) b
 contained_split true n rest ns b more (zero, within, is) = (zero, omega arith, is)
-contained_split true n rest ns b more (suc k, within, is) = behind n ns b (more (k, omega arith, is))
-contained_split false n rest ns b more h = behind n ns b (more h)
+contained_split true n rest ns b more (suc k, within, is) = contains_other n ns b (more (k, omega arith, is))
+contained_split false n rest ns b more h = contains_other n ns b (more h)
 
 -- the others are of the list
 from_others : (krate : ℕ) (ns : List ℕ) (b : ℕ) → Contains (others krate ns) b → Contains ns b
@@ -27,7 +25,7 @@ from_others krate (n ∷ ns) b h =
     contained_split (not (nat_eq n krate)) n (others krate ns) ns b (from_others krate ns b) h
 
 keeps_split : (t : Bool) (n : ℕ) (rest : List ℕ) (b : ℕ) → Contains rest b → Contains (cond t (n ∷ rest) rest) b
-keeps_split true n rest b h = behind n rest b h
+keeps_split true n rest b h = contains_other n rest b h
 keeps_split false n rest b h = h
 
 -- what is of the list and not the crate is among the others
@@ -54,7 +52,7 @@ contains_same krate ns crates is P exact at_itself b =
     to : P b → Contains (krate ∷ others krate ns) b
     to p = elim (cases_eq b krate) [
       | inl same ↦ (zero, omega arith, sym same)
-      | inr differs ↦ behind krate (others krate ns) b (among_others krate ns b differs ((exact b).1 p))
+      | inr differs ↦ contains_other krate (others krate ns) b (among_others krate ns b differs ((exact b).1 p))
     ]
 
 -- the same of the nodes that a search reached

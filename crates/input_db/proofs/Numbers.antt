@@ -23,10 +23,10 @@ one_before : (c : Bool) (n : ℕ) (whole front back : List ℕ) → whole ≡ fr
 one_before true n whole front back e = ap (λ (ks : List ℕ). n ∷ ks) e
 one_before false n whole front back e = e
 
-shift : (n k : ℕ) → suc n + k ≡ n + suc k
+pub shift : (n k : ℕ) → suc n + k ≡ n + suc k
 shift n k = omega arith
 
-at_start : (n : ℕ) → n ≡ n + 0
+pub at_start : (n : ℕ) → n ≡ n + 0
 at_start n = omega arith
 
 -- one more root
