@@ -55,13 +55,13 @@ lookup-own (first ∷ rest) (suc number) entry distinct h =
     rw differs (lookup-own rest number entry distinct.1 h)
 
 -- a file exists where it has a text that counts and is not left out
-existing_files-state : (is_left_out : Bool) (text : Option (List ℕ))
+pub existing_files-state : (is_left_out : Bool) (text : Option (List ℕ))
     → is_existing (cond is_left_out Excluded (state_of text)) ≡ is_some (cond is_left_out None text)
 existing_files-state true text = refl
 existing_files-state false None = refl
 existing_files-state false (Some text) = refl
 
-existing_files-told : (marks : List Mark) (path : PathContent)
+pub existing_files-told : (marks : List Mark) (path : PathContent)
     → is_existing (state_by_marks marks path) ≡ is_some (live_text marks path)
 unfolding live_text
 existing_files-told marks path = existing_files-state (is_out marks path) (kept_text marks path)

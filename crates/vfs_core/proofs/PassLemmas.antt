@@ -1,5 +1,6 @@
 -- What passes in a batch passes after one more change whose contents pass.
 use Rattle.std.proofs.Common.{◌≡◌, ℕ, Bool, true, false, ◌&&◌, List, [], ◌∷◌, Option, Some, None, refl, sym, ◌∙◌, ap, nat_eq, true≢false, if◌then◌else◌}
+use Rattle.std.proofs.lemmas.Bool.{and_parts}
 use Rattle.std.specs.Option.{option_map}
 use Rattle.indexmap.specs.IndexMap.{insert_entry}
 use Rattle.vfs_core.specs.declared.changed_file.Change.{Change}
@@ -16,24 +17,15 @@ use Rattle.vfs_core.specs.Hash.{content_hash}
 use Rattle.vfs_core.specs.Texts.{KeepsPassing, all_pass, contents_pass, passes}
 use Rattle.vfs_core.specs.VfsPath.{PathContent}
 
--- where one flag with another is up, the first is
-and-left : (a b : Bool) → a && b ≡ true → a ≡ true
-and-left true b h = refl
-and-left false b h = absurd (true≢false (sym h))
-
--- and the second
-and-right : (a b : Bool) → a && b ≡ true → b ≡ true
-and-right true b h = h
-and-right false b h = absurd (true≢false (sym h))
-
 -- a batch with one more change passes: the same by whether the change is of the first file
 passes-split : (test : List ℕ → Bool) (file : ℕ) (call : ChangedFile) (first : ℕ × ChangedFile) (rest : List (ℕ × ChangedFile)) (is_first : Bool)
     → passes test call.change ≡ true → passes test first.1.change && all_pass test rest ≡ true
     → (all_pass test rest ≡ true → all_pass test (insert_entry nat_eq rest file call) ≡ true)
     → all_pass test (if is_first then (first.0, call) ∷ rest else first ∷ insert_entry nat_eq rest file call) ≡ true
-passes-split test file call first rest true passed all more = rw passed (and-right (passes test first.1.change) (all_pass test rest) all)
+passes-split test file call first rest true passed all more = rw passed (and_parts (passes test first.1.change) (all_pass test rest) all).1
 passes-split test file call first rest false passed all more =
-    rw (and-left (passes test first.1.change) (all_pass test rest) all, more (and-right (passes test first.1.change) (all_pass test rest) all)) refl
+    let both = and_parts (passes test first.1.change) (all_pass test rest) all in
+    rw (both.0, more both.1) refl
 
 -- one more change that passes
 passes-insert : (test : List ℕ → Bool) (batch : List (ℕ × ChangedFile)) (file : ℕ) (call : ChangedFile)
