@@ -1,0 +1,77 @@
+//! A package as its manifest describes it, before the nodes say what it resolved to.
+
+ghost use Rattle.std.specs.Prelude.{◌≡◌, IfOk};
+ghost use Rattle.pm_reading.specs.Packages.{edition_of, rustc_private, unresolved_package};
+ghost use Rattle.serde_json.specs.View as json;
+
+use base_text::{Edition, Items, Shared};
+use pm_packages::{ManifestPath, PackageData, RustAnalyzerPackageMetaData, Target};
+use serde_json::Value;
+use std::alloc::{AllocError, Global};
+use std::rc::Rc;
+
+// The edition of a package. Those that are not out yet are read as the last one.
+fn edition_of(edition: cargo_meta::Edition) -> Edition
+    ensures { result ≡ edition_of edition }
+{
+    match edition {
+        cargo_meta::Edition::E2015 => Edition::Edition2015,
+        cargo_meta::Edition::E2018 => Edition::Edition2018,
+        cargo_meta::Edition::E2021 => Edition::Edition2021,
+        cargo_meta::Edition::E2024 | cargo_meta::Edition::_E2027 | cargo_meta::Edition::_E2030 => {
+            Edition::Edition2024
+        }
+    }
+}
+
+// What the metadata table of a manifest says under `rust-analyzer.rustc_private`.
+#[tactic(auto, unfolding(crate::specs::Packages::rustc_private))]
+fn rustc_private(metadata: &Value) -> bool
+    ensures { result ≡ rustc_private (json.view metadata.now) }
+{
+    match metadata.get("rust-analyzer") {
+        Some(table) => match table.get("rustc_private") {
+            Some(value) => value.as_bool().unwrap_or(false),
+            None => false,
+        },
+        None => false,
+    }
+}
+
+/// The package of a document, with its manifest and targets. What it resolved to comes later.
+pub(crate) fn unresolved_package(
+    alloc: Global,
+    is_member: bool,
+    manifest: ManifestPath,
+    targets: Items<Target>,
+    package: cargo_meta::Package,
+) -> Result<PackageData, AllocError>
+    ensures { IfOk result
+        (λ made. made ≡ unresolved_package is_member manifest targets «package») }
+{
+    Ok(PackageData {
+        id: Shared::new(Rc::new(alloc, package.id)?),
+        version: package.version,
+        name: package.name.into_inner(),
+        repository: package.repository,
+        manifest,
+        targets,
+        is_local: package.source.is_none(),
+        is_member,
+        dependencies: Items::empty(alloc),
+        edition: edition_of(package.edition),
+        features: package.features,
+        active_features: Items::empty(alloc),
+        authors: package.authors,
+        description: package.description,
+        homepage: package.homepage,
+        license: package.license,
+        license_file: package.license_file,
+        readme: package.readme,
+        rust_version: package.rust_version,
+        metadata: RustAnalyzerPackageMetaData {
+            rustc_private: rustc_private(package.metadata.as_value()),
+        },
+        all_member_deps: None,
+    })
+}
