@@ -1,3 +1,6 @@
 pub mod Errors
+pub mod Links
+pub mod Nodes
 pub mod Packages
+pub mod Presence
 pub mod Reading
