@@ -1,7 +1,6 @@
 //! Cargo workspaces: a document of `cargo metadata` as packages, targets and dependencies by number.
 #![tactic(auto)]
 
-mod closure;
 pub mod workspace_error;
 
 pub use pm_packages::{

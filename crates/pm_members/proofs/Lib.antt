@@ -1,0 +1,6 @@
+pub mod ListLemmas
+pub mod ClosureLemmas
+pub mod GraphLemmas
+pub mod EntryLemmas
+pub mod UpdateLemmas
+pub mod MemberLemmas
