@@ -1,1 +1,4 @@
-pub mod Errors
+pub mod Workspace
+pub mod ReadWorkspace
+pub mod Queries
+pub mod Shuffle

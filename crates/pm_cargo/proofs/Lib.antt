@@ -1,0 +1,5 @@
+pub mod WithinLemmas
+pub mod QueryLemmas
+pub mod ReadLemmas
+pub mod NodeOrderLemmas
+pub mod ShuffleLemmas

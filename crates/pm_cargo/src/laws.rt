@@ -1,0 +1,12 @@
+//! Laws that users of workspaces rest on. Each is a function that does nothing: its contract is the law.
+
+ghost use Rattle.std.specs.Prelude.{◌≡◌, ℕ, Bool, List, Ok};
+ghost use Rattle.outside.specs.declared.limits.Limits.{Limits};
+ghost use Rattle.cargo_meta.specs.declared.metadata.Metadata.{Metadata};
+ghost use Rattle.pm_cargo.specs.Shuffle.{IsReadAlike, IsShuffle};
+
+/// Two documents that differ in nothing but the order of their packages, nodes, entries and members are read
+/// as one workspace, where both are read. Packages of one id keep their order, and so do nodes and entries.
+pub fn shuffled_documents_give_one_workspace()
+    ensures { (a b : Metadata) → IsShuffle a b → IsReadAlike a b }
+{}
