@@ -1,0 +1,106 @@
+//! Reads the document of a case, and asks its workspace what the case asks.
+
+use crate::{packages, questions};
+use base_text::{AbsPathBuf, Limit, Limits, TryClone};
+use cargo_meta::Metadata;
+use cases::{Case, Fault, number_of};
+use crate_graph::Env;
+use pm_cargo::{CargoWorkspace, ManifestPath, WorkspaceError};
+use serde_json::{Value, json};
+use std::alloc::Global;
+
+/// What a case asks of its document.
+pub fn answer(alloc: Global, case: Case<'_>) -> Result<Value, Fault> {
+    if case.text("call")? != "CargoWorkspace::new" {
+        return Err(Fault::Call);
+    }
+    match read(alloc, case, case.member("document")?)? {
+        Ok(workspace) => asked(alloc, case, &workspace),
+        Err(error) => refusal(alloc, &error),
+    }
+}
+
+// What a case asks of the workspace that was read.
+fn asked(alloc: Global, case: Case<'_>, workspace: &CargoWorkspace) -> Result<Value, Fault> {
+    let question = case.text("ask")?;
+    match question {
+        "refusal" => Ok(Value::Null),
+        "equal" => match read(alloc, case, case.member("other")?)? {
+            Ok(other) => Ok(Value::from(*workspace == other)),
+            Err(error) => refusal(alloc, &error),
+        },
+        "copy" => Ok(Value::from(workspace.try_clone(alloc)? == *workspace)),
+        "targets" => packages::targets(alloc, workspace),
+        "names"
+        | "local"
+        | "members"
+        | "editions"
+        | "dependencies"
+        | "active_features"
+        | "all_member_deps" => packages::answer(alloc, workspace, question),
+        _ => questions::answer(alloc, case, workspace, question),
+    }
+}
+
+/// The path of a manifest.
+pub fn manifest_of(alloc: Global, text: &str) -> Result<ManifestPath, Fault> {
+    let Ok(path) = AbsPathBuf::new(alloc, text) else {
+        return Err(Fault::Condition);
+    };
+    ManifestPath::new(path).ok().ok_or(Fault::Condition)
+}
+
+fn read(
+    alloc: Global,
+    case: Case<'_>,
+    document: &Value,
+) -> Result<Result<CargoWorkspace, WorkspaceError>, Fault> {
+    let Ok(meta) = Metadata::of_value(alloc, document) else {
+        return Err(Fault::Member("document"));
+    };
+    let manifest = manifest_of(alloc, case.text("manifest")?)?;
+    let limits = limits_of(case)?;
+    Ok(CargoWorkspace::new(alloc, meta, manifest, Env::new(alloc), false, &limits))
+}
+
+// The limits of a case. One that is left out is the greatest.
+fn limits_of(case: Case<'_>) -> Result<Limits, Fault> {
+    let mut limits = Limits::greatest();
+    if let Some(given) = case.find("limits") {
+        if let Some(packages) = given.get("packages") {
+            limits.packages = number_of(packages, "limits")?;
+        }
+        if let Some(targets) = given.get("targets") {
+            limits.targets = number_of(targets, "limits")?;
+        }
+    }
+    Ok(limits)
+}
+
+// A refusal by its name, with its text or with what there is too much of.
+fn refusal(alloc: Global, error: &WorkspaceError) -> Result<Value, Fault> {
+    match error {
+        WorkspaceError::NotAbsolute(text) => with_text(alloc, "NotAbsolute", text.as_str()),
+        WorkspaceError::NoParent(text) => with_text(alloc, "NoParent", text.as_str()),
+        WorkspaceError::UnknownPackage(id) => with_text(alloc, "UnknownPackage", id.as_str()),
+        WorkspaceError::TooMany(limit) => {
+            let of = limit_name(*limit);
+            Ok(json!(in alloc; { "error": "TooMany", "of": of })?)
+        }
+        WorkspaceError::OutOfMemory => Err(Fault::OutOfMemory),
+    }
+}
+
+fn with_text(alloc: Global, name: &str, text: &str) -> Result<Value, Fault> {
+    Ok(json!(in alloc; { "error": name, "text": text })?)
+}
+
+fn limit_name(limit: Limit) -> &'static str {
+    match limit {
+        Limit::Bytes => "Bytes",
+        Limit::Paths => "Paths",
+        Limit::Packages => "Packages",
+        Limit::Targets => "Targets",
+        Limit::Crates => "Crates",
+    }
+}
