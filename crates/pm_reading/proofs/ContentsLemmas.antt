@@ -1,33 +1,29 @@
 -- What packages and targets that were taken are: within the limits, in the order of the document's packages, with ids of their own.
-use Rattle.std.proofs.Common.{◌≡◌, ℕ, ◌+◌, ◌-◌, ◌<◌, ◌≤◌, zero, suc, List, [], ◌∷◌, ◌++◌, length, map, get_or, ◌^◌, Bool, true, false, cond, Ok, Err, refl, sym, ap, subst, ◌∙◌, arith, length-append, Ordering}
+use Rattle.std.proofs.Common.{◌≡◌, ℕ, ◌+◌, ◌<◌, ◌≤◌, List, [], ◌∷◌, ◌++◌, length, map, get_or, ◌^◌, Bool, cond, Ok, Err, refl, sym, ap, subst, ◌∙◌, arith, length-append, Ordering}
 use Rattle.std.specs.Prelude.{bytes_eq, nat_lt}
 use Rattle.std.specs.Cmp.Lexicographic.{nat_list_cmp_total}
 use Rattle.std.specs.Cmp.{on_total}
-use Rattle.std.specs.List.{All, range_with_len}
+use Rattle.std.specs.List.{All}
 use Rattle.std.specs.List.Sorted.{IsSorted, IsSortedBy}
 use Rattle.std.specs.Ordering.{is_lt}
 use Rattle.std.proofs.lemmas.Bool.{ltb-true}
-use Rattle.std.proofs.lemmas.List.{get_or-map, get_or_default, length-map, map-append}
-use Rattle.std.proofs.lemmas.List.Elements.{All-push, All-weaker}
+use Rattle.std.proofs.lemmas.List.{get_or-map, length-map, map-append}
+use Rattle.std.proofs.lemmas.List.Elements.{All-push}
 use Rattle.std.proofs.lemmas.List.Sorted.{list_any-IsPermutation}
-use Rattle.std.proofs.lemmas.List.FromFn.{get_or-map-range_with_len, length-map-range_with_len}
 use Rattle.outside.specs.declared.limits.Limit.TheVariants.{Packages, Targets}
 use Rattle.outside.specs.declared.limits.Limits.{Limits}
 use Rattle.base_text.specs.Arena.{number_of}
-use Rattle.base_text.specs.declared.arena.Idx.{Idx}
 use Rattle.base_values.specs.ByText.{text_cmp}
 use Rattle.base_values.specs.Sorted.{sorted}
 use Rattle.base_values.proofs.InOrder.{sorted-IsPermutation, sorted-IsSorted}
 use Rattle.cargo_values.specs.declared.names.PackageId.{PackageId}
 use Rattle.cargo_meta.specs.declared.package.Package.{Package}
 use Rattle.cargo_values.specs.declared.target.Target.{Target}
-use Rattle.pm_packages.specs.Ids.{target_id}
 use Rattle.pm_packages.specs.declared.package.PackageData.{PackageData}
 use Rattle.pm_packages.specs.declared.target.TargetData.{TargetData}
-use Rattle.pm_packages.specs.declared.target.TargetTag.{TargetTag}
 use Rattle.pm_reading.specs.declared.contents.Contents.{Contents}
 use Rattle.pm_reading.specs.Packages.{by_package_id, contents_of, by_id, ids_between, is_listed, manifest_path, root_of, take_package, take_target, target_with_root, unresolved_package, with_package}
-use Rattle.pm_reading.specs.Reading.{Reading, ◌>>=◌, take_each}
+use Rattle.pm_reading.specs.Reading.{◌>>=◌, take_each}
 use Rattle.pm_reading.specs.declared.workspace_error.WorkspaceError.TheVariants.{TooMany}
 use Rattle.pm_reading.proofs.ReadingLemmas.{ok_from_bind, ok_from_limit, one_value, take_each-keeps, take_each-lists, take_each-same}
 

@@ -1,9 +1,8 @@
 -- Every id that packages and targets hold is that of one of them: as they are taken, and with what links give them.
-use Rattle.std.proofs.Common.{◌≡◌, ℕ, ◌+◌, ◌-◌, ◌<◌, ◌≤◌, ◌^◌, zero, suc, List, [], ◌∷◌, ◌++◌, length, map, get_or, Bool, true, false, cond, Option, Some, None, Ok, Err, refl, sym, ap, subst, ◌∙◌, arith, length-append}
+use Rattle.std.proofs.Common.{◌≡◌, ℕ, ◌+◌, ◌-◌, ◌<◌, ◌≤◌, ◌^◌, suc, List, [], ◌∷◌, ◌++◌, length, map, Option, Some, None, Ok, refl, sym, ap, subst, arith, length-append}
 use Rattle.std.specs.List.{All, enumerate_from, range_with_len}
 use Rattle.std.specs.Option.{IfSome}
-use Rattle.std.proofs.lemmas.List.{length-map}
-use Rattle.std.proofs.lemmas.List.Elements.{All-append, All-head, All-map, All-nil, All-push, All-tail, All-weaker, Contains-get_or}
+use Rattle.std.proofs.lemmas.List.Elements.{All-append, All-map, All-nil, All-push, All-weaker}
 use Rattle.std.proofs.lemmas.List.FromFn.{get_or-range_with_len, length-range_with_len}
 use Rattle.outside.specs.declared.limits.Limits.{Limits}
 use Rattle.base_text.specs.Arena.{number_of}
@@ -12,16 +11,14 @@ use Rattle.base_values.specs.Sorted.{sorted}
 use Rattle.cargo_values.specs.declared.names.PackageId.{PackageId}
 use Rattle.cargo_meta.specs.declared.package.Package.{Package}
 use Rattle.cargo_values.specs.declared.resolve.Node.{Node}
-use Rattle.pm_packages.specs.Ids.{package_id, target_id}
+use Rattle.pm_packages.specs.Ids.{target_id}
 use Rattle.pm_packages.specs.declared.package.PackageData.{PackageData}
 use Rattle.pm_packages.specs.declared.package.PackageTag.{PackageTag}
-use Rattle.pm_packages.specs.declared.target.TargetData.{TargetData}
 use Rattle.pm_packages.specs.declared.target.TargetTag.{TargetTag}
 use Rattle.pm_reading.specs.Links.{dependencies_at, linked_packages, package_with_links, with_links}
 use Rattle.pm_reading.specs.Nodes.{links_of}
 use Rattle.pm_reading.specs.Presence.{HoldsIds, HoldsItsIds, IsLinkWithin}
-use Rattle.pm_reading.specs.Packages.{contents_of, by_id, ids_between, is_listed, take_package, unresolved_package, with_package}
-use Rattle.pm_reading.specs.Reading.{Reading, ◌>>=◌, take_each}
+use Rattle.pm_reading.specs.Packages.{contents_of, by_id, ids_between, is_listed, take_package, unresolved_package}
 use Rattle.pm_reading.specs.declared.contents.Contents.{Contents}
 use Rattle.pm_reading.specs.declared.nodes.Link.{Link}
 use Rattle.pm_reading.proofs.ContentsLemmas.{package-from, targets-more, targets-of}

@@ -1,13 +1,13 @@
 -- Packages with what links give them, one link after another.
-use Rattle.std.proofs.Common.{◌≡◌, ◌≢◌, ℕ, ◌+◌, ◌<◌, ◌==◌, zero, suc, List, [], ◌∷◌, ◌++◌, Bool, true, false, cond, length, map, get_or, set, refl, sym, ap, ◌∙◌, arith, append_assoc, take, drop}
-use Rattle.std.specs.List.{enumerate_from, flat_map}
+use Rattle.std.proofs.Common.{◌≡◌, ◌≢◌, ℕ, ◌+◌, ◌<◌, ◌==◌, List, [], ◌∷◌, ◌++◌, true, false, cond, length, get_or, set, sym, ap, ◌∙◌, arith, append_assoc, take, drop}
+use Rattle.std.specs.List.{flat_map}
 use Rattle.std.proofs.lemmas.Bool.{eq-eqb, ne_eqb}
 use Rattle.std.proofs.lemmas.List.{append-nil, drop_all, take_all}
 use Rattle.std.proofs.lemmas.Grind.{flat_map-append}
 use Rattle.base_text.specs.Arena.{number_of}
 use Rattle.pm_packages.specs.declared.package.PackageData.{PackageData}
 use Rattle.pm_packages.specs.declared.package.PackageDependency.{PackageDependency}
-use Rattle.pm_reading.specs.Links.{dependencies_at, features_at, package_with_link, package_with_links, with_link, with_links}
+use Rattle.pm_reading.specs.Links.{package_with_link, package_with_links, with_link, with_links}
 use Rattle.pm_reading.specs.declared.nodes.Link.{Link}
 use Rattle.pm_reading.proofs.UpdateLemmas.{changed-none, changed-one, changed-twice}
 

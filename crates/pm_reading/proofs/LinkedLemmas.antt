@@ -8,7 +8,7 @@ use Rattle.pm_packages.specs.declared.package.PackageData.{PackageData}
 use Rattle.pm_reading.specs.Links.{linked_contents, linked_packages, with_links}
 use Rattle.pm_reading.specs.Nodes.{links_of}
 use Rattle.pm_reading.specs.Packages.{contents_of}
-use Rattle.pm_reading.specs.Reading.{Refuses, ◌>>=◌}
+use Rattle.pm_reading.specs.Reading.{Refuses}
 use Rattle.pm_reading.specs.declared.contents.Contents.{Contents}
 use Rattle.pm_reading.specs.declared.nodes.Link.{Link}
 use Rattle.pm_reading.specs.declared.workspace_error.WorkspaceError.{WorkspaceError}

@@ -1,16 +1,15 @@
 -- What a stable sort by a closure that compares keys leaves.
-use Rattle.std.proofs.Common.{◌≡◌, List, [], ◌∷◌, ◌++◌, Bool, true, false, cond, map, refl, sym, ap, ◌∙◌}
+use Rattle.std.proofs.Common.{◌≡◌, List, Bool, ap}
 use Rattle.std.specs.Cmp.{IsTotalOrder}
 use Rattle.std.specs.Fn.{Called}
-use Rattle.std.specs.List.{filter, flat_map}
-use Rattle.std.specs.List.Sorted.{IsSortedByClosure, IsStableByClosure, ties}
-use Rattle.std.specs.Ordering.{is_lt, on}
+use Rattle.std.specs.List.Sorted.{IsSortedByClosure, IsStableByClosure}
+use Rattle.std.specs.Ordering.{is_lt}
 use Rattle.std.specs.declared.cmp.Ordering.{Ordering}
 use Rattle.std.specs.Cmp.{on_total}
 use Rattle.std.proofs.lemmas.Fn.{always_returns_same}
 use Rattle.std.proofs.lemmas.List.Sorted.{ranks_by}
 use Rattle.base_values.specs.Sorted.{sorted}
-use Rattle.base_values.proofs.InOrder.{sorted-IsStable, sorted-unique}
+use Rattle.base_values.proofs.InOrder.{sorted-unique}
 use denote.Param.Members.{Mut}
 use denote.Ref.{Bor}
 

@@ -1,5 +1,5 @@
 -- The place of the last item of a list that passes a test, and how a search in a list in order finds it.
-use Rattle.std.proofs.Common.{◌≡◌, ℕ, ◌+◌, ◌-◌, ◌<◌, ◌≤◌, zero, suc, inl, inr, List, [], ◌∷◌, Bool, true, false, cond, Option, Some, None, Ordering, length, get_or, refl, sym, ap, subst, ◌∙◌, arith, true≢false}
+use Rattle.std.proofs.Common.{◌≡◌, ℕ, ◌-◌, ◌<◌, ◌≤◌, zero, suc, inl, inr, List, [], ◌∷◌, Bool, true, false, cond, Option, Some, None, Ordering, length, get_or, refl, sym, ap, arith, true≢false}
 use Rattle.std.specs.Option.{option_map, option_or}
 use Rattle.std.specs.List.Sorted.{IsPartitionPoint, IsPartitionedBy, IsSortedBy}
 use Rattle.std.specs.Cmp.{IsTotalOrder}

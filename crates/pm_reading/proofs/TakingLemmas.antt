@@ -1,5 +1,5 @@
 -- One more target, and one more package, of a document: where each is refused, and what it adds.
-use Rattle.std.proofs.Common.{◌≡◌, ℕ, ◌<◌, ◌≤◌, List, [], ◌∷◌, ◌++◌, length, Bool, true, false, Ok, Err, refl, ap, subst, ◌∙◌, sym, cond}
+use Rattle.std.proofs.Common.{◌≡◌, ℕ, ◌<◌, ◌≤◌, List, [], ◌∷◌, ◌++◌, length, true, false, Ok, Err, refl, ap, subst, cond}
 use Rattle.std.proofs.lemmas.Bool.{le-ltb, lt-ltb}
 use Rattle.outside.specs.declared.limits.Limit.TheVariants.{Packages, Targets}
 use Rattle.outside.specs.declared.limits.Limits.{Limits}
@@ -9,7 +9,7 @@ use Rattle.cargo_values.specs.declared.target.Target.{Target}
 use Rattle.pm_packages.specs.declared.target.TargetData.{TargetData}
 use Rattle.pm_reading.specs.declared.contents.Contents.{Contents}
 use Rattle.pm_reading.specs.Packages.{absolute_path, is_script, manifest_path, root_of, take_package, take_target, target_with_root, with_package}
-use Rattle.pm_reading.specs.Reading.{Refuses, ◌>>=◌, take_each}
+use Rattle.pm_reading.specs.Reading.{Refuses, take_each}
 use Rattle.pm_reading.specs.declared.workspace_error.WorkspaceError.{WorkspaceError}
 use Rattle.pm_reading.specs.declared.workspace_error.WorkspaceError.TheVariants.{TooMany}
 use Rattle.pm_reading.proofs.ReadingLemmas.{refuses_bind}

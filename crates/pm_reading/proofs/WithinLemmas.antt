@@ -1,8 +1,7 @@
 -- Every place that a package, a target or a link names is below the count of packages, and stays so.
-use Rattle.std.proofs.Common.{◌≡◌, ℕ, ◌+◌, ◌-◌, ◌<◌, ◌≤◌, ◌==◌, zero, suc, List, [], ◌∷◌, ◌++◌, length, map, Bool, true, false, cond, Option, Some, None, Ok, Err, refl, sym, ap, subst, ◌∙◌, arith}
-use Rattle.std.specs.List.{All, enumerate_from, flat_map}
-use Rattle.std.specs.Option.{IfSome}
-use Rattle.std.proofs.lemmas.List.Elements.{All-append, All-cons, All-head, All-map, All-nil, All-push, All-tail, All-weaker}
+use Rattle.std.proofs.Common.{◌≡◌, ℕ, ◌+◌, ◌<◌, ◌==◌, List, [], ◌∷◌, ◌++◌, length, map, Bool, true, false, cond, Option, Some, None, Ok, refl, ap, subst, ◌∙◌}
+use Rattle.std.specs.List.{All, enumerate_from}
+use Rattle.std.proofs.lemmas.List.Elements.{All-append, All-cons, All-head, All-map, All-nil, All-push, All-tail}
 use Rattle.base_text.specs.Arena.{number_of}
 use Rattle.cargo_values.specs.declared.resolve.Node.{Node}
 use Rattle.cargo_values.specs.declared.resolve.NodeDep.{NodeDep}
@@ -13,7 +12,7 @@ use Rattle.pm_packages.specs.declared.package.PackageDependency.{PackageDependen
 use Rattle.pm_reading.specs.Links.{dependencies_at}
 use Rattle.pm_reading.specs.Nodes.{by_package, dependencies_of_kinds, kinds_of, known_place, link_of, links_of, place_of, place_or_refusal, take_dependency, take_node, with_kinds}
 use Rattle.pm_reading.specs.Presence.{IsLinkWithin}
-use Rattle.pm_reading.specs.Reading.{Reading, ◌>>=◌, take_each}
+use Rattle.pm_reading.specs.Reading.{take_each}
 use Rattle.pm_reading.specs.declared.nodes.Link.{Link}
 use Rattle.pm_reading.proofs.NodeLemmas.{place_of-within}
 use Rattle.pm_reading.proofs.ReadingLemmas.{ok_from_bind, one_value, take_each-keeps}

@@ -1,5 +1,5 @@
 -- Packages with what the nodes of their document give them.
-use Rattle.std.specs.Prelude.{◌≡◌, ℕ, ◌==◌, List, [], ◌∷◌, ◌++◌, map, flat_map, if◌then◌else◌, Ok}
+use Rattle.std.specs.Prelude.{ℕ, ◌==◌, List, [], ◌∷◌, ◌++◌, map, flat_map, if◌then◌else◌, Ok}
 use Rattle.std.specs.List.{enumerate_from}
 use Rattle.base_text.specs.Arena.{number_of}
 use Rattle.outside.specs.declared.limits.Limits.{Limits}

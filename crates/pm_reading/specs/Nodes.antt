@@ -1,17 +1,13 @@
 -- The nodes of a document of `cargo metadata`, which give packages their dependencies and active features. They are taken in
 -- document order, each whole before the next.
-use Rattle.std.specs.Prelude.{◌≡◌, ℕ, suc, ◌<◌, ◌==◌, Bool, true, false, List, [], ◌∷◌, ◌++◌, map, filter, flat_map, bytes_eq, if◌then◌else◌, Option, Some, None, Result, Ok, Err}
-use Rattle.std.specs.List.{All, enumerate_from, list_any}
+use Rattle.std.specs.Prelude.{ℕ, suc, Bool, true, false, List, [], ◌∷◌, ◌++◌, map, filter, bytes_eq, if◌then◌else◌, Option, Some, None, Ok, Err}
+use Rattle.std.specs.List.{list_any}
 use Rattle.std.specs.Option.{option_map, option_or}
 use Rattle.std.specs.declared.cmp.Ordering.{Ordering}
 use Rattle.base_values.specs.ByText.{text_cmp}
 use Rattle.base_values.specs.Sorted.{sorted}
-use Rattle.base_text.specs.Arena.{number_of}
-use Rattle.outside.specs.declared.limits.Limits.{Limits}
 use Rattle.cargo_values.specs.declared.kinds.DependencyKind as document
 use Rattle.cargo_values.specs.declared.kinds.DependencyKind.TheVariants as of
-use Rattle.cargo_values.specs.declared.names.PackageId.{PackageId}
-use Rattle.cargo_meta.specs.declared.package.Package.{Package}
 use Rattle.cargo_values.specs.declared.resolve.DepKindInfo.{DepKindInfo}
 use Rattle.cargo_values.specs.declared.resolve.Node.{Node}
 use Rattle.cargo_values.specs.declared.resolve.NodeDep.{NodeDep}
@@ -21,9 +17,7 @@ use Rattle.pm_packages.specs.declared.package.DepKind.{DepKind}
 use Rattle.pm_packages.specs.declared.package.DepKind.TheVariants.{Normal, Dev, Build}
 use Rattle.pm_packages.specs.declared.package.PackageData.{PackageData}
 use Rattle.pm_packages.specs.declared.package.PackageDependency.{PackageDependency}
-use Rattle.pm_reading.specs.Packages.{contents_of}
 use Rattle.pm_reading.specs.Reading.{Reading, ◌>>=◌, take_each}
-use Rattle.pm_reading.specs.declared.contents.Contents.{Contents}
 use Rattle.pm_reading.specs.declared.nodes.Link.{Link}
 use Rattle.pm_reading.specs.declared.workspace_error.WorkspaceError.TheVariants.{UnknownPackage}
 

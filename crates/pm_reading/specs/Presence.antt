@@ -1,5 +1,5 @@
 -- Ids that packages and targets hold, each of which is that of a package or a target beside them.
-use Rattle.std.specs.Prelude.{ℕ, ◌<◌, ◌^◌, List, length}
+use Rattle.std.specs.Prelude.{ℕ, ◌<◌, ◌^◌, length}
 use Rattle.std.specs.List.{All}
 use Rattle.std.specs.Option.{IfSome}
 use Rattle.base_text.specs.Arena.{number_of}

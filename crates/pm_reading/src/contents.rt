@@ -221,8 +221,9 @@ fn packages_in_order(
     Ok(packages)
 }
 
-/// The packages of a document and their targets, in the order of the packages' ids, or the first refusal:
-/// each package is counted, then its manifest is checked, then its targets, before the next.
+/// The packages of a document and their targets, in the order of the packages' ids, or the first
+/// refusal: each package is counted, then its manifest is checked, then its targets, and only then
+/// the next package.
 pub fn contents_of(
     alloc: Global,
     members: Items<PackageId>,

@@ -1,5 +1,5 @@
-//! What a document of `cargo metadata` says of its packages and targets, or the first refusal in the order in
-//! which it is checked.
+//! What a document of `cargo metadata` says of its packages and targets, or the first refusal in
+//! the order in which it is checked.
 #![tactic(auto)]
 
 pub mod contents;

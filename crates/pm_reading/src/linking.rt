@@ -95,8 +95,8 @@ pub fn linked_packages(
     Ok(Items::new(packages))
 }
 
-/// The packages and targets of a document, with what its nodes give the packages, or the first refusal: the
-/// packages are taken before the nodes. `all_member_deps` stays None.
+/// The packages and targets of a document, with what its nodes give the packages, or the first
+/// refusal: the packages are taken before the nodes. `all_member_deps` stays None.
 pub fn linked_contents(
     alloc: Global,
     members: Items<PackageId>,

@@ -48,8 +48,8 @@ fn is_at_most(package: &PackageData, id: &PackageId) -> bool
     *package.id.get() <= *id
 }
 
-// The place of the package of an id, among packages in the order of their ids. Of several packages of
-// one id it is the last.
+// The place of the package of an id, among packages in the order of their ids. Of several packages
+// of one id it is the last.
 fn place_of(packages: &[PackageData], id: &PackageId) -> Option<usize>
     requires { IsSorted by_package_id packages.now }
     ensures { result ≡ place_of packages.now id.now.repr }
@@ -232,9 +232,9 @@ fn link_of(alloc: Global, packages: &[PackageData], node: Node) -> Result<Link, 
     })
 }
 
-/// What the nodes of a document give, in their order, or the first refusal: a node's own id is looked for
-/// first, and then those of its dependencies, in the order of the ids. The packages are those of
-/// [`contents_of`](crate::contents_of).
+/// What the nodes of a document give, in their order, or the first refusal: a node's own id is
+/// looked for first, and then those of its dependencies, in the order of the ids. The packages are
+/// those of [`contents_of`](crate::contents_of).
 pub fn links_of(
     alloc: Global,
     packages: &[PackageData],

@@ -1,5 +1,5 @@
-use Rattle.std.proofs.Common.{◌≡◌, List, [], ◌∷◌, ◌++◌, ap, append_assoc, refl, rules, sym, ◌∙◌}
-use Rattle.pm_reading.specs.Links.{with_link, with_links}
+use Rattle.std.proofs.Common.{List, [], ◌∷◌, ◌++◌, ap, append_assoc, refl, sym, ◌∙◌}
+use Rattle.pm_reading.specs.Links.{with_link}
 use Rattle.pm_reading.specs.declared.nodes.Link.{Link}
 use Rattle.pm_reading.proofs.LinkLemmas.{with_links-more, with_links-none}
 use Rattle.pm_reading.proofs.linking.give_links.Goals as goal

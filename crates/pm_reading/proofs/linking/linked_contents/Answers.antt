@@ -1,4 +1,3 @@
-use Rattle.std.proofs.Common.{◌≡◌, Ok, ap, arith, subst, sym, ◌∙◌}
 use Rattle.std.proofs.lemmas.Result.{err_from_is_err_and}
 use Rattle.pm_reading.specs.Nodes.{nodes_of}
 use Rattle.pm_reading.proofs.LinkedLemmas.{contents-linked, contents-no_links, contents-no_packages}

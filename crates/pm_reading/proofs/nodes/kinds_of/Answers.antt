@@ -1,4 +1,4 @@
-use Rattle.std.proofs.Common.{◌≡◌, [], ◌∷◌, ◌++◌, filter, ap, ◌∙◌}
+use Rattle.std.proofs.Common.{[], ◌∷◌, ◌++◌, filter, ap, ◌∙◌}
 use Rattle.pm_packages.specs.declared.package.DepKind.TheVariants.{Normal, Dev, Build}
 use Rattle.pm_reading.specs.Nodes.{has_kind}
 use Rattle.pm_reading.proofs.KindLemmas.{kinds-parts}

@@ -1,4 +1,4 @@
-use Rattle.std.proofs.Common.{◌∙◌, sym}
+use Rattle.std.proofs.Common.{sym}
 use Rattle.pm_reading.proofs.NodeLemmas.{known_place-none, known_place-some}
 use Rattle.pm_reading.proofs.nodes.known_place.Goals as goal
 

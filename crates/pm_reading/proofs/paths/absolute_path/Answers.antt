@@ -1,4 +1,4 @@
-use Rattle.std.proofs.Common.{◌≡◌, Err, ap, get_or}
+use Rattle.std.proofs.Common.{Err, ap}
 use Rattle.pm_reading.proofs.PathLemmas.{absolute_if, absolute_is, relative_if, relative_is}
 use Rattle.pm_reading.proofs.paths.absolute_path.Goals as goal
 

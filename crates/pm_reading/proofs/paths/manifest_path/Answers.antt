@@ -1,4 +1,4 @@
-use Rattle.std.proofs.Common.{◌≡◌, ◌∙◌, Ok, ap, refl, sym, true≢false}
+use Rattle.std.proofs.Common.{◌∙◌, Ok, ap, refl, sym, true≢false}
 use Rattle.std.proofs.lemmas.Result.{err_from_is_err_and}
 use Rattle.pm_reading.proofs.PathLemmas.{manifest_is, manifest_refused, root_is}
 use Rattle.pm_reading.proofs.paths.manifest_path.Goals as goal

@@ -1,9 +1,6 @@
-use Rattle.std.proofs.Common.{◌≡◌, ℕ, ◌<◌, ◌^◌, List, [], ◌∷◌, ◌++◌, length, Ok, ap, arith, length-append, sym, ◌∙◌}
+use Rattle.std.proofs.Common.{◌≡◌, [], ◌∷◌, ◌++◌, length, Ok, ap, arith, length-append, sym, ◌∙◌}
 use Rattle.std.proofs.lemmas.Result.{err_from_is_err_and}
-use Rattle.base_text.specs.declared.arena.Idx.{Idx}
 use Rattle.pm_packages.specs.declared.package.PackageData.{PackageData}
-use Rattle.pm_packages.specs.declared.target.TargetData.{TargetData}
-use Rattle.pm_packages.specs.declared.target.TargetTag.{TargetTag}
 use Rattle.pm_reading.specs.declared.contents.Contents.{Contents}
 use Rattle.pm_reading.specs.Packages.{ids_between, is_listed, manifest_path, take_target, unresolved_package}
 use Rattle.pm_reading.specs.Reading.{take_each}
