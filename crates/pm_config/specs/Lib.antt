@@ -1,0 +1,7 @@
+pub mod Defaults
+pub mod Lockfile
+pub mod MetadataDefaults
+pub mod Overrides
+pub mod TargetDir
+pub mod Tools
+pub mod Versions
