@@ -1,0 +1,69 @@
+-- What fetching metadata answers, by the answers of the runner: the full answer decides, and the light metadata stands in for one that is not ok.
+use Rattle.std.specs.Prelude.{◌≡◌, ℕ, Bool, if◌then◌else◌, List, Option, Some, None, Result, Ok, Err}
+use Rattle.outside.specs.Runner.{answer_of}
+use Rattle.outside.specs.declared.command.CommandLine.{CommandLine}
+use Rattle.outside.specs.declared.command.Output.{Output}
+use Rattle.outside.specs.declared.command.Question.{Question}
+use Rattle.cargo_meta.specs.Answer as metadata
+use Rattle.cargo_meta.specs.Answer.{json_line, line_text, of_line}
+use Rattle.cargo_values.specs.declared.errors.Error.{Error}
+use Rattle.cargo_values.specs.declared.errors.Error.TheVariants.{CargoMetadata, Io, Json, NoJson, OutOfMemory}
+use Rattle.cargo_meta.specs.declared.metadata.Metadata.{Metadata}
+use Rattle.pm_config.specs.declared.metadata_config.CargoMetadataConfig.{CargoMetadataConfig}
+use Rattle.pm_config.specs.declared.tool_root.ToolRoot.{ToolRoot}
+use Rattle.pm_fetch.specs.Questions.{full_question, light_question, locked_question}
+
+-- metadata, or why there is none, and beside metadata the error of the full question, if it has one
+abbrev pub Fetched : Type 0
+Fetched = Result (Metadata × Option Error) Error
+
+-- what is ready to be fetched: the full question, whether the light answer is enough, and what that answer is
+pub record Fetch : Type 0 where
+  pub full : CommandLine
+  pub no_deps : Bool
+  pub light : Result Metadata Error
+
+-- the light question is answered at once
+abbrev pub fetch_of : List ℕ → List ℕ → CargoMetadataConfig → ToolRoot → Bool → List (Question × Output) → Fetch
+fetch_of manifest dir config root no_deps answers =
+    let line = light_question manifest dir config root in
+    record {
+      full = full_question manifest dir config root;
+      no_deps = no_deps;
+      light = metadata.of_answer line (answer_of answers line);
+    }
+
+-- metadata with nothing beside it
+abbrev pub alone : Result Metadata Error → Fetched
+alone (Ok m) = Ok (m, None)
+alone (Err e) = Err e
+
+-- the light metadata stands in, with the error beside it; where there is none, the error stands alone
+abbrev pub standing_in : Result Metadata Error → Error → Fetched
+standing_in (Ok m) error = Ok (m, Some error)
+standing_in (Err e) error = Err error
+
+-- what is fetched where the full question has that output
+abbrev pub of_output : Result Metadata Error → Output → Fetched
+of_output light output =
+    if output.ok then alone (of_line (json_line output.out)) else standing_in light (CargoMetadata output.err)
+
+-- what is fetched where the full question has that answer, if it has one
+abbrev pub of_full : Result Metadata Error → CommandLine → Option Output → Fetched
+of_full light line None = Err (Io (line_text line))
+of_full light line (Some output) = of_output light output
+
+-- what is fetched
+abbrev pub fetched : Fetch → Bool → List (Question × Output) → Fetched
+fetched fetch locked answers =
+    let line = locked_question fetch.full locked in
+    if fetch.no_deps then alone fetch.light else of_full fetch.light line (answer_of answers line)
+
+-- a call answers exactly that, unless memory ran out
+abbrev pub Answers : Fetched → Fetched → Type 0
+Answers (Ok m) wanted = wanted ≡ Ok m
+Answers (Err (CargoMetadata stderr)) wanted = wanted ≡ Err (CargoMetadata stderr)
+Answers (Err (Io line)) wanted = wanted ≡ Err (Io line)
+Answers (Err (Json field)) wanted = wanted ≡ Err (Json field)
+Answers (Err NoJson) wanted = wanted ≡ Err NoJson
+Answers (Err OutOfMemory) wanted = Unit {0}

@@ -1,0 +1,4 @@
+pub mod Fetch
+pub mod Options
+pub mod Questions
+pub mod Settings

@@ -1,0 +1,187 @@
+//! Fetching metadata: the light question is asked first, the full one later, and it decides.
+
+ghost use Rattle.std.specs.Prelude.{◌≡◌, true, IfOk, OnOk};
+ghost use Rattle.outside.specs.Runner.{answer_of};
+ghost use Rattle.cargo_meta.specs.Answer.{of_answer};
+ghost use Rattle.cargo_meta.specs.Command.{command_of};
+ghost use Rattle.base_text.specs.AbsPath.{abs_text};
+ghost use Rattle.pm_fetch.specs.Fetch.{Answers, fetch_of, fetched};
+ghost use Rattle.pm_fetch.specs.Options.{full_options};
+ghost use Rattle.pm_fetch.specs.Questions.{locked_question};
+
+use crate::answers::{alone, of_output, report};
+use crate::options::{metadata_options, with_unstable};
+use crate::question::metadata_command;
+use crate::words::{line_text, push_flag};
+use base_text::{AbsPath, CommandLine, Items, Runner, Text, TryClone};
+use cargo_meta::{Error, Metadata, MetadataCommand};
+use pm_config::{CargoMetadataConfig, Progress, ToolRoot};
+use pm_packages::ManifestPath;
+use std::alloc::{AllocError, Global};
+use std::marker::Model;
+
+/// Metadata that is ready to be fetched. The light question has been asked.
+#[derive(Drop)]
+pub struct FetchMetadata {
+    full: CommandLine,
+    no_deps: bool,
+    light: Result<Metadata, Error>,
+}
+
+/// Contracts see the full question, whether the light answer is enough, and what that answer is.
+impl Model for FetchMetadata {
+    ghost use Rattle.std.specs.Coded.{codes};
+    ghost use Rattle.cargo_meta.specs.contracts.metadata.Metadata as document;
+    ghost use Rattle.pm_fetch.specs.Fetch.{Fetch};
+
+    ghost Value = { Fetch };
+
+    ghost coded = { Prim.hlevel (codes, document.the_row.coded) };
+
+    ghost view = { λ a. record { full = a.full; no_deps = a.no_deps; light = a.light } };
+}
+
+impl FetchMetadata {
+    /// Asks the light question, for the members of the workspace alone, and keeps its answer. Where
+    /// `no_deps` is set the full question is not asked later.
+    pub fn new<R: Runner>(
+        alloc: Global,
+        cargo_toml: &ManifestPath,
+        dir: AbsPath<'_>,
+        config: &CargoMetadataConfig,
+        tool_root: &ToolRoot,
+        no_deps: bool,
+        runner: &R,
+    ) -> Result<FetchMetadata, AllocError>
+        ensures { IfOk result (λ fetch. fetch ≡ fetch_of cargo_toml.now (abs_text dir.entry)
+            config.now tool_root.now no_deps (R.answers runner.now)) }
+    {
+        let mut command = metadata_command(alloc, cargo_toml, dir, config, tool_root)?;
+        let options = metadata_options(alloc, cargo_toml, config)?;
+        let full = full_line(alloc, &mut command, &options)?;
+        limit_to_members(&mut command, options);
+        let light = ask(alloc, &command, runner)?;
+        Ok(FetchMetadata {
+            full,
+            no_deps,
+            light,
+        })
+    }
+
+    /// The full question, which `exec` asks, with one word more where the lockfile is kept.
+    pub fn question(&self) -> &CommandLine
+        ensures { result.now ≡ self.now.full }
+    {
+        &self.full
+    }
+
+    /// The metadata, and beside it the error of the full question where the light answer stands in for
+    /// it. With `locked` the lockfile stays as it is. `progress` is told when the full question is
+    /// asked and answered, and what its answer reports.
+    pub fn exec<R: Runner, P: Progress>(
+        self,
+        alloc: Global,
+        locked: bool,
+        runner: &R,
+        progress: &mut P,
+    ) -> Result<(Metadata, Option<Error>), Error>
+        ensures { Answers result (fetched self locked (R.answers runner.now)) }
+    {
+        let FetchMetadata {
+            full,
+            no_deps,
+            light,
+        } = self;
+        if no_deps {
+            return alone(light);
+        }
+        let line = with_lockfile_kept(alloc, full, locked)?;
+        progress.line("cargo metadata: started");
+        let answer = runner.ask(alloc, &line)?;
+        if let Some(output) = &answer {
+            report(alloc, output, progress)?;
+        }
+        progress.line("cargo metadata: finished");
+        match answer {
+            None => Err(Error::Io {
+                line: line_text(alloc, &line)?,
+            }),
+            Some(output) => of_output(alloc, light, output),
+        }
+    }
+}
+
+impl TryClone for FetchMetadata {
+    fn try_clone(&self, alloc: Global) -> Result<Self, AllocError> {
+        let light = match &self.light {
+            Ok(metadata) => Ok(metadata.try_clone(alloc)?),
+            Err(error) => Err(error.try_clone(alloc)?),
+        };
+        Ok(FetchMetadata {
+            full: self.full.try_clone(alloc)?,
+            no_deps: self.no_deps,
+            light,
+        })
+    }
+}
+
+// The line of a command that has these options, and leave for unstable ones.
+fn full_line(
+    alloc: Global,
+    command: &mut MetadataCommand,
+    options: &Items<Text>,
+) -> Result<CommandLine, AllocError>
+    ensures line { IfOk result (λ line. line
+        ≡ command_of (record command.old { other_options = full_options options.now })) }
+    ensures options { OnOk result (command.new
+        ≡ record command.old { other_options = full_options options.now }) }
+{
+    command.other_options(with_unstable(alloc, options)?);
+    command.cargo_command(alloc)
+}
+
+// Limits the command to the members, with these options.
+fn limit_to_members(command: &mut MetadataCommand, options: Items<Text>)
+    ensures { command.new ≡ record command.old { other_options = options; no_deps = true } }
+{
+    command.other_options(options).no_deps();
+}
+
+// What a command answers.
+fn ask<R: Runner>(
+    alloc: Global,
+    command: &MetadataCommand,
+    runner: &R,
+) -> Result<Result<Metadata, Error>, AllocError>
+    ensures { IfOk result (λ answer. answer ≡ of_answer (command_of command.now)
+        (answer_of (R.answers runner.now) (command_of command.now))) }
+{
+    match command.exec(alloc, runner) {
+        Err(Error::OutOfMemory) => Err(AllocError),
+        answer => Ok(answer),
+    }
+}
+
+// The question, which keeps the lockfile as it is where that is asked for.
+fn with_lockfile_kept(
+    alloc: Global,
+    line: CommandLine,
+    locked: bool,
+) -> Result<CommandLine, AllocError>
+    ensures { IfOk result (λ kept. kept ≡ locked_question line locked) }
+{
+    let CommandLine {
+        program,
+        words,
+        dir,
+        env,
+    } = line;
+    let mut words = words.into_inner();
+    push_flag(alloc, &mut words, locked, "--locked")?;
+    Ok(CommandLine {
+        program,
+        words: Items::new(words),
+        dir,
+        env,
+    })
+}
