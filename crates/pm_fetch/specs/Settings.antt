@@ -1,8 +1,7 @@
 -- What is set of the command that asks for metadata, before its options are.
-use Rattle.std.specs.Prelude.{ℕ, Bool, false, List, [], Some}
+use Rattle.std.specs.Prelude.{ℕ, false, List, [], Some}
 use Rattle.cargo_meta.specs.Command.{Settings}
 use Rattle.pm_config.specs.Tools.{tool_command}
-use Rattle.pm_config.specs.declared.features.CargoFeatures.{CargoFeatures}
 use Rattle.pm_config.specs.declared.metadata_config.CargoMetadataConfig.{CargoMetadataConfig}
 use Rattle.pm_config.specs.declared.tool.Tool.TheVariants.{Cargo}
 use Rattle.pm_config.specs.declared.tool_root.ToolRoot.{ToolRoot}
