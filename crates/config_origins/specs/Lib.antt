@@ -1,0 +1,4 @@
+pub mod Line
+pub mod Quotes
+pub mod Reader
+pub mod Statements
