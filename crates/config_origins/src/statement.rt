@@ -12,7 +12,7 @@ use std::alloc::{AllocError, Global};
 
 /// A statement: keys, the directory that the value is relative to, and those of the items where
 /// the value is a list with an item a line.
-#[derive(Debug, Drop, PartialEq, Eq)]
+#[derive(Debug, Drop)]
 pub struct Statement {
     pub keys: Items<Text>,
     pub root: Option<AbsPathBuf>,

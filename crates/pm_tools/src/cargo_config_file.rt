@@ -13,7 +13,7 @@ use std::marker::Model;
 use toml::{Table, Value};
 
 /// A printed configuration. The text may be one that TOML refuses, which has no values.
-#[derive(Debug, Drop, PartialEq, Eq)]
+#[derive(Debug, Drop)]
 pub struct CargoConfigFile {
     text: Text,
 }

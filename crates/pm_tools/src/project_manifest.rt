@@ -7,6 +7,7 @@ ghost use Rattle.pm_tools.specs.Manifest.{has_name, is_project_json, manifest_of
 use base_text::{AbsPath, AbsPathBuf, TryClone};
 use pm_packages::ManifestPath;
 use std::alloc::{AllocError, Global};
+use std::fmt;
 
 /// The manifest of a project. The kinds are ordered as they are searched for.
 #[derive(Debug, Drop, PartialEq, Eq, PartialOrd, Ord, Hash)]
@@ -99,5 +100,17 @@ impl TryClone for BadManifest {
     fn try_clone(&self, alloc: Global) -> Result<Self, AllocError> {
         let path = self.path.try_clone(alloc)?;
         Ok(BadManifest { path })
+    }
+}
+
+/// Prints the path.
+impl fmt::Display for ProjectManifest {
+    ghost use Rattle.std.specs.Prelude.{Some};
+    ghost use Rattle.pm_tools.specs.Manifest.{manifest_path};
+
+    ghost output = { λ manifest. Some (manifest_path manifest) };
+
+    fn fmt<W: fmt::Write>(&self, f: &mut fmt::Formatter<W>) -> fmt::Result {
+        self.manifest_path().fmt(f)
     }
 }
