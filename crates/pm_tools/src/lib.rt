@@ -2,6 +2,7 @@
 #![tactic(auto)]
 
 pub mod cargo_config_file;
+pub mod laws;
 pub mod project_manifest;
 
 pub use cargo_config_file::CargoConfigFile;
