@@ -1,0 +1,9 @@
+//! The lines of a source of bytes, one by one, of which none is held that is longer than a bound.
+#![tactic(auto)]
+
+pub mod laws;
+pub mod lines;
+mod part;
+mod piece;
+
+pub use lines::{BoundedLines, Line, LineError};

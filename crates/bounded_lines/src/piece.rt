@@ -1,0 +1,132 @@
+//! The bytes of one read, which are looked at line by line.
+
+ghost use Rattle.std.specs.Prelude.{◌≡◌, ◌≤◌, ◌<◌, [], length, take, IfErr, IfOk, OnErr, OnOk, MatchOption, false};
+ghost use Rattle.std.specs.Io.KnownBytes.{Consumes, IsAtEnd};
+ghost use Rattle.outside.specs.Causes.{HasCause};
+ghost use Rattle.bounded_lines.specs.Lines.{has_newline};
+ghost use Rattle.bounded_lines.specs.Pieces.{HasCauseOf, IsFirstNewline, Moves, Reads};
+
+use crate::lines::LineError;
+use crate::part::LinePart;
+use outside::{ByteSource, Failed};
+use std::alloc::{AllocError, Global};
+use std::marker::Model;
+
+/// How many bytes one read asks for at most.
+const PIECE: usize = 65536;
+
+/// What a read gave and was not looked at yet, seen as these bytes.
+#[derive(Drop)]
+pub(crate) struct Piece {
+    bytes: Vec<u8>,
+    start: usize,
+    end: usize,
+}
+
+impl Model for Piece {
+    ghost use Rattle.std.specs.Prelude.{ℕ, ◌≤◌, List, length, slice_range};
+
+    ghost Value = { List ℕ };
+
+    ghost view = { λ p. slice_range p.bytes.items p.start p.end };
+
+    ghost invariant = { λ p. (p.start ≤ p.end) × ((p.end ≤ length p.bytes.items)
+        × (length p.bytes.items ≤ 65536)) };
+}
+
+impl Piece {
+    /// A piece of nothing, which holds no memory.
+    pub(crate) fn new(alloc: Global) -> Self
+        ensures { result ≡ [] }
+    {
+        Piece {
+            bytes: Vec::new(alloc),
+            start: 0,
+            end: 0,
+        }
+    }
+
+    /// Moves the bytes up to the first newline to a line, and answers whether there is one. The newline
+    /// is passed over.
+    pub(crate) fn move_line(&mut self, line: &mut LinePart) -> Result<bool, AllocError>
+        ensures ok { IfOk result (λ found. Moves found self.old self.new line.old line.new) }
+        ensures err { OnErr result ((self.new ≡ self.old) × (line.new ≡ line.old)) }
+    {
+        let rest = &self.bytes[self.start..self.end];
+        match newline_at(rest) {
+            Some(at) => {
+                line.extend(&rest[..at])?;
+                self.start += at + 1;
+                Ok(true)
+            }
+            None => {
+                line.extend(rest)?;
+                self.start = self.end;
+                Ok(false)
+            }
+        }
+    }
+
+    /// Reads the next piece in place of this one, and answers how much was read.
+    pub(crate) fn read<S: ByteSource>(
+        &mut self,
+        alloc: Global,
+        input: &mut S,
+        room: u64,
+    ) -> Result<u64, LineError>
+        requires some { 0 < room }
+        ensures ok { IfOk result (λ count.
+            Reads room count (S.left input.old) (S.left input.new) self.new) }
+        ensures kept { OnErr result ((self.new ≡ [])
+            × Consumes (S.left input.old) (S.left input.new) []) }
+        ensures cause { IfErr result (λ e.
+            HasCauseOf e (S.faults input.old) (S.faults input.new)) }
+        ensures faults { S.faults input.old ≤ S.faults input.new }
+    {
+        self.start = 0;
+        self.end = 0;
+        make_buffer(alloc, &mut self.bytes)?;
+        self.end = read_some(input, &mut self.bytes, room)?;
+        Ok(self.end as u64)
+    }
+}
+
+// Makes the buffer of a piece, where there is none yet.
+fn make_buffer(alloc: Global, bytes: &mut Vec<u8>) -> Result<(), AllocError>
+    requires { length bytes.old.items ≤ 65536 }
+    ensures some { OnOk result (0 < length bytes.new.items) }
+    ensures few { length bytes.new.items ≤ 65536 }
+{
+    if bytes.is_empty() {
+        *bytes = vec![in alloc; 0u8; PIECE]?;
+    }
+    Ok(())
+}
+
+// Reads at most as many bytes as there is room for, into a buffer that is there.
+fn read_some<S: ByteSource>(input: &mut S, buffer: &mut [u8], room: u64) -> Result<usize, Failed>
+    requires some { 0 < length buffer.old }
+    requires room { 0 < room }
+    ensures read { IfOk result (λ count.
+        Consumes (S.left input.old) (S.left input.new) (take count buffer.new)) }
+    ensures most { IfOk result (λ count. (count ≤ room) × (count ≤ length buffer.new)) }
+    ensures end { IfOk result (λ count. count ≡ 0 → IsAtEnd (S.left input.new)) }
+    ensures kept { OnErr result (Consumes (S.left input.old) (S.left input.new) []) }
+    ensures cause { HasCause (S.faults input.old) (S.faults input.new) result }
+{
+    let most = room.min(buffer.len() as u64) as usize;
+    input.read(&mut buffer[..most])
+}
+
+// The place of the first newline.
+fn newline_at(bytes: &[u8]) -> Option<usize>
+    ensures { MatchOption result (has_newline bytes.now ≡ false)
+        (λ at. IsFirstNewline bytes.now at) }
+{
+    for (at, byte) in bytes.iter().enumerate() {
+        if *byte == b'\n' {
+            return Some(at);
+        }
+    }
+    None
+}
