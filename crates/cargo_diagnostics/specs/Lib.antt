@@ -1,0 +1,5 @@
+pub mod Levels
+pub mod Span
+pub mod Diagnostic
+pub mod Printed
+pub mod laws
