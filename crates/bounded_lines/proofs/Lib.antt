@@ -1,4 +1,4 @@
 mod Cuts
 mod Parts
 mod Gaves
-mod Wholes
+pub mod Wholes

@@ -1,0 +1,6 @@
+pub mod Debuginfo
+pub mod Artifact
+pub mod Build
+pub mod Messages
+pub mod Stream
+pub mod laws

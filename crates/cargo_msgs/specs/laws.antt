@@ -1,0 +1,5 @@
+-- the laws of the tables: what is read of a document is read again from what is written of it
+pub mod Debuginfo
+pub mod Artifact
+pub mod Build
+pub mod Messages
