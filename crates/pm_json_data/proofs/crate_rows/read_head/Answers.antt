@@ -1,0 +1,19 @@
+use Rattle.std.proofs.Common.{refl}
+use Rattle.pm_json_data.proofs.Steps.{read_on, read_rows}
+use Rattle.pm_json_data.specs.CrateData.{head_from}
+use Rattle.pm_json_data.proofs.crate_rows.read_head.Goals as goal
+
+pub returns : goal.returns
+unfolding head_from
+returns c = record {
+  exact = read_rows _ _
+      (read_on _ c.in_ok-display_name.ensures.exact
+      (read_on _ c.in_ok-root_module.ensures.exact
+      (read_on _ c.in_ok-edition.ensures.exact
+      (read_on _ c.in_ok-version.ensures.exact
+      (read_on _ c.in_ok-deps.ensures.exact
+      (read_on _ c.in_ok-cfg_groups.ensures.exact
+      (read_on _ c.in_ok-cfg.ensures.exact
+      (read_on _ c.in_ok-target.ensures.exact
+      (record { is = refl })))))))));
+}

@@ -1,0 +1,140 @@
+//! The table of a crate in two groups of rows: the first eight, and the nine after them.
+
+ghost use Rattle.std.specs.Prelude.{◌≡◌, OnOk};
+ghost use Rattle.serde_json.specs.View.{members_view};
+ghost use Rattle.json_fields.specs.Outcome.{Gives};
+ghost use Rattle.pm_json_data.specs.CrateData.{head_from, head_of, head_set, tail_from, tail_set};
+
+use crate::crate_data::CrateData;
+use crate::dep::Dep;
+use crate::kinds::EditionData;
+use base_text::{CfgAtom, Items, Text, Version};
+use json_fields::{ReadError, defaulted, listed, mapped, optional, required, set};
+use serde_json::{Map, Value};
+use std::alloc::{AllocError, Global};
+
+// What the first eight rows of a crate give.
+#[derive(Drop)]
+pub(crate) struct CrateHead {
+    display_name: Option<Text>,
+    root_module: Text,
+    edition: EditionData,
+    version: Option<Version>,
+    deps: Items<Dep>,
+    cfg_groups: Items<Text>,
+    cfg: Items<CfgAtom>,
+    target: Option<Text>,
+}
+
+#[tactic(auto, unfolding(crate::specs::CrateData::head_from, json_fields::specs::Fields::required, json_fields::specs::Fields::optional, json_fields::specs::Fields::defaulted))]
+pub(crate) fn read_head(alloc: Global, fields: &Map<String, Value>) -> Result<CrateHead, ReadError>
+    ensures exact { Gives result (head_from (members_view fields.now.entries)) }
+{
+    let display_name = optional(alloc, fields, "display_name")?;
+    let root_module = required(alloc, fields, "root_module")?;
+    let edition = required(alloc, fields, "edition")?;
+    let version = optional(alloc, fields, "version")?;
+    let deps = required(alloc, fields, "deps")?;
+    let cfg_groups = listed(alloc, fields, "cfg_groups")?;
+    let cfg = listed(alloc, fields, "cfg")?;
+    let target = optional(alloc, fields, "target")?;
+    Ok(CrateHead {
+        display_name,
+        root_module,
+        edition,
+        version,
+        deps,
+        cfg_groups,
+        cfg,
+        target,
+    })
+}
+
+#[tactic(auto, unfolding(crate::specs::CrateData::tail_from, json_fields::specs::Fields::required, json_fields::specs::Fields::optional, json_fields::specs::Fields::defaulted))]
+pub(crate) fn read_tail(
+    alloc: Global,
+    fields: &Map<String, Value>,
+    head: CrateHead,
+) -> Result<CrateData, ReadError>
+    ensures exact { Gives result (tail_from head (members_view fields.now.entries)) }
+{
+    let env = mapped(alloc, fields, "env")?;
+    let crate_attrs = listed(alloc, fields, "crate_attrs")?;
+    let proc_macro_dylib_path = optional(alloc, fields, "proc_macro_dylib_path")?;
+    let is_workspace_member = optional(alloc, fields, "is_workspace_member")?;
+    let source = optional(alloc, fields, "source")?;
+    let is_proc_macro = defaulted(alloc, fields, "is_proc_macro", false)?;
+    let repository = optional(alloc, fields, "repository")?;
+    let build = optional(alloc, fields, "build")?;
+    let proc_macro_cwd = optional(alloc, fields, "proc_macro_cwd")?;
+    Ok(CrateData {
+        display_name: head.display_name,
+        root_module: head.root_module,
+        edition: head.edition,
+        version: head.version,
+        deps: head.deps,
+        cfg_groups: head.cfg_groups,
+        cfg: head.cfg,
+        target: head.target,
+        env,
+        crate_attrs,
+        proc_macro_dylib_path,
+        is_workspace_member,
+        source,
+        is_proc_macro,
+        repository,
+        build,
+        proc_macro_cwd,
+    })
+}
+
+#[tactic(auto, unfolding(crate::specs::CrateData::head_set))]
+pub(crate) fn set_head(
+    alloc: Global,
+    fields: &mut Map<String, Value>,
+    from: &CrateData,
+) -> Result<(), AllocError>
+    ensures { OnOk result (members_view fields.new.entries
+        ≡ head_set (head_of from.now) (members_view fields.old.entries)) }
+{
+    set(alloc, fields, "display_name", &from.display_name)?;
+    set(alloc, fields, "root_module", &from.root_module)?;
+    set(alloc, fields, "edition", &from.edition)?;
+    set(alloc, fields, "version", &from.version)?;
+    set(alloc, fields, "deps", &from.deps)?;
+    set(alloc, fields, "cfg_groups", &from.cfg_groups)?;
+    set(alloc, fields, "cfg", &from.cfg)?;
+    set(alloc, fields, "target", &from.target)?;
+    Ok(())
+}
+
+#[tactic(auto, unfolding(crate::specs::CrateData::tail_set))]
+pub(crate) fn set_tail(
+    alloc: Global,
+    fields: &mut Map<String, Value>,
+    from: &CrateData,
+) -> Result<(), AllocError>
+    ensures { OnOk result (members_view fields.new.entries
+        ≡ tail_set from.now (members_view fields.old.entries)) }
+{
+    set(alloc, fields, "env", &from.env)?;
+    set(alloc, fields, "crate_attrs", &from.crate_attrs)?;
+    set(
+        alloc,
+        fields,
+        "proc_macro_dylib_path",
+        &from.proc_macro_dylib_path,
+    )?;
+    set(
+        alloc,
+        fields,
+        "is_workspace_member",
+        &from.is_workspace_member,
+    )?;
+    set(alloc, fields, "source", &from.source)?;
+    set(alloc, fields, "is_proc_macro", &from.is_proc_macro)?;
+    set(alloc, fields, "repository", &from.repository)?;
+    set(alloc, fields, "build", &from.build)?;
+    set(alloc, fields, "proc_macro_cwd", &from.proc_macro_cwd)?;
+    Ok(())
+}
