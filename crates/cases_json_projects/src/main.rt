@@ -1,0 +1,25 @@
+//! Cases of pm_json_data: documents of JSON projects.
+#![tactic(auto)]
+
+mod documents;
+
+use cases::{Case, Family, Fault, run_files};
+use serde_json::Value;
+use std::io;
+use std::process::ExitCode;
+
+/// The calls of pm_json_data.
+struct ProjectFamily;
+
+impl<R: AllocGlobal> Family<R> for ProjectFamily {
+    fn answer(rt: &R, file: &str, case: Case<'_>) -> Result<Value, Fault> {
+        match file {
+            "documents.jsonl" => documents::answer(rt.alloc(), case),
+            _ => Err(Fault::Kind),
+        }
+    }
+}
+
+fn main(rt: HostRuntime) -> io::Result<ExitCode> {
+    run_files::<ProjectFamily, HostRuntime>(&rt)
+}
