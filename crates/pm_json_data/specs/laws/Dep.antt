@@ -1,7 +1,7 @@
 -- what is read of a dependency's document is read again from what is written of it
 use Rattle.std.specs.Prelude.{◌≡◌, ◌≤◌, ℕ, max, List, codes, IfOk, Ok, refl}
 use Rattle.std.proofs.Common.{arith, Bool, true, false, cond, [], Err}
-use Rattle.serde_json.specs.Data.{members_depth, string}
+use Rattle.serde_json.specs.Data.{members_depth}
 use Rattle.crate_values.specs.Names.{has_dash}
 use Rattle.json_fields.specs.Fields.{required}
 use Rattle.json_fields.specs.Laws.RoundTrips.{AreWithin, and_then, at_last, no_members-written, number-round_trips, required-kept, set_member-written, table-round_trips}

@@ -6,7 +6,7 @@ use Rattle.serde_json.specs.Read.{max_depth}
 use Rattle.serde_json.specs.Written.{has_float, members_have_float}
 use Rattle.base_text.specs.declared.cfg.CfgAtom.{CfgAtom}
 use Rattle.json_fields.specs.Cfg.{cfg_data}
-use Rattle.json_fields.specs.Fields.{defaulted, list_at, optional, required, text_at}
+use Rattle.json_fields.specs.Fields.{defaulted, list_at, optional, required}
 use Rattle.json_fields.specs.Laws.Cfgs.{cfg-round_trips}
 use Rattle.json_fields.specs.Laws.Nested.{nested-round_trips}
 use Rattle.json_fields.specs.Laws.RoundTrips.{AreWithin, and_then, at_last, list-round_trips, listed-kept, mapped-kept, no_members-written, optional-kept, required-kept, set_member-written, table-round_trips, text-round_trips}
@@ -15,7 +15,7 @@ use Rattle.json_fields.specs.RoundTrip.{IsKept, RoundTrips}
 use Rattle.json_fields.specs.Written.{is_null, list_data, map_data, option_data, set_member}
 use Rattle.pm_json_data.specs.ProjectJsonData.{project_at, project_data, project_level, project_row}
 use Rattle.pm_json_data.specs.CrateData.{crate_at, crate_data}
-use Rattle.pm_json_data.specs.Parts.{runnable_at, runnable_data}
+use Rattle.pm_json_data.specs.Parts.{runnable_data}
 use Rattle.pm_json_data.specs.laws.CrateData.{crate-round_trips}
 use Rattle.pm_json_data.specs.laws.Parts.{runnable-round_trips}
 use Rattle.pm_json_data.specs.declared.crate_data.CrateData.{CrateData}
