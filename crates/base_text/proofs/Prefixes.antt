@@ -46,13 +46,14 @@ rest_of_row (name ∷ front) (next ∷ whole) rest h k a e =
     (ap (λ n. n ∷ whole) tails.0 ∙ ap (λ names. name ∷ names) more.0, more.1)
 
 -- the test of a prefix, as the equation that it stands for
-is_prefix_from : (front whole : List (List ℕ)) → whole ≡ front ++ drop (length front) whole → is_prefix front whole ≡ true
+pub is_prefix_from : (front whole : List (List ℕ)) → whole ≡ front ++ drop (length front) whole → is_prefix front whole ≡ true
 unfolding is_prefix
 is_prefix_from front whole e =
     (pointwise_decides bytes_decides front (take (length front) whole)).1
     (sym (ap (take (length front)) e ∙ take-append_seam front (drop (length front) whole)))
 
-is_prefix_parts : (front whole : List (List ℕ)) → is_prefix front whole ≡ true → whole ≡ front ++ drop (length front) whole
+-- a prefix with what follows it is the whole
+pub is_prefix_parts : (front whole : List (List ℕ)) → is_prefix front whole ≡ true → whole ≡ front ++ drop (length front) whole
 unfolding is_prefix
 is_prefix_parts front whole e =
     sym (ap (λ names. names ++ drop (length front) whole) ((pointwise_decides bytes_decides front (take (length front) whole)).0 e)
