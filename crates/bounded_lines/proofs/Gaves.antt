@@ -6,7 +6,7 @@ use Rattle.std.proofs.KnownBytes.{Consumes-trans}
 use Rattle.std.proofs.lemmas.List.{map-append}
 use Rattle.std.proofs.lemmas.List.Folds.{list_any-append}
 use Rattle.bounded_lines.specs.Lines.{newline, has_newline, whole_lines, partial_line, lines_of, last_line}
-use Rattle.bounded_lines.specs.Part.{IsHeld, Part, bytes_of, item_of, last_item_of, nothing}
+use Rattle.bounded_lines.specs.Part.{IsHeld, Part, bytes_of, item_of, last_item_of, no_part}
 use Rattle.bounded_lines.specs.Pieces.{Moves, Reads, rest_of}
 use Rattle.bounded_lines.specs.Reader.{Reader, Gave, HoldsFew, IsCut, Tells, lines_after}
 use Rattle.bounded_lines.specs.declared.lines.Line.{Line}
@@ -134,7 +134,7 @@ module _ (first left : Option (List ℕ)) (given : List (Option (List ℕ))) (pa
 
     -- a line was found and is given
     pub Gave-line : Moves true piece piece' part part' → (item : Option (List ℕ)) → ((line : List ℕ) → IsHeld line part' → item ≡ item_of part'.max_line line)
-        → Gave first left (given ++ item ∷ []) (reader (nothing part'.max_line) piece' room done)
+        → Gave first left (given ++ item ∷ []) (reader (no_part part'.max_line) piece' room done)
     Gave-line moves item gives =
         let line' = gave.line ++ moves.part in
         let front' = gave.front ++ (line' ++ newline ∷ []) in
@@ -175,7 +175,7 @@ module _ (first left : Option (List ℕ)) (given : List (Option (List ℕ))) (pa
 
     -- the end was told: what is held is the last line, where it is not empty
     pub Gave-end : count ≡ 0 → (last : Option (Option (List ℕ))) → ((line : List ℕ) → IsHeld line part → last ≡ last_item_of part.max_line line)
-        → Gave first left' (given ++ listed last) (reader (nothing part.max_line) piece' room true)
+        → Gave first left' (given ++ listed last) (reader (no_part part.max_line) piece' room true)
     Gave-end none last gives =
         let no_piece : piece' ≡ [] = nothing_of piece' (reads.many ∙ none) in
         let front' = gave.front ++ gave.line in

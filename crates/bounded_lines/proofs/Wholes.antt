@@ -6,7 +6,7 @@ use Rattle.std.proofs.KnownBytes.{Consumes-nil}
 use Rattle.outside.specs.Source.{Knows-after, Knows-all}
 use Rattle.bounded_lines.specs.Lines.{last_line, lines_of, partial_line, whole_lines}
 use Rattle.bounded_lines.specs.Part.{item_of}
-use Rattle.bounded_lines.specs.Reader.{Gave, IsCut, IsFrontOf, Reader, fresh}
+use Rattle.bounded_lines.specs.Reader.{Gave, IsCut, IsFrontOf, Reader, new_reader}
 use Rattle.bounded_lines.proofs.Cuts.{partial_line-nil, whole_lines-append}
 use Rattle.bounded_lines.proofs.Gaves.{lines_of-whole}
 
@@ -15,7 +15,7 @@ unfolding lines_of whole_lines partial_line
 lines_of-nil = refl
 
 -- nothing was given before the first read
-pub Gave-fresh : (max : ℕ) (left : Option (List ℕ)) → Gave left left [] (fresh max)
+pub Gave-fresh : (max : ℕ) (left : Option (List ℕ)) → Gave left left [] (new_reader max)
 Gave-fresh max left = record {
   front = [];
   line = [];

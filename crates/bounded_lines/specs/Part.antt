@@ -10,8 +10,8 @@ pub record Part : Type 0 where
   pub is_long : Bool
 
 -- nothing of a line
-abbrev pub nothing : ℕ → Part
-nothing max = record { bytes = []; max_line = max; is_long = false }
+abbrev pub no_part : ℕ → Part
+no_part max = record { bytes = []; max_line = max; is_long = false }
 
 -- all of a line is held, or it is longer than the bound and nothing is
 abbrev pub IsHeldAs : Bool → List ℕ → Part → Type 0

@@ -6,7 +6,7 @@ use Rattle.bounded_lines.specs.declared.lines.Line.{Line}
 use Rattle.bounded_lines.specs.declared.lines.LineError.{LineError}
 use Rattle.bounded_lines.specs.declared.lines.LineError.TheVariants.{ReadFault, OutOfMemory}
 use Rattle.bounded_lines.specs.Lines.{has_newline, lines_of, partial_line}
-use Rattle.bounded_lines.specs.Part.{IsHeld, Part, bytes_of, item_of, nothing}
+use Rattle.bounded_lines.specs.Part.{IsHeld, Part, bytes_of, item_of, no_part}
 
 -- what is held of the line that is read, the bytes behind it that were read and not looked at, how many more may be read, and
 -- whether the source told its end
@@ -17,8 +17,8 @@ pub record Reader : Type 0 where
   pub is_done : Bool
 
 -- nothing was read yet
-abbrev pub fresh : ℕ → Reader
-fresh max = record { part = nothing max; piece = []; room = 2 ^ 64 - 1; is_done = false }
+abbrev pub new_reader : ℕ → Reader
+new_reader max = record { part = no_part max; piece = []; room = 2 ^ 64 - 1; is_done = false }
 
 -- the lines that were given end in a newline each, or nothing follows them
 abbrev pub IsCut : Bool → List ℕ → List ℕ → Option (List ℕ) → Type 0

@@ -3,12 +3,12 @@
 ghost use Rattle.std.specs.Prelude.{◌≡◌, ℕ, List, [], Option, Some, IsTrue, map};
 ghost use Rattle.bounded_lines.specs.Lines.{lines_of};
 ghost use Rattle.bounded_lines.specs.Part.{item_of};
-ghost use Rattle.bounded_lines.specs.Reader.{Gave, IsFrontOf, Reader, fresh};
+ghost use Rattle.bounded_lines.specs.Reader.{Gave, IsFrontOf, Reader, new_reader};
 
 /// What a reader gives of a source is the front of the source's lines, and at the end it is all of them,
 /// however the reads cut them.
 pub fn readers_give_the_lines()
-    ensures at_first { (max : ℕ) (left : Option (List ℕ)) → Gave left left [] (fresh max) }
+    ensures at_first { (max : ℕ) (left : Option (List ℕ)) → Gave left left [] (new_reader max) }
     ensures front { (bytes : List ℕ) (left : Option (List ℕ)) (given : List (Option (List ℕ)))
         (reader : Reader) → Gave (Some bytes) left given reader
         → IsFrontOf given (map (item_of reader.part.max_line) (lines_of bytes)) }

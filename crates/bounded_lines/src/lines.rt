@@ -75,11 +75,11 @@ impl Model for BoundedLines {
 
 impl BoundedLines {
     ghost use Rattle.bounded_lines.specs.Lines.{has_newline};
-    ghost use Rattle.bounded_lines.specs.Reader.{Gave, HoldsFew, Tells, fresh, lines_after};
+    ghost use Rattle.bounded_lines.specs.Reader.{Gave, HoldsFew, Tells, lines_after, new_reader};
 
     /// A reader that takes nothing yet, of lines of at most so many bytes.
     pub fn new(alloc: Global, max_line: usize) -> Self
-        ensures { result ≡ fresh max_line }
+        ensures { result ≡ new_reader max_line }
     {
         BoundedLines {
             part: LinePart::new(alloc, max_line),

@@ -1,7 +1,7 @@
 //! The part of a line that was read so far, as long as it is within the bound.
 
 ghost use Rattle.std.specs.Prelude.{◌≡◌, ◌≤◌, ◌++◌, ℕ, List, OnErr, OnOk, length, option_map};
-ghost use Rattle.bounded_lines.specs.Part.{IsHeld, bytes_of, item_of, last_item_of, nothing};
+ghost use Rattle.bounded_lines.specs.Part.{IsHeld, bytes_of, item_of, last_item_of, no_part};
 
 use crate::lines::Line;
 use base_values::Items;
@@ -35,7 +35,7 @@ impl Model for LinePart {
 impl LinePart {
     /// Nothing of a line, which holds no memory.
     pub(crate) fn new(alloc: Global, max_line: usize) -> Self
-        ensures { result ≡ nothing max_line }
+        ensures { result ≡ no_part max_line }
     {
         LinePart {
             bytes: Vec::new(alloc),
@@ -64,7 +64,7 @@ impl LinePart {
     pub(crate) fn finish(&mut self, alloc: Global) -> Line
         ensures line { (part : List ℕ) → IsHeld part self.old
             → bytes_of result ≡ item_of self.old.max_line part }
-        ensures next { self.new ≡ nothing self.old.max_line }
+        ensures next { self.new ≡ no_part self.old.max_line }
     {
         let bytes = mem::replace(&mut self.bytes, Vec::new(alloc));
         if self.is_long {
@@ -78,7 +78,7 @@ impl LinePart {
     pub(crate) fn finish_last(&mut self, alloc: Global) -> Option<Line>
         ensures line { (part : List ℕ) → IsHeld part self.old
             → option_map bytes_of result ≡ last_item_of self.old.max_line part }
-        ensures next { self.new ≡ nothing self.old.max_line }
+        ensures next { self.new ≡ no_part self.old.max_line }
     {
         if !self.is_long && self.bytes.is_empty() {
             return None;

@@ -9,5 +9,5 @@ rendered_or_not None = codes "cargo didn't render this message"
 rendered_or_not (Some text) = text
 
 -- the text of a diagnostic
-abbrev pub printed : Diagnostic → List ℕ
-printed d = rendered_or_not (out-Diagnostic d).rendered
+abbrev pub printed_text : Diagnostic → List ℕ
+printed_text d = rendered_or_not (out-Diagnostic d).rendered

@@ -5,9 +5,9 @@ use std::fmt;
 
 impl fmt::Display for Diagnostic {
     ghost use Rattle.std.specs.Prelude.{Some};
-    ghost use Rattle.cargo_diagnostics.specs.Printed.{printed};
+    ghost use Rattle.cargo_diagnostics.specs.Printed.{printed_text};
 
-    ghost output = { λ diagnostic. Some (printed diagnostic) };
+    ghost output = { λ diagnostic. Some (printed_text diagnostic) };
 
     fn fmt<W: fmt::Write>(&self, f: &mut fmt::Formatter<W>) -> fmt::Result {
         match &self.rendered {

@@ -7,14 +7,14 @@ use Rattle.std.specs.Prelude.{if◌then◌else◌}
 use Rattle.std.specs.Str.{IsUtf8, is_utf8}
 use Rattle.bounded_lines.specs.Lines.{lines_of}
 use Rattle.bounded_lines.specs.Part as lines
-use Rattle.bounded_lines.specs.Reader.{Gave, IsFrontOf, Reader, fresh}
+use Rattle.bounded_lines.specs.Reader.{Gave, IsFrontOf, Reader, new_reader}
 use Rattle.bounded_lines.proofs.Wholes.{Gave-all, Gave-fresh, Gave-front}
 use Rattle.cargo_msgs.specs.Messages.{message_of}
 use Rattle.cargo_msgs.specs.Stream.{GaveMessages, GivesItem, Item, Stream, Tells, is_fatal, item_of_bytes, item_of_line, item_of_read, items_after}
 use Rattle.cargo_msgs.specs.declared.message_iter.ItemFault.TheVariants.{NotUtf8, TooLong, ReadFault, OutOfMemory}
 
 -- nothing was given before the first read
-pub GaveMessages-fresh : (max : ℕ) (left : Option (List ℕ)) → GaveMessages left left [] (fresh max)
+pub GaveMessages-fresh : (max : ℕ) (left : Option (List ℕ)) → GaveMessages left left [] (new_reader max)
 GaveMessages-fresh max left = record { lines = []; gave = Gave-fresh max left; items = refl }
 
 module _ (bytes : List ℕ) (left : Option (List ℕ)) (given : List Item) (reader : Reader) (gave : GaveMessages (Some bytes) left given reader) where

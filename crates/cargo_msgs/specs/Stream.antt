@@ -3,7 +3,7 @@ use Rattle.std.specs.Prelude.{◌≡◌, if◌then◌else◌, ℕ, ◌⊎◌, Bo
 use Rattle.std.specs.Str.{is_utf8}
 use Rattle.outside.specs.Causes.{Rose}
 use Rattle.bounded_lines.specs.Part as lines
-use Rattle.bounded_lines.specs.Reader.{Gave, IsSpent, Reader, fresh}
+use Rattle.bounded_lines.specs.Reader.{Gave, IsSpent, Reader, new_reader}
 use Rattle.cargo_msgs.specs.Messages.{message_of}
 use Rattle.cargo_msgs.specs.declared.message_iter.ItemFault.{ItemFault}
 use Rattle.cargo_msgs.specs.declared.message_iter.ItemFault.TheVariants.{NotUtf8, TooLong, ReadFault, OutOfMemory}
@@ -33,8 +33,8 @@ pub record Stream (S : Type 0) : Type 0 where
   pub has_failed : Bool
 
 -- a stream of which nothing was read
-abbrev pub started : {S : Type 0} → S → ℕ → Stream S
-started input max = record { input = input; lines = fresh max; has_failed = false }
+abbrev pub new_stream : {S : Type 0} → S → ℕ → Stream S
+new_stream input max = record { input = input; lines = new_reader max; has_failed = false }
 
 -- these are the items of the lines that a reader gave of a source
 pub record GaveMessages (first left : Option (List ℕ)) (given : List Item) (reader : Reader) : Type 0 where

@@ -1,7 +1,7 @@
 //! The messages of a stream, one for each of its lines.
 
 ghost use Rattle.std.specs.Prelude.{◌≡◌, ◌≤◌, false, ℕ, List, Option, None, IfOk, IsTrue};
-ghost use Rattle.cargo_msgs.specs.Stream.{GaveMessages, GivesItem, Item, Tells, is_fatal, item_of_bytes, items_after, started};
+ghost use Rattle.cargo_msgs.specs.Stream.{GaveMessages, GivesItem, Item, Tells, is_fatal, item_of_bytes, items_after, new_stream};
 
 use crate::messages::Message;
 use base_text::ByteSource;
@@ -51,7 +51,7 @@ impl Message {
         input: S,
         max_line: usize,
     ) -> Result<MessageIter<S>, AllocError>
-        ensures { IfOk result (λ messages. messages ≡ started input max_line) }
+        ensures { IfOk result (λ messages. messages ≡ new_stream input max_line) }
     {
         Ok(MessageIter {
             alloc,

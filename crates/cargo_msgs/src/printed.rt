@@ -6,9 +6,9 @@ use std::{error, fmt};
 
 impl fmt::Display for CompilerMessage {
     ghost use Rattle.std.specs.Prelude.{Some};
-    ghost use Rattle.cargo_diagnostics.specs.Printed.{printed};
+    ghost use Rattle.cargo_diagnostics.specs.Printed.{printed_text};
 
-    ghost output = { λ m. Some (printed m.message) };
+    ghost output = { λ m. Some (printed_text m.message) };
 
     fn fmt<W: fmt::Write>(&self, f: &mut fmt::Formatter<W>) -> fmt::Result {
         write!(f, "{}", self.message)

@@ -10,9 +10,9 @@ use Rattle.config_origins.specs.Quotes.{parts_outside}
 use Rattle.config_origins.specs.Statements.{items_in, root_in, statements, statements_behind}
 
 -- the statements that a reader gives of the lines that are left: what it holds of an open list is completed by them
-abbrev pub continued : Option OpenList → List (List ℕ) → List Statement
-continued None lines = statements lines
-continued (Some list) lines =
+abbrev pub statements_left : Option OpenList → List (List ℕ) → List Statement
+statements_left None lines = statements lines
+statements_left (Some list) lines =
     record { keys = list.keys; root = root_in lines; items = list.items.items ++ items_in lines } ∷ statements_behind lines
 
 -- the parts of the text that is left, where there is one

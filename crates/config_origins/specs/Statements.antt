@@ -67,27 +67,27 @@ root_in [] = None
 root_in (line ∷ lines) = root_by (item_form line) (root_in lines)
 
 -- what a line states, before the statements of the lines behind it: `next` where it opens no list, and `behind` where it opens one
-abbrev pub stated : Form → List (List ℕ) → List Statement → List Statement → List Statement
-stated (Value keys root) lines next behind = record { keys = keys; root = root; items = [] } ∷ next
-stated (Opens keys) lines next behind = record { keys = keys; root = root_in lines; items = items_in lines } ∷ behind
-stated Other lines next behind = next
+abbrev pub statements_of_form : Form → List (List ℕ) → List Statement → List Statement → List Statement
+statements_of_form (Value keys root) lines next behind = record { keys = keys; root = root; items = [] } ∷ next
+statements_of_form (Opens keys) lines next behind = record { keys = keys; root = root_in lines; items = items_in lines } ∷ behind
+statements_of_form Other lines next behind = next
 
 -- the statements behind a list: `next` from the line that closes it on
-abbrev pub stated_behind : ItemForm → List Statement → List Statement → List Statement
-stated_behind (Item root) next behind = behind
-stated_behind (Closes root) next behind = next
-stated_behind Neither next behind = behind
+abbrev pub statements_of_item : ItemForm → List Statement → List Statement → List Statement
+statements_of_item (Item root) next behind = behind
+statements_of_item (Closes root) next behind = next
+statements_of_item Neither next behind = behind
 
 unfoldable mutual
   -- the statements of some lines
   pub statements : List (List ℕ) → List Statement
   statements [] = []
-  statements (line ∷ lines) = stated (line_form line) lines (statements lines) (statements_behind lines)
+  statements (line ∷ lines) = statements_of_form (line_form line) lines (statements lines) (statements_behind lines)
 
   -- the statements behind the list that is open before some lines
   pub statements_behind : List (List ℕ) → List Statement
   statements_behind [] = []
-  statements_behind (line ∷ lines) = stated_behind (item_form line) (statements lines) (statements_behind lines)
+  statements_behind (line ∷ lines) = statements_of_item (item_form line) (statements lines) (statements_behind lines)
 
 -- the first statement of some keys
 abbrev pub statement_of : List (List ℕ) → List Statement → Option Statement

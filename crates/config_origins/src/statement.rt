@@ -1,7 +1,7 @@
 //! The statements of a printed configuration, read line by line.
 
 ghost use Rattle.std.specs.Prelude.{◌≡◌, ◌++◌, ◌∷◌, ℕ, List, Some, None, IfOk};
-ghost use Rattle.config_origins.specs.Reader.{continued};
+ghost use Rattle.config_origins.specs.Reader.{statements_left};
 ghost use Rattle.config_origins.specs.Statements.{statements};
 ghost use Rattle.std.specs.Str.Lines.{lines};
 
@@ -45,8 +45,8 @@ impl OpenList {
         whole: &mut Vec<Statement>,
     ) -> Result<Option<OpenList>, AllocError>
         ensures { IfOk result (λ list. (lines : List (List ℕ))
-            → whole.old.items ++ continued (Some self) (line.now ∷ lines)
-            ≡ whole.new.items ++ continued list lines) }
+            → whole.old.items ++ statements_left (Some self) (line.now ∷ lines)
+            ≡ whole.new.items ++ statements_left list lines) }
     {
         match ItemForm::of_line(alloc, line)? {
             ItemForm::Closes(root) => {
@@ -69,8 +69,8 @@ fn take_line(
     whole: &mut Vec<Statement>,
 ) -> Result<Option<OpenList>, AllocError>
     ensures { IfOk result (λ list. (lines : List (List ℕ))
-        → whole.old.items ++ continued None (line.now ∷ lines)
-        ≡ whole.new.items ++ continued list lines) }
+        → whole.old.items ++ statements_left None (line.now ∷ lines)
+        ≡ whole.new.items ++ statements_left list lines) }
 {
     match Form::of_line(alloc, line)? {
         Form::Value { keys, root } => {

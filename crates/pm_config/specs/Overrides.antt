@@ -28,5 +28,5 @@ with_optional None atoms = atoms
 with_optional (Some diff) atoms = with_diff diff atoms
 
 -- the atoms of a crate of the name: the change for all crates comes first
-abbrev pub overridden : CfgOverrides → List ℕ → List CfgAtom → List CfgAtom
-overridden overrides name atoms = with_optional (value_at name overrides.selective) (with_diff overrides.global atoms)
+abbrev pub atoms_with_overrides : CfgOverrides → List ℕ → List CfgAtom → List CfgAtom
+atoms_with_overrides overrides name atoms = with_optional (value_at name overrides.selective) (with_diff overrides.global atoms)

@@ -1,7 +1,7 @@
 //! Changes of the conditional compilation, which a user makes for all crates and for crates by name.
 
 ghost use Rattle.std.specs.Prelude.{◌≡◌, ◌⊎◌, OnErr, OnOk};
-ghost use Rattle.pm_config.specs.Overrides.{count_of, no_overrides, overridden, with_diff};
+ghost use Rattle.pm_config.specs.Overrides.{atoms_with_overrides, count_of, no_overrides, with_diff};
 
 use base_text::{ByText, CfgDiff, CfgOptions, TryClone};
 use std::alloc::{AllocError, Global};
@@ -37,7 +37,7 @@ impl CfgOverrides {
 
     /// Applies the change for all crates, and then that for crates of the name.
     pub fn apply(&self, cfg_options: &mut CfgOptions, name: &str) -> Result<(), AllocError>
-        ensures ok { OnOk result (cfg_options.new ≡ overridden self.now name.now cfg_options.old) }
+        ensures ok { OnOk result (cfg_options.new ≡ atoms_with_overrides self.now name.now cfg_options.old) }
         ensures err { OnErr result ((cfg_options.new ≡ cfg_options.old)
             ⊎ (cfg_options.new ≡ with_diff self.now.global cfg_options.old)) }
     {

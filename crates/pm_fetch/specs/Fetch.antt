@@ -14,7 +14,7 @@ use Rattle.pm_config.specs.declared.tool_root.ToolRoot.{ToolRoot}
 use Rattle.pm_fetch.specs.Questions.{full_question, light_question, locked_question}
 
 -- metadata, or why there is none, and beside metadata the error of the full question, if it has one
-abbrev pub Fetched : Type 0
+abbrev pub FetchAnswer : Type 0
 Fetched = Result (Metadata × Option Error) Error
 
 -- what is ready to be fetched: the full question, whether the light answer is enough, and what that answer is
@@ -34,33 +34,33 @@ fetch_of manifest dir config root no_deps answers =
     }
 
 -- metadata with nothing beside it
-abbrev pub alone : Result Metadata Error → Fetched
-alone (Ok m) = Ok (m, None)
-alone (Err e) = Err e
+abbrev pub without_error : Result Metadata Error → FetchAnswer
+without_error (Ok m) = Ok (m, None)
+without_error (Err e) = Err e
 
 -- the light metadata stands in, with the error beside it; where there is none, the error stands alone
-abbrev pub standing_in : Result Metadata Error → Error → Fetched
-standing_in (Ok m) error = Ok (m, Some error)
-standing_in (Err e) error = Err error
+abbrev pub light_in_place : Result Metadata Error → Error → FetchAnswer
+light_in_place (Ok m) error = Ok (m, Some error)
+light_in_place (Err e) error = Err error
 
 -- what is fetched where the full question has that output
-abbrev pub of_output : Result Metadata Error → Output → Fetched
+abbrev pub of_output : Result Metadata Error → Output → FetchAnswer
 of_output light output =
-    if output.ok then alone (of_line (json_line output.out)) else standing_in light (CargoMetadata output.err)
+    if output.ok then without_error (of_line (json_line output.out)) else light_in_place light (CargoMetadata output.err)
 
 -- what is fetched where the full question has that answer, if it has one
-abbrev pub of_full : Result Metadata Error → CommandLine → Option Output → Fetched
+abbrev pub of_full : Result Metadata Error → CommandLine → Option Output → FetchAnswer
 of_full light line None = Err (Io (line_text line))
 of_full light line (Some output) = of_output light output
 
 -- what is fetched
-abbrev pub fetched : Fetch → Bool → List (Question × Output) → Fetched
-fetched fetch locked answers =
+abbrev pub fetch_answer : Fetch → Bool → List (Question × Output) → FetchAnswer
+fetch_answer fetch locked answers =
     let line = locked_question fetch.full locked in
-    if fetch.no_deps then alone fetch.light else of_full fetch.light line (answer_of answers line)
+    if fetch.no_deps then without_error fetch.light else of_full fetch.light line (answer_of answers line)
 
 -- a call answers exactly that, unless memory ran out
-abbrev pub Answers : Fetched → Fetched → Type 0
+abbrev pub Answers : FetchAnswer → FetchAnswer → Type 0
 Answers (Ok m) wanted = wanted ≡ Ok m
 Answers (Err (CargoMetadata stderr)) wanted = wanted ≡ Err (CargoMetadata stderr)
 Answers (Err (Io line)) wanted = wanted ≡ Err (Io line)

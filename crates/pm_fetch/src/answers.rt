@@ -12,7 +12,7 @@ use std::alloc::{AllocError, Global};
 
 /// Metadata with no error beside it.
 pub(crate) fn alone(metadata: Result<Metadata, Error>) -> Result<(Metadata, Option<Error>), Error>
-    ensures { result ≡ spec.alone metadata }
+    ensures { result ≡ spec.without_error metadata }
 {
     metadata.map(|metadata| (metadata, None))
 }

@@ -5,7 +5,7 @@ ghost use Rattle.outside.specs.Runner.{answer_of};
 ghost use Rattle.cargo_meta.specs.Answer.{of_answer};
 ghost use Rattle.cargo_meta.specs.Command.{command_of};
 ghost use Rattle.base_text.specs.AbsPath.{abs_text};
-ghost use Rattle.pm_fetch.specs.Fetch.{Answers, fetch_of, fetched};
+ghost use Rattle.pm_fetch.specs.Fetch.{Answers, fetch_answer, fetch_of};
 ghost use Rattle.pm_fetch.specs.Options.{full_options};
 ghost use Rattle.pm_fetch.specs.Questions.{locked_question};
 
@@ -85,7 +85,7 @@ impl FetchMetadata {
         runner: &R,
         progress: &mut P,
     ) -> Result<(Metadata, Option<Error>), Error>
-        ensures { Answers result (fetched self locked (R.answers runner.now)) }
+        ensures { Answers result (fetch_answer self locked (R.answers runner.now)) }
     {
         let FetchMetadata {
             full,

@@ -3,7 +3,7 @@ use Rattle.std.proofs.lemmas.Iterator.Consumers.{YieldsList-at, YieldsList-end, 
 use Rattle.std.proofs.lemmas.Iterator.Splits.{YieldsList-from_lines}
 use Rattle.std.proofs.lemmas.List.{length_push}
 use Rattle.config_origins.proofs.Lines.{ended, left_open, none_open, turned}
-use Rattle.config_origins.specs.Reader.{continued}
+use Rattle.config_origins.specs.Reader.{statements_left}
 use Rattle.config_origins.proofs.statement.statements.Goals.{in-Some-list-2+in_ok-push, in_default}
 use Rattle.config_origins.proofs.statement.statements.Goals as goal
 
@@ -27,6 +27,6 @@ returns c =
     c.new.ensures ∙ (elim c.match-list-2.branch [
       | in-Some-list-2+in_ok-push w ↦
           ap (λ v. v.items) w.whole-is ∙ left_open _ _ _ w.in-Some-list-2.list w.in_ok-push.ensures.items w.close.ensures
-          ∙ ap (λ o. c.loop-line.whole.items ++ continued o []) (sym w.in-Some-list-2.is) ∙ whole
+          ∙ ap (λ o. c.loop-line.whole.items ++ statements_left o []) (sym w.in-Some-list-2.is) ∙ whole
       | in_default w ↦ ap (λ v. v.items) w.whole-is ∙ none_open _ _ w.in_default.is ∙ whole
     ])
