@@ -1,0 +1,4 @@
+pub mod Refusals
+pub mod Crates
+pub mod Project
+pub mod Queries

@@ -1,0 +1,33 @@
+-- what reading a project gives: a value, or the first refusal in the order in which a document is checked
+use Rattle.std.specs.Prelude.{◌≡◌, ℕ, List, codes, Result, Ok, Err}
+use Rattle.pm_json.specs.declared.workspace_json_error.WorkspaceJsonError.{WorkspaceJsonError}
+use Rattle.pm_json.specs.declared.workspace_json_error.WorkspaceJsonError.TheVariants.{TooMany, NoParent, OutOfMemory}
+
+-- the name of the variant, which is what is printed of a refusal
+abbrev pub variant_name : WorkspaceJsonError → List ℕ
+variant_name (TooMany limit) = codes "TooMany"
+variant_name (NoParent text) = codes "NoParent"
+variant_name OutOfMemory = codes "OutOfMemory"
+
+-- a value, or a refusal
+abbrev pub Reading : Type 0 → Type 0
+Reading T = Result T WorkspaceJsonError
+
+-- the next part is read where this one is not refused
+infixl 10 ◌>>=◌
+-- a reading, and what is read with its value
+abbrev pub ◌>>=◌ : {A B : Type 0} → Reading A → (A → Reading B) → Reading B
+Ok x >>= f = f x
+Err e >>= f = Err e
+
+-- what was read, under f
+abbrev pub under : {A B : Type 0} → (A → B) → Reading A → Reading B
+under f (Ok x) = Ok (f x)
+under f (Err e) = Err e
+
+-- a call returns what the reading gives, unless it runs out of memory
+abbrev pub Gives : {T : Type 0} → Result T WorkspaceJsonError → Reading T → Type 0
+Gives (Ok x) reading = reading ≡ Ok x
+Gives (Err (TooMany limit)) reading = reading ≡ Err (TooMany limit)
+Gives (Err (NoParent text)) reading = reading ≡ Err (NoParent text)
+Gives (Err OutOfMemory) reading = Unit {0}

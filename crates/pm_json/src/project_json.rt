@@ -1,0 +1,104 @@
+//! A project as a document and a base directory make it.
+
+ghost use Rattle.std.specs.Prelude.{◌≡◌, None, option_map};
+ghost use Rattle.base_text.specs.AbsPath.{abs_text};
+ghost use Rattle.pm_json.specs.Project as project;
+ghost use Rattle.pm_json.specs.Project.{project_of};
+ghost use Rattle.pm_json.specs.Refusals.{Gives};
+
+use crate::krate::Crate;
+use crate::reading::{absolute, read_crates};
+use crate::workspace_json_error::WorkspaceJsonError;
+use base_text::{AbsPath, AbsPathBuf, Boxed, Items, Limit, Limits, TryClone};
+use pm_json_data::{ProjectJsonData, Runnable};
+use pm_packages::ManifestPath;
+use std::alloc::{AllocError, Global};
+
+/// A project that a build system describes.
+#[derive(PartialEq, Eq, Drop)]
+pub struct ProjectJson {
+    /// The directory of the toolchain.
+    pub sysroot: Option<AbsPathBuf>,
+    /// The directory of the standard library's sources.
+    pub sysroot_src: Option<AbsPathBuf>,
+    /// The standard library as a project of its own.
+    pub sysroot_project: Option<Boxed<ProjectJson>>,
+    /// The directory that the document lies in.
+    pub project_root: AbsPathBuf,
+    /// The document's path, unless a command wrote the document.
+    pub manifest: Option<ManifestPath>,
+    pub crates: Items<Crate>,
+    /// The commands that a client can run.
+    pub runnables: Items<Runnable>,
+}
+
+impl ProjectJson {
+    /// The project of a document, whose paths are read from the base.
+    #[cycle(project)]
+    #[tactic(auto, unfolding(crate::specs::Project::project_level, crate::specs::Project::level_read))]
+    pub fn new(
+        alloc: Global,
+        manifest: Option<ManifestPath>,
+        base: AbsPath<'_>,
+        json_data: ProjectJsonData,
+        limits: &Limits,
+    ) -> Result<ProjectJson, WorkspaceJsonError>
+        ensures exact { Gives result
+            (project_of limits.now.crates json_data manifest (abs_text base.entry)) }
+    {
+        if json_data.crates.len() > limits.crates as usize {
+            return Err(WorkspaceJsonError::TooMany(Limit::Crates));
+        }
+        let stated = json_data.crates;
+        let crates = read_crates(alloc, base, &json_data.cfg_groups, stated)?;
+        let sysroot_src = absolute(alloc, base, json_data.sysroot_src)?;
+        let sysroot_project = read_sysroot(alloc, &sysroot_src, json_data.sysroot_project, limits)?;
+        Ok(ProjectJson {
+            sysroot: absolute(alloc, base, json_data.sysroot)?,
+            sysroot_src,
+            sysroot_project,
+            project_root: base.to_path_buf(alloc)?,
+            manifest,
+            crates,
+            runnables: json_data.runnables,
+        })
+    }
+}
+
+// The project of the standard library, where its sources have a directory.
+#[cycle(project)]
+fn read_sysroot(
+    alloc: Global,
+    source: &Option<AbsPathBuf>,
+    json_data: Option<Boxed<ProjectJsonData>>,
+    limits: &Limits,
+) -> Result<Option<Boxed<ProjectJson>>, WorkspaceJsonError>
+    ensures exact { Gives result (project.sysroot_project_of source.now
+        (option_map (project_of limits.now.crates) json_data)) }
+{
+    match (source, json_data) {
+        (Some(source), Some(json_data)) => {
+            let stated = json_data.into_inner();
+            let project = ProjectJson::new(alloc, None, source.as_path(), stated, limits)?;
+            Ok(Some(Boxed::new(alloc, project)?))
+        }
+        _ => Ok(None),
+    }
+}
+
+impl TryClone for ProjectJson {
+    fn try_clone(&self, alloc: Global) -> Result<Self, AllocError> {
+        Ok(ProjectJson {
+            sysroot: self.sysroot.try_clone(alloc)?,
+            sysroot_src: self.sysroot_src.try_clone(alloc)?,
+            sysroot_project: match &self.sysroot_project {
+                Some(project) => Some(Boxed::new(alloc, project.get().try_clone(alloc)?)?),
+                None => None,
+            },
+            project_root: self.project_root.try_clone(alloc)?,
+            manifest: self.manifest.try_clone(alloc)?,
+            crates: self.crates.try_clone(alloc)?,
+            runnables: self.runnables.try_clone(alloc)?,
+        })
+    }
+}

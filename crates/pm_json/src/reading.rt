@@ -1,0 +1,217 @@
+//! Crates of a document, read on a base directory.
+
+ghost use Rattle.std.specs.Prelude.{◌≡◌, ◌++◌, IfOk, OnOk, flat_map, map, option_map};
+ghost use Rattle.base_text.specs.AbsPath.{abs_text};
+ghost use Rattle.base_text.specs.Paths.{parent_text};
+ghost use Rattle.crate_values.specs.Names.{shown_as};
+ghost use Rattle.json_fields.specs.Versions.{version_text};
+ghost use Rattle.pm_json.specs.Crates as crates;
+ghost use Rattle.pm_json.specs.Crates.{absolute_from, cfgs_of, crate_of, crates_of, folder_of_parent, group_names};
+ghost use Rattle.pm_json.specs.Refusals.{Gives};
+
+use crate::krate::{Build, Crate};
+use crate::workspace_json_error::WorkspaceJsonError;
+use base_text::{
+    AbsPath, AbsPathBuf, ByText, CfgAtom, Edition, Items, Text, TryClone, Version, sort_all,
+};
+use crate_graph::CrateDisplayName;
+use pm_json_data::{CrateData, CrateSource};
+use std::alloc::{AllocError, Global};
+
+// The directories that a crate's files are in, and those that are left out.
+#[derive(Drop)]
+struct Folders {
+    include: Items<AbsPathBuf>,
+    exclude: Items<AbsPathBuf>,
+}
+
+/// The crates of a document, in its order.
+pub(crate) fn read_crates(
+    alloc: Global,
+    base: AbsPath<'_>,
+    groups: &ByText<Items<CfgAtom>>,
+    stated: Items<CrateData>,
+) -> Result<Items<Crate>, WorkspaceJsonError>
+    ensures exact { Gives result (crates_of (abs_text base.entry) groups.now stated) }
+{
+    let mut crates = Vec::with_capacity(alloc, stated.len())?;
+    for krate in stated.into_inner() {
+        crates.push(read_crate(alloc, base, groups, krate)?)?;
+    }
+    Ok(Items::new(crates))
+}
+
+#[tactic(auto, unfolding(crate::specs::Crates::crate_of))]
+fn read_crate(
+    alloc: Global,
+    base: AbsPath<'_>,
+    groups: &ByText<Items<CfgAtom>>,
+    stated: CrateData,
+) -> Result<Crate, WorkspaceJsonError>
+    ensures exact { Gives result (crate_of (abs_text base.entry) groups.now stated) }
+{
+    let root_module = base.absolutize(alloc, stated.root_module.as_str())?;
+    let folders = read_folders(alloc, base, root_module.as_path(), stated.source)?;
+    let is_workspace_member = match stated.is_workspace_member {
+        Some(stated) => stated,
+        None => root_module.as_path().starts_with(base),
+    };
+    Ok(Crate {
+        display_name: shown_name(alloc, stated.display_name)?,
+        root_module,
+        edition: Edition::from(stated.edition),
+        version: written_version(alloc, stated.version)?,
+        deps: stated.deps,
+        cfg: all_cfgs(alloc, groups, stated.cfg_groups, stated.cfg)?,
+        target: stated.target,
+        env: stated.env,
+        crate_attrs: stated.crate_attrs,
+        proc_macro_dylib_path: absolute(alloc, base, stated.proc_macro_dylib_path)?,
+        is_workspace_member,
+        include: folders.include,
+        exclude: folders.exclude,
+        is_proc_macro: stated.is_proc_macro,
+        proc_macro_cwd: absolute(alloc, base, stated.proc_macro_cwd)?,
+        repository: stated.repository,
+        build: stated.build.map(Build::from),
+    })
+}
+
+/// A path of the document, if there is one, on the base.
+pub(crate) fn absolute(
+    alloc: Global,
+    base: AbsPath<'_>,
+    path: Option<Text>,
+) -> Result<Option<AbsPathBuf>, AllocError>
+    ensures { IfOk result (λ found. found
+        ≡ option_map (absolute_from (abs_text base.entry)) path) }
+{
+    match path {
+        Some(path) => Ok(Some(base.absolutize(alloc, path.as_str())?)),
+        None => Ok(None),
+    }
+}
+
+fn absolute_paths(
+    alloc: Global,
+    base: AbsPath<'_>,
+    paths: &[Text],
+) -> Result<Items<AbsPathBuf>, AllocError>
+    ensures { IfOk result (λ found. found
+        ≡ map (absolute_from (abs_text base.entry)) paths.now) }
+{
+    let mut found = Vec::with_capacity(alloc, paths.len())?;
+    for path in paths {
+        found.push(base.absolutize(alloc, path.as_str())?)?;
+    }
+    Ok(Items::new(found))
+}
+
+fn read_folders(
+    alloc: Global,
+    base: AbsPath<'_>,
+    root: AbsPath<'_>,
+    source: Option<CrateSource>,
+) -> Result<Folders, WorkspaceJsonError>
+    ensures exact { Gives result
+        (crates.folders_of (abs_text base.entry) (abs_text root.entry) source) }
+{
+    match source {
+        Some(source) => Ok(Folders {
+            include: absolute_paths(alloc, base, source.include_dirs.as_slice())?,
+            exclude: absolute_paths(alloc, base, source.exclude_dirs.as_slice())?,
+        }),
+        None => folder_above(alloc, root),
+    }
+}
+
+// The directory that a root module lies in.
+fn folder_above(alloc: Global, root: AbsPath<'_>) -> Result<Folders, WorkspaceJsonError>
+    ensures exact { Gives result
+        (folder_of_parent (abs_text root.entry) (parent_text (abs_text root.entry))) }
+{
+    match root.parent() {
+        Some(parent) => {
+            let mut include = Vec::with_capacity(alloc, 1)?;
+            include.push(parent.to_path_buf(alloc)?)?;
+            Ok(Folders {
+                include: Items::new(include),
+                exclude: Items::empty(alloc),
+            })
+        }
+        None => Err(WorkspaceJsonError::NoParent(Text::of_str(alloc, root.as_str())?)),
+    }
+}
+
+fn shown_name(alloc: Global, name: Option<Text>) -> Result<Option<CrateDisplayName>, AllocError>
+    ensures { IfOk result (λ shown. shown ≡ option_map shown_as name) }
+{
+    match name {
+        Some(name) => Ok(Some(CrateDisplayName::from_canonical_name(alloc, name.as_str())?)),
+        None => Ok(None),
+    }
+}
+
+#[tactic(auto, unfolding(json_fields::specs::Versions::version_text))]
+fn written_version(alloc: Global, version: Option<Version>) -> Result<Option<Text>, AllocError>
+    ensures { IfOk result (λ written. written ≡ option_map version_text version) }
+{
+    match version {
+        Some(version) => Ok(Some(Text::new(version.as_version().to_string(alloc)?))),
+        None => Ok(None),
+    }
+}
+
+// The atoms of the named groups, and then the crate's own.
+#[tactic(auto, unfolding(crate::specs::Crates::cfgs_of))]
+fn all_cfgs(
+    alloc: Global,
+    groups: &ByText<Items<CfgAtom>>,
+    names: Items<Text>,
+    own: Items<CfgAtom>,
+) -> Result<Items<CfgAtom>, AllocError>
+    ensures { IfOk result (λ cfgs. cfgs ≡ cfgs_of groups.now names own) }
+{
+    if names.is_empty() {
+        return Ok(own);
+    }
+    let names = ascending_names(names)?;
+    let mut cfgs = group_cfgs(alloc, groups, names.as_slice())?;
+    cfgs.append(&mut own.into_inner())?;
+    Ok(Items::new(cfgs))
+}
+
+fn ascending_names(names: Items<Text>) -> Result<Vec<Text>, AllocError>
+    ensures { IfOk result (λ ascending. ascending.items ≡ group_names names) }
+{
+    let mut names = names.into_inner();
+    sort_all(&mut names)?;
+    names.dedup();
+    Ok(names)
+}
+
+fn group_cfgs(
+    alloc: Global,
+    groups: &ByText<Items<CfgAtom>>,
+    names: &[Text],
+) -> Result<Vec<CfgAtom>, AllocError>
+    ensures { IfOk result (λ cfgs. cfgs.items
+        ≡ flat_map (crates.atoms_of groups.now) names.now) }
+{
+    let mut cfgs = Vec::new(alloc);
+    for name in names {
+        if let Some(group) = groups.get(name.as_str()) {
+            push_copies(alloc, &mut cfgs, group.as_slice())?;
+        }
+    }
+    Ok(cfgs)
+}
+
+fn push_copies(alloc: Global, cfgs: &mut Vec<CfgAtom>, group: &[CfgAtom]) -> Result<(), AllocError>
+    ensures { OnOk result (cfgs.new.items ≡ cfgs.old.items ++ group.now) }
+{
+    for atom in group {
+        cfgs.push(atom.try_clone(alloc)?)?;
+    }
+    Ok(())
+}
