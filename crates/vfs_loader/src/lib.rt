@@ -1,4 +1,4 @@
-//! What a loader of files is told to load and to watch, and what it says of its progress.
+//! What a loader of files loads and watches, and what it reports of its progress.
 #![tactic(auto)]
 
 pub mod entry;
