@@ -15,7 +15,7 @@ use Rattle.pm_fetch.specs.Questions.{full_question, light_question, locked_quest
 
 -- metadata, or why there is none, and beside metadata the error of the full question, if it has one
 abbrev pub FetchAnswer : Type 0
-Fetched = Result (Metadata × Option Error) Error
+FetchAnswer = Result (Metadata × Option Error) Error
 
 -- what is ready to be fetched: the full question, whether the light answer is enough, and what that answer is
 pub record Fetch : Type 0 where
