@@ -34,8 +34,8 @@ fn written(alloc: Global, document: &ProjectJsonData) -> Result<Value, Fault> {
     }
 }
 
-// Why a document was not read.
-fn refusal(alloc: Global, error: Error) -> Result<Value, Fault> {
+/// Why a document was not read.
+pub fn refusal(alloc: Global, error: Error) -> Result<Value, Fault> {
     match error {
         Error::Json { field } => missed_answer(alloc, field.as_str()),
         Error::OutOfMemory => Err(Fault::OutOfMemory),

@@ -1,20 +1,23 @@
-//! Cases of pm_json_data: documents of JSON projects.
+//! Cases of pm_json_data and pm_json: documents of JSON projects, and the projects that they make on a base.
 #![tactic(auto)]
 
+mod crates;
 mod documents;
+mod projects;
 
 use cases::{Case, Family, Fault, run_files};
 use serde_json::Value;
 use std::io;
 use std::process::ExitCode;
 
-/// The calls of pm_json_data.
+/// The calls of pm_json_data and of pm_json.
 struct ProjectFamily;
 
 impl<R: AllocGlobal> Family<R> for ProjectFamily {
     fn answer(rt: &R, file: &str, case: Case<'_>) -> Result<Value, Fault> {
         match file {
             "documents.jsonl" => documents::answer(rt.alloc(), case),
+            "projects.jsonl" => projects::answer(rt.alloc(), case),
             _ => Err(Fault::Kind),
         }
     }
