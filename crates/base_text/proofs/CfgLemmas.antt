@@ -34,7 +34,7 @@ unquoted_no_first (b ∷ rest) never =
     let other : b ≢ 34 = λ same. never rest (ap (λ x. x ∷ rest) same) in
     grind (arith, nat_tests, common_steps)
 
-with_last : (text : List ℕ) (b : ℕ) → 0 < b → get_or text (length text - 1) 0 ≡ b → text ≡ take (length text - 1) text ++ b ∷ []
+pub with_last : (text : List ℕ) (b : ℕ) → 0 < b → get_or text (length text - 1) 0 ≡ b → text ≡ take (length text - 1) text ++ b ∷ []
 with_last [] b some is = absurd (omega arith)
 with_last (x ∷ rest) b some is =
     let more = take_more (x ∷ rest) (length rest) 0 (omega arith) in

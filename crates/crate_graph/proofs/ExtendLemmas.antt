@@ -8,14 +8,12 @@ use Rattle.std.proofs.lemmas.List.{get_or_past, length-map, length-replicate, le
 use Rattle.std.proofs.lemmas.List.Elements.{Contains-get_or}
 use Rattle.std.proofs.lemmas.List.Sums.{fold-append, fold_more}
 use Rattle.graph_base.specs.Edges.{HasEdge, IsInRange}
+use Rattle.graph_base.proofs.ReachLemmas.{none_in}
 use Rattle.crate_values.specs.declared.builder.CrateBuilder.{CrateBuilder}
 use Rattle.crate_values.specs.declared.crate_data.Dependency.{Dependency}
 use Rattle.crate_graph.specs.Extend.{Id, Merge, before_merge, with_sorted_dependencies, with_new_ids, new_id_at, take_in, with_first_equal, with_crate_at}
 use Rattle.crate_graph.specs.Graph.{edges, row_of, target_of}
 use Rattle.crate_graph.proofs.GraphLemmas.{length-edges, row-at, slice_get_some}
-
-none_in : {X : Type 0} (x : X) → Contains [] x → ⊥
-none_in x c = omega (arith, c.1)
 
 -- ---- crates and edges
 

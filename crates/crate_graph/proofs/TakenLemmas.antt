@@ -13,6 +13,8 @@ use Rattle.base_values.proofs.InOrder.{sorted-IsPermutation}
 use Rattle.base_values.specs.Sorted.{sorted}
 use Rattle.graph_base.specs.Edges.{HasEdge}
 use Rattle.graph_base.specs.Finish.{IsBehindTargets}
+use Rattle.graph_base.proofs.FinishLemmas.{contains_cases}
+use Rattle.graph_base.proofs.ReachLemmas.{none_in}
 use Rattle.crate_values.specs.declared.builder.CrateBuilder.{CrateBuilder}
 use Rattle.crate_values.specs.declared.crate_data.Dependency.{Dependency}
 use Rattle.crate_graph.specs.Extend.{Id, Merge, KeepsCrates, before_merge, by_number, with_dependencies, with_sorted_dependencies, merge_of, with_new_ids, new_id_at, take_in, with_crate_at}
@@ -20,15 +22,6 @@ use Rattle.crate_graph.specs.Graph.{edges, row_of, target_of}
 use Rattle.crate_values.specs.Laws.{renamed_dependency}
 use Rattle.crate_graph.proofs.ExtendLemmas.{before_merge-long, before_merge-new_numbers, crate_edge, edge_crate, take_in-at}
 use Rattle.crate_graph.proofs.GraphLemmas.{length-edges, slice_get_some}
-
-none_in : {X : Type 0} (x : X) → Contains [] x → ⊥
-none_in x c = omega (arith, c.1)
-
-first_or_other : (y : ℕ) (ys : List ℕ) (x : ℕ) → Contains (y ∷ ys) x → (y ≡ x) ⊎ Contains ys x
-first_or_other y ys x c = elim (Contains-append_cases (y ∷ []) ys x c) [
-  | inl first ↦ elim (Contains-push_cases [] y x first) [ inl empty ↦ absurd (none_in x empty) | inr same ↦ inl same ]
-  | inr other ↦ inr other
-]
 
 -- ---- look-ups in a list that was pushed to
 
@@ -65,7 +58,7 @@ row-renamed_deps : (new_numbers : List ℕ) (deps : List (Dependency Id)) (b : �
 row-renamed_deps new_numbers [] b c = absurd (none_in b c)
 row-renamed_deps new_numbers (dep ∷ deps) b c =
     let renamed_row : List ℕ = map target_of (map (renamed_dependency (new_id_at new_numbers)) deps) in
-    elim (first_or_other (get_or new_numbers (target_of dep) 0) renamed_row b c) [
+    elim (contains_cases (get_or new_numbers (target_of dep) 0) renamed_row b c) [
       | inl same ↦ (target_of dep, (0, omega arith, refl), sym same)
       | inr other ↦
           let rest = row-renamed_deps new_numbers deps b other in

@@ -6,6 +6,7 @@ use Rattle.std.proofs.lemmas.List.{get_or_default, get_or_past, get_or-map, leng
 use Rattle.graph_base.specs.Edges.{HasEdge, IsInRange, row}
 use Rattle.graph_base.specs.Reach.{Reaches, itself, further, IsAcyclic}
 use Rattle.graph_base.specs.Kept.{IsClosed, is_named, kept_below, kept_rows}
+use Rattle.graph_base.proofs.ReachLemmas.{none_in}
 
 -- one more number, named or not
 below_named : (keep : List ℕ) (n : ℕ) → is_named keep n ≡ true → kept_below keep (suc n) ≡ kept_below keep n + 1
@@ -119,9 +120,6 @@ pub record OldEdge (g : List (List ℕ)) (keep : List ℕ) (a b : ℕ) : Type 0 
   pub from_is : kept_below keep from ≡ a
   pub to_is : kept_below keep to ≡ b
   pub edge : HasEdge g from to
-
-none_in : (y : ℕ) → Contains [] y → ⊥
-none_in y c = omega (arith, c.1)
 
 pub edge_within : (g : List (List ℕ)) (a b : ℕ) → HasEdge g a b → a < length g
 edge_within g a b e = elim (cases_lt a (length g)) [

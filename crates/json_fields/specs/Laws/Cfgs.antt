@@ -8,6 +8,7 @@ use Rattle.std.specs.List.{after_first, before_first, list_any, position_or_len}
 use Rattle.std.specs.Prelude.{slice_range}
 use Rattle.std.specs.Option.{option_map}
 use Rattle.std.specs.Result.{IfOk}
+use Rattle.base_text.proofs.CfgLemmas.{with_last}
 use Rattle.base_text.specs.Cfg.{atom_of, is_equals, text_of, unquoted}
 use Rattle.base_text.specs.declared.cfg.CfgAtom.{CfgAtom}
 use Rattle.base_text.specs.declared.cfg.CfgAtom.TheVariants.{Flag, KeyValue}
@@ -33,13 +34,6 @@ split_at_equals (b ∷ rest) some = at_first (is_equals b) refl some (split_at_e
         → b ∷ rest ≡ take (cond (not same) (1 + position_or_len is_equals rest) 0) (b ∷ rest) ++ 61 ∷ drop (cond (not same) (1 + position_or_len is_equals rest) 0 + 1) (b ∷ rest)
     at_first true same h later = ap (λ x. x ∷ rest) (eqb-true b 61 same)
     at_first false same h later = ap (λ xs. b ∷ xs) (later h) ∙ sym (cut_further b rest (position_or_len is_equals rest))
-
--- a text that ends in a byte is what stands before it, and the byte
-with_last : (text : List ℕ) (b : ℕ) → 0 < b → get_or text (length text - 1) 0 ≡ b → text ≡ take (length text - 1) text ++ b ∷ []
-with_last [] b some is = absurd (omega arith)
-with_last (x ∷ rest) b some is =
-    let more = take_more (x ∷ rest) (length rest) 0 (omega arith) in
-    grind (arith, common_steps)
 
 -- a value that is there under a test passed the test
 when_true : (test : Bool) (x y : List ℕ) → cond test (Some x) None ≡ Some y → (test ≡ true) × (x ≡ y)
