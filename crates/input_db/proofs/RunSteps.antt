@@ -1,5 +1,6 @@
 -- What one crate of a run changes: its identity is given its number and its input, in the table before it.
 use Rattle.std.proofs.Common.{◌≡◌, ℕ, zero, suc, ◌+◌, ◌<◌, ◌≤◌, inl, inr, Bool, true, false, ◌||◌, not, List, [], ◌∷◌, ◌++◌, Option}
+use Rattle.std.proofs.Math.Bool.{or-false}
 use Rattle.std.proofs.Common.{Some, None, length, get_or, take, if◌then◌else◌, refl, sym, ap, ◌∙◌, subst, arith}
 use Rattle.std.specs.Prelude.{nat_eq, slice_get, slice_index_or}
 use Rattle.std.specs.List.{list_any}
@@ -36,11 +37,6 @@ climbs P from (suc top) low start step = elim (cases_lt from (suc top)) [
 next : (k : ℕ) → suc k ≡ k + 1
 next k = omega arith
 
--- nothing is added
-or_false : (b : Bool) → (b || false) ≡ b
-or_false true = refl
-or_false false = refl
-
 -- what is among the numbers once one is a member
 any-with_member : (file n : ℕ) (ns : List ℕ)
     → list_any (nat_eq file) (with_member ns n) ≡ (list_any (nat_eq file) ns || nat_eq file n)
@@ -52,13 +48,13 @@ any-with_member file n ns = by (list_any (nat_eq n) ns) refl
         let same : n ≡ file = grind (arith, nat_tests) in
         let has : list_any (nat_eq file) ns ≡ true = subst (λ z. list_any (nat_eq z) ns ≡ true) same is in
         has ∙ sym (ap (λ b. b || true) has)
-    there is false test = sym (or_false (list_any (nat_eq file) ns))
+    there is false test = sym (or-false (list_any (nat_eq file) ns))
 
     by : (b : Bool) → list_any (nat_eq n) ns ≡ b
         → list_any (nat_eq file) (if b then ns else ns ++ n ∷ []) ≡ (list_any (nat_eq file) ns || nat_eq file n)
     by true is = there is (nat_eq file n) refl
     by false is =
-        list_any-append (nat_eq file) ns (n ∷ []) ∙ ap (λ b. list_any (nat_eq file) ns || b) (or_false (nat_eq file n))
+        list_any-append (nat_eq file) ns (n ∷ []) ∙ ap (λ b. list_any (nat_eq file) ns || b) (or-false (nat_eq file n))
 
 -- the table before a place of the order
 abbrev pub table_before : List CrateBuilder → Database → List ℕ → ℕ → Table

@@ -1,5 +1,6 @@
 -- What is asked of a workspace, one package, one target or one feature after another.
 use Rattle.std.proofs.Common.{◌≡◌, ◌+◌, ◌<◌, ℕ, zero, suc, List, [], ◌∷◌, ◌++◌, Bool, true, false, ◌||◌, cond, Option, Some, None, length, map, take, get_or, refl, sym, ap, ◌∙◌, arith, length-append, String, string_bytes}
+use Rattle.std.proofs.Math.Bool.{or-false}
 use Rattle.std.specs.Prelude.{codes}
 use Rattle.std.specs.Borrow.{Bor}
 use Rattle.std.specs.List.{find, flat_map, list_any}
@@ -47,20 +48,16 @@ or_assoc : (a b c : Bool) → ((a || b) || c) ≡ (a || (b || c))
 or_assoc true b c = refl
 or_assoc false b c = refl
 
-or_none : (b : Bool) → (b || false) ≡ b
-or_none true = refl
-or_none false = refl
-
 -- one more item to test
 pub any-more : {X : Type 0} (p : X → Bool) (xs : List X) (x : X) → list_any p (xs ++ x ∷ []) ≡ (list_any p xs || p x)
-any-more p [] x = or_none (p x)
+any-more p [] x = or-false (p x)
 any-more p (y ∷ ys) x = ap (λ b. p y || b) (any-more p ys x) ∙ sym (or_assoc (p y) (list_any p ys) (p x))
 
 -- one more feature
 module _ (p : List ℕ → Bool) (next : Bor (String Global) × Bor (List (List ℕ))) where
   any_feature : (seen : List (Bor (String Global) × Bor (List (List ℕ))))
       → list_any p (keys_of (map seen_feature (seen ++ next ∷ []))) ≡ (list_any p (keys_of (map seen_feature seen)) || p (string_bytes next.0.now))
-  any_feature [] = or_none (p (string_bytes next.0.now))
+  any_feature [] = or-false (p (string_bytes next.0.now))
   any_feature (y ∷ ys) =
       ap (λ b. p (string_bytes y.0.now) || b) (any_feature ys)
       ∙ sym (or_assoc (p (string_bytes y.0.now)) (list_any p (keys_of (map seen_feature ys))) (p (string_bytes next.0.now)))
