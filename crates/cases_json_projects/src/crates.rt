@@ -11,77 +11,103 @@ use std::alloc::Global;
 /// Every field of a crate.
 pub fn crate_answer(alloc: Global, krate: &Crate) -> Result<Value, Fault> {
     let mut answer = Map::new(alloc);
-    let version = optional_text(alloc, &krate.version)?;
+    put_module(alloc, &mut answer, krate)?;
+    put_conditions(alloc, &mut answer, krate)?;
+    put_paths(alloc, &mut answer, krate)?;
+    put_part(alloc, &mut answer, krate)?;
+    Ok(Value::Object(answer))
+}
+
+// What is compiled, and with what.
+fn put_module(alloc: Global, answer: &mut Map<String, Value>, krate: &Crate) -> Result<(), Fault> {
     set_value(
         alloc,
-        &mut answer,
+        answer,
         "display_name",
         name_answer(alloc, &krate.display_name)?,
     )?;
     set_value(
         alloc,
-        &mut answer,
+        answer,
         "root_module",
         text_answer(alloc, krate.root_module.as_str())?,
     )?;
     set_value(
         alloc,
-        &mut answer,
+        answer,
         "edition",
         text_answer(alloc, edition(krate.edition))?,
     )?;
-    set_value(alloc, &mut answer, "version", version)?;
     set_value(
         alloc,
-        &mut answer,
-        "deps",
-        deps_answer(alloc, krate.deps.as_slice())?,
+        answer,
+        "version",
+        optional_text(alloc, &krate.version)?,
     )?;
     set_value(
         alloc,
-        &mut answer,
+        answer,
+        "deps",
+        deps_answer(alloc, krate.deps.as_slice())?,
+    )?;
+    Ok(())
+}
+
+// Under which conditions it is compiled.
+fn put_conditions(
+    alloc: Global,
+    answer: &mut Map<String, Value>,
+    krate: &Crate,
+) -> Result<(), Fault> {
+    set_value(
+        alloc,
+        answer,
         "cfg",
         cfgs_answer(alloc, krate.cfg.as_slice())?,
     )?;
     set_value(
         alloc,
-        &mut answer,
+        answer,
         "target",
         optional_text(alloc, &krate.target)?,
     )?;
-    set_value(alloc, &mut answer, "env", env_answer(alloc, &krate.env)?)?;
+    set_value(alloc, answer, "env", env_answer(alloc, &krate.env)?)?;
     set_value(
         alloc,
-        &mut answer,
+        answer,
         "crate_attrs",
         texts_answer(alloc, krate.crate_attrs.as_slice())?,
     )?;
-    put_paths(alloc, &mut answer, krate)?;
+    Ok(())
+}
+
+// What part of the project it is.
+fn put_part(alloc: Global, answer: &mut Map<String, Value>, krate: &Crate) -> Result<(), Fault> {
     set_value(
         alloc,
-        &mut answer,
+        answer,
         "is_workspace_member",
         Value::from(krate.is_workspace_member),
     )?;
     set_value(
         alloc,
-        &mut answer,
+        answer,
         "is_proc_macro",
         Value::from(krate.is_proc_macro),
     )?;
     set_value(
         alloc,
-        &mut answer,
+        answer,
         "repository",
         optional_text(alloc, &krate.repository)?,
     )?;
     set_value(
         alloc,
-        &mut answer,
+        answer,
         "build",
         build_answer(alloc, krate.build.as_ref())?,
     )?;
-    Ok(Value::Object(answer))
+    Ok(())
 }
 
 // The members that are paths.
