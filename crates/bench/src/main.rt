@@ -1,10 +1,14 @@
-//! A program to be timed: it reads a document of `cargo metadata` and writes it again, builds a graph of
-//! crates, or partitions files into sets. The words of the command line say which.
+//! A program to be timed: it reads a document of `cargo metadata` and writes it again or builds its
+//! workspace, reads a JSON project or the messages of a build, builds a graph of crates, or partitions
+//! files into sets. The words of the command line say which.
 #![tactic(auto)]
 
 mod documents;
 mod graphs;
+mod json_projects;
+mod messages;
 mod partition;
+mod workspaces;
 
 use crate::documents::Step;
 use crate::graphs::{Kind, build};
@@ -12,13 +16,17 @@ use crate::partition::partition;
 use std::process::ExitCode;
 use std::{env, io};
 
-const USAGE: &str = "usage: bench metadata STEP | bench graphs KIND | bench partition SETS TIMES";
+const USAGE: &str =
+    "usage: bench metadata STEP | bench workspace | bench json-project | bench messages | bench graphs KIND | bench partition SETS TIMES";
 
 fn main(rt: HostRuntime) -> io::Result<ExitCode> {
     let mut words = env::args(&rt)?.skip(1);
     let (what, first, second) = (words.next(), words.next(), words.next());
     match what.as_ref().map(|word| word.as_str()) {
         Some("metadata") => run_metadata(&rt, first),
+        Some("workspace") => run_workspace(&rt),
+        Some("json-project") => run_json_project(&rt),
+        Some("messages") => run_messages(&rt),
         Some("graphs") => run_graphs(&rt, first),
         Some("partition") => run_partition(&rt, first, second),
         _ => refuse(&rt),
@@ -38,6 +46,24 @@ fn run_metadata<R: Input + Print + Eprint + AllocGlobal>(
         Some(step) => documents::run(rt, step),
         None => refuse(rt),
     }
+}
+
+/// Builds the workspace of the document on standard input, and prints how many packages it has.
+fn run_workspace<R: Input + Print + Eprint + AllocGlobal>(rt: &R) -> io::Result<ExitCode> {
+    let text = io::read_to_string(rt.alloc(), rt.reader())?;
+    report(rt, workspaces::build(rt.alloc(), text.as_str()))
+}
+
+/// Reads the JSON project on standard input, and prints how many crates it has.
+fn run_json_project<R: Input + Print + Eprint + AllocGlobal>(rt: &R) -> io::Result<ExitCode> {
+    let text = io::read_to_string(rt.alloc(), rt.reader())?;
+    report(rt, json_projects::read(rt.alloc(), text.as_str()))
+}
+
+/// Reads the messages on standard input, and prints how many there are.
+fn run_messages<R: Input + Print + Eprint + AllocGlobal>(rt: &R) -> io::Result<ExitCode> {
+    let text = io::read_to_string(rt.alloc(), rt.reader())?;
+    report(rt, messages::count(rt.alloc(), text))
 }
 
 /// Builds a graph, and prints how many crates its first one reaches.
