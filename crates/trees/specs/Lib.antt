@@ -1,1 +1,2 @@
+pub mod MemoryTree
 pub mod Tree

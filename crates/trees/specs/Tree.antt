@@ -11,15 +11,15 @@ use Rattle.base_text.specs.Paths.{components, is_prefix, normal}
 abbrev pub Files : Type 0
 Files = List (List ℕ × List ℕ)
 
--- a path that is a file or a directory: the components of the normal path begin those of a file
+-- a path is a file or a directory: the components of its normal path begin those of a file
 unfoldable pub holds_path : Files → List ℕ → Bool
 holds_path files path = list_any (λ file. is_prefix (normal path) (components file.0)) files
 
--- the file lies below the directory, which has fewer components
-abbrev pub is_above : List (List ℕ) → List (List ℕ) → Bool
+-- a directory is above a file: its components begin those of the file, which has more
+unfoldable pub is_above : List (List ℕ) → List (List ℕ) → Bool
 is_above directory file = is_prefix directory file && nat_lt (length directory) (length file)
 
--- the name of the entry of a directory that a file below it is, or lies below
+-- the component of a file behind those of a directory, where the directory is above the file
 unfoldable pub entry_name : List (List ℕ) → List (List ℕ) → Option (List ℕ)
 entry_name directory file = if is_above directory file then slice_get file (length directory) else None
 
@@ -27,7 +27,7 @@ entry_name directory file = if is_above directory file then slice_get file (leng
 unfoldable pub entry_names : Files → List (List ℕ) → List (List ℕ)
 entry_names files directory = fold (insert_key text_cmp) [] (filter_map (λ file. entry_name directory (components file.0)) files)
 
--- the names of the entries of a path that is a directory
+-- the names of the entries of a path, where it is a directory
 unfoldable pub names_in : Files → List ℕ → Option (List (List ℕ))
 names_in files path =
     if list_any (λ file. is_above (normal path) (components file.0)) files then Some (entry_names files (normal path)) else None
