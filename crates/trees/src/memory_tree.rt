@@ -157,8 +157,8 @@ impl Tree for MemoryTree {
     fn reads(&self, alloc: Global, path: AbsPath<'_>) -> Result<Option<Text>, AllocError>
         ensures { IfOk result (λ answer. answer ≡ file_text self.now (abs_text path.entry)) }
     {
-        let path = path.normalize(alloc)?;
-        match self.files.get(&path) {
+        let file = path.normalize(alloc)?;
+        match self.files.get(&file) {
             Some(text) => Ok(Some(text.try_clone(alloc)?)),
             None => Ok(None),
         }

@@ -6,9 +6,9 @@ pub returns-in-Some : goal.returns-in-Some
 returns-in-Some c =
     rw (← c.self.view_is)
     (ap Some c.in_ok-try_clone-in-Some.ensures
-    ∙ c.in-Some.ensures.value ∙ file_text-get c.self.inside.files.entries _ c.in_ok-path.path c.in_ok-path.ensures.same_components)
+    ∙ c.in-Some.ensures.value ∙ file_text-get c.self.inside.files.entries _ c.in_ok-file.file c.in_ok-file.ensures.same_components)
 
 pub returns : goal.returns
 returns c =
     rw (← c.self.view_is)
-    (c.in-None.ensures.value ∙ file_text-get c.self.inside.files.entries _ c.in_ok-path.path c.in_ok-path.ensures.same_components)
+    (c.in-None.ensures.value ∙ file_text-get c.self.inside.files.entries _ c.in_ok-file.file c.in_ok-file.ensures.same_components)
