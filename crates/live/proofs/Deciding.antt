@@ -6,12 +6,12 @@ use Rattle.outside.specs.declared.limits.Limit.TheVariants.{Bytes}
 use Rattle.live.specs.declared.session.Live.{Live}
 use Rattle.live.specs.declared.fault.LiveError.{LiveError}
 use Rattle.live.specs.declared.fault.LiveError.TheVariants.{TooMany}
-use Rattle.live.specs.Lines.{script_lines, whole_lines, partial_line, last_line}
+use Rattle.live_input.specs.Lines.{script_lines, whole_lines, partial_line, last_line}
 use Rattle.live.specs.Run.{Ran, Stops}
 use Rattle.live.specs.Session.{State, Outcome, refused_by, session, turns}
 use Rattle.live.specs.Written.{AppendsFront}
 use Rattle.live.proofs.Outcomes.{turns-refused, pages-append, AppendsFront-longer}
-use Rattle.live.proofs.Cuts.{whole_lines-append}
+use Rattle.live_input.proofs.Cuts.{whole_lines-append}
 
 -- bytes behind a refusal change nothing
 pub Stops-more : (s : State) (fed rest : List ℕ) (error : LiveError) (live : Live) (old new : Option (List ℕ)) → Stops (turns s (whole_lines fed)) error live (old, new)

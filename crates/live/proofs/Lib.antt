@@ -1,13 +1,8 @@
-pub mod Cuts
 pub mod Deciding
 pub mod Existing
-pub mod Gaves
-pub mod Parts
 pub mod TextRows
 pub mod SharedRows
 pub mod BothChanges
-pub mod Numbers
-pub mod Options
 pub mod Outcomes
 pub mod Pages
 pub mod Room

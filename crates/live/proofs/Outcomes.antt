@@ -9,12 +9,12 @@ use Rattle.std.proofs.lemmas.List.{take-append-le}
 use Rattle.std.proofs.Math.Seq.{take-append-add, take-append_seam}
 use Rattle.live.specs.declared.session.Live.{Live}
 use Rattle.live.specs.declared.fault.LiveError.{LiveError}
-use Rattle.live.specs.Event.{event}
+use Rattle.live_input.specs.Event.{event}
 use Rattle.live.specs.Run.{Ran, Stops}
 use Rattle.live.specs.Session.{State, Outcome, start, then_turn, take_line, take_line_after, turn_of, turns}
 use Rattle.live.specs.Turn.{TakesTurn, RefusesTurn}
 use Rattle.live.specs.Written.{AppendsFront, AppendsPages}
-use Rattle.live.proofs.Cuts.{Longer}
+use Rattle.live_input.proofs.Cuts.{Longer}
 
 -- no line
 pub turns-nil : (s : State) → turns s [] ≡ start s

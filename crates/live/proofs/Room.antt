@@ -18,7 +18,7 @@ use Rattle.live.specs.declared.fault.LiveError.{LiveError}
 use Rattle.live.specs.declared.fault.LiveError.TheVariants.{OutOfMemory, TooMany}
 use Rattle.outside.specs.declared.limits.Limit.TheVariants.{Paths}
 use Rattle.live.specs.Session.{State, has_room, mark_turn}
-use Rattle.live.specs.Config.{greatest}
+use Rattle.live_input.specs.Config.{greatest}
 use Rattle.live.specs.Fault.{IsRefusal}
 use Rattle.live.specs.Image.{ShowsFlush}
 use Rattle.live.specs.Marked.{AddsMarkTo}

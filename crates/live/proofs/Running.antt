@@ -5,15 +5,15 @@ use Rattle.outside.specs.Causes.{Rose, Rose-after}
 use Rattle.outside.specs.Source.{Knows-after, Knows-all}
 use Rattle.outside.specs.Sink.{Appends-nil}
 use Rattle.outside.specs.declared.limits.Limit.TheVariants.{Bytes}
-use Rattle.live.specs.Lines.{has_newline, partial_line, whole_lines}
-use Rattle.live.specs.Reader.{Gave, IsCut, IsPast, Reader, Tells, bytes_ahead, fresh}
-use Rattle.live.specs.declared.lines.LineError.{LineError}
-use Rattle.live.specs.declared.lines.LineError.TheVariants.{ReadFault as ReadFault', TooMany as TooMany', OutOfMemory as OutOfMemory', Ended}
-use Rattle.live.proofs.Gaves.{Gave-fresh, script_lines-whole, whole_lines-uncut}
+use Rattle.live_input.specs.Lines.{has_newline, partial_line, whole_lines}
+use Rattle.live_input.specs.Reader.{Gave, IsCut, IsPast, Reader, Tells, bytes_ahead, fresh}
+use Rattle.live_input.specs.declared.lines.LineError.{LineError}
+use Rattle.live_input.specs.declared.lines.LineError.TheVariants.{ReadFault as ReadFault', TooMany as TooMany', OutOfMemory as OutOfMemory', Ended}
+use Rattle.live_input.proofs.Gaves.{Gave-fresh, script_lines-whole, whole_lines-uncut}
 use Rattle.live.specs.declared.session.Live.{Live}
 use Rattle.live.specs.declared.fault.LiveError.{LiveError}
 use Rattle.live.specs.declared.fault.LiveError.TheVariants.{OutOfMemory, Usage, ReadFault, WriteFault, Script, TooMany}
-use Rattle.live.specs.Event.{event}
+use Rattle.live_input.specs.Event.{event}
 use Rattle.live.specs.Fault.{IsOneOf, IsRefusal, fault_of, line_statuses, run_statuses, status_of}
 use Rattle.live.specs.Run.{Completes, Fails, Finishes, HasCause, Ran, Stops, TakesAtMost}
 use Rattle.live.specs.Session.{State, Outcome, session, turn_of, turns}

@@ -8,8 +8,8 @@ use Rattle.vfs_core.specs.declared.marks.Mark.{Mark}
 use Rattle.vfs_core.specs.declared.marks.MarkKind.{MarkKind}
 use Rattle.vfs_sets.specs.Probes.{RaisesAtMost}
 use Rattle.input_db.specs.Database.{Database}
-use Rattle.live.specs.declared.event.Event.{Event}
-use Rattle.live.specs.declared.event.Event.TheVariants.{Flush}
+use Rattle.live_input.specs.declared.event.Event.{Event}
+use Rattle.live_input.specs.declared.event.Event.TheVariants.{Flush}
 use Rattle.live.specs.declared.fault.LiveError.{LiveError}
 use Rattle.live.specs.declared.fault.LiveError.TheVariants.{OutOfMemory, Usage, ReadFault, WriteFault, Script, TooMany}
 use Rattle.live.specs.declared.session.Live.{Live}

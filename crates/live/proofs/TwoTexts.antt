@@ -5,15 +5,15 @@ use Rattle.std.specs.Option.{option_map}
 use Rattle.std.proofs.lemmas.List.Sums.{fold-append}
 use Rattle.vfs_core.specs.VfsPath.{PathContent}
 use Rattle.vfs_core.specs.declared.marks.MarkKind.{MarkKind}
-use Rattle.live.specs.declared.config.LiveConfig.{LiveConfig}
-use Rattle.live.specs.declared.event.Event.{Event}
-use Rattle.live.specs.declared.event.Event.TheVariants.{Exclude, File, Flush}
+use Rattle.live_input.specs.declared.config.LiveConfig.{LiveConfig}
+use Rattle.live_input.specs.declared.event.Event.{Event}
+use Rattle.live_input.specs.declared.event.Event.TheVariants.{Exclude, File, Flush}
 use Rattle.live.specs.declared.fault.LiveError.{LiveError}
-use Rattle.live.specs.Event.{event}
+use Rattle.live_input.specs.Event.{event}
 use Rattle.live.specs.Laws.{IsJoined, SessionsJoin, counted_on}
-use Rattle.live.specs.Lines.{final, front, last_line, newline, pieces, script_lines, partial_line, whole_lines}
+use Rattle.live_input.specs.Lines.{final, front, last_line, newline, pieces, script_lines, partial_line, whole_lines}
 use Rattle.live.specs.Session.{Outcome, State, has_room, mark_turn, session, start, take_line, take_line_after, turn, turn_of, turns}
-use Rattle.live.proofs.Cuts.{parts_of}
+use Rattle.live_input.proofs.Cuts.{parts_of}
 use Rattle.live.proofs.Deciding.{session-within}
 
 -- the pieces of a text, the first of which goes on a piece before it

@@ -2,13 +2,13 @@
 use Rattle.std.specs.Prelude.{◌≡◌, ℕ, List, [], ◌∷◌, ◌+◌, ◌⊎◌, Option, Some, None, Result, IsErrOf, String, map, string_bytes}
 use Rattle.std.specs.Option.{option_map}
 use Rattle.std.specs.declared.alloc.Global.{Global}
-use Rattle.live.specs.declared.config.LiveConfig.{LiveConfig}
+use Rattle.live_input.specs.declared.config.LiveConfig.{LiveConfig}
 use Rattle.live.specs.declared.session.Live.{Live}
 use Rattle.live.specs.declared.fault.LiveError.{LiveError}
 use Rattle.live.specs.declared.fault.LiveError.TheVariants.{OutOfMemory, Usage}
-use Rattle.live.specs.declared.config.Command.{Command}
-use Rattle.live.specs.declared.config.Command.TheVariants.{Run}
-use Rattle.live.specs.Config.{command_of}
+use Rattle.live_input.specs.declared.config.Command.{Command}
+use Rattle.live_input.specs.declared.config.Command.TheVariants.{Run}
+use Rattle.live_input.specs.Config.{command_of}
 use Rattle.live.specs.Fault.{status_of, text_of}
 use Rattle.live.specs.Run.{Completes, FailsFrom, Finishes, TakesAtMost}
 use Rattle.live.specs.Session.{State, session}

@@ -1,13 +1,8 @@
 pub mod Cli
-pub mod Config
-pub mod Event
 pub mod Fault
 pub mod Laws
-pub mod Lines
 pub mod LiveTexts
 pub mod Marked
-pub mod Pieces
-pub mod Reader
 pub mod Page
 pub mod Run
 pub mod Session

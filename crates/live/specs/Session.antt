@@ -8,13 +8,13 @@ use Rattle.vfs_core.specs.declared.marks.MarkKind.{MarkKind}
 use Rattle.vfs_core.specs.declared.marks.MarkKind.TheVariants.{Out}
 use Rattle.vfs_core.specs.Marks.{live_files, mentioned_paths}
 use Rattle.vfs_core.specs.Files.{kind_of}
-use Rattle.live.specs.declared.config.LiveConfig.{LiveConfig}
-use Rattle.live.specs.declared.event.Event.{Event}
-use Rattle.live.specs.declared.event.Event.TheVariants.{Exclude, File, Flush as FlushEvent}
+use Rattle.live_input.specs.declared.config.LiveConfig.{LiveConfig}
+use Rattle.live_input.specs.declared.event.Event.{Event}
+use Rattle.live_input.specs.declared.event.Event.TheVariants.{Exclude, File, Flush as FlushEvent}
 use Rattle.live.specs.declared.fault.LiveError.{LiveError}
 use Rattle.live.specs.declared.fault.LiveError.TheVariants.{Script, TooMany}
-use Rattle.live.specs.Event.{event}
-use Rattle.live.specs.Lines.{script_lines, whole_lines}
+use Rattle.live_input.specs.Event.{event}
+use Rattle.live_input.specs.Lines.{script_lines, whole_lines}
 use Rattle.live.specs.Page.{Flush, page}
 
 -- what a session knows: its configuration, what was said of files (newest first), what the last flush brought into the

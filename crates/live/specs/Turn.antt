@@ -9,13 +9,13 @@ use Rattle.vfs_sets.specs.Probes.{CountsPlacing, RaisesAtMost, most_probes}
 use Rattle.input_db.specs.Database.{Database}
 use Rattle.source_files.specs.Files.{text_of}
 use Rattle.live.specs.declared.session.Live.{Live}
-use Rattle.live.specs.declared.event.Event.{Event}
-use Rattle.live.specs.declared.event.Event.TheVariants.{Flush as FlushEvent}
+use Rattle.live_input.specs.declared.event.Event.{Event}
+use Rattle.live_input.specs.declared.event.Event.TheVariants.{Flush as FlushEvent}
 use Rattle.live.specs.declared.fault.LiveError.{LiveError}
 use Rattle.live.specs.declared.fault.LiveError.TheVariants.{WriteFault}
 use Rattle.live.specs.declared.fault.StepError.{StepError}
 use Rattle.live.specs.declared.fault.StepError.TheVariants.{Refused, Ended}
-use Rattle.live.specs.Config.{nothing_given, set_by}
+use Rattle.live_input.specs.Config.{nothing_given, set_by}
 use Rattle.live.specs.Fault.{IsRefusal, turn_statuses}
 use Rattle.live.specs.Image.{ShowsFlush, image, shape}
 use Rattle.live.specs.LiveTexts.{KeepsTexts}

@@ -2,18 +2,18 @@
 
 ghost use Rattle.std.specs.Prelude.{◌≡◌, ◌∷◌, [], ℕ, List, IfErr, OnOk, Some};
 ghost use Rattle.live.specs.Cli.{CompletesAs, CompletesFor, FailsAs, FailsFor, FinishesAs, TakesFor, UsageError, UsageExactly, state_for, texts_of};
-ghost use Rattle.live.specs.Config.{command_of};
+ghost use Rattle.live_input.specs.Config.{command_of};
 ghost use Rattle.live.specs.Fault.{all_statuses, status_of, text_of, word_statuses};
 ghost use Rattle.live.specs.Run.{HasCause, IsFaultless};
 ghost use Rattle.live.specs.Session.{State};
 ghost use Rattle.live.specs.Turn.{HasEnded, Holds};
 ghost use Rattle.live.specs.Written.{AppendsFront};
 
-use crate::config::{Command, WordsError};
 use crate::fault::{LiveError, fault_text};
 use crate::run::live_run;
 use crate::session::Live;
 use base_text::{ByteSink, ByteSource, write_all};
+use live_input::{Command, WordsError};
 use std::alloc::Global;
 
 /// Reads the words, runs the script on the session, and answers the exit status. On a refusal its text

@@ -1,15 +1,14 @@
 //! A session that takes events one by one.
 
-ghost use Rattle.live.specs.Config.{Fits};
+ghost use Rattle.live_input.specs.Config.{Fits};
 
-use crate::config::LiveConfig;
-use crate::event::Event;
 use crate::fault::{LiveError, StepError};
 use crate::live_texts::LiveTexts;
 use crate::page::write_page;
 use crate::refresh::{give_changes, give_roots, source_roots};
 use base_text::{ByteSink, Counter, Ledger, Limit, Limits, Numbers, Steps, Text, TryClone};
 use input_db::{InputDb, Nonce};
+use live_input::{Event, LiveConfig};
 use std::alloc::{AllocError, Global};
 use vfs_core::{Vfs, VfsError, VfsPath};
 use vfs_sets::FileSetConfig;
@@ -31,19 +30,19 @@ impl Live {
     ghost use Rattle.input_db.specs.Database.{empty_database};
     ghost use Rattle.vfs_core.specs.Files.{IsFullFor, kind_of};
     ghost use Rattle.vfs_core.specs.declared.marks.MarkKind.TheVariants.{Out};
-    ghost use Rattle.live.specs.Config.{Fits, config_of};
+    ghost use Rattle.live_input.specs.Config.{Fits, config_of};
     ghost use Rattle.live.specs.Fault.{IsOneOf, flush_statuses, status_of, turn_statuses};
     ghost use Rattle.live.specs.Marked.{AddsMarkTo, SparesFiles};
     ghost use Rattle.live.specs.Refresh.{Refreshes};
     ghost use Rattle.live.specs.Session.{State, ended_state, flush_of, flush_turn, state_after_failure, turn};
     ghost use Rattle.live.specs.Turn.{CountsFlush, EndsTurn, FailsStep, HasEnded, HasStepCause, Holds, LeavesAsWas, ShowsShape, TakesTurn, first_state};
     ghost use Rattle.live.specs.Written.{HasWriteCause};
-    ghost use Rattle.live.specs.declared.event.Event.TheVariants.{Exclude, File, Flush};
+    ghost use Rattle.live_input.specs.declared.event.Event.TheVariants.{Exclude, File, Flush};
     ghost use Rattle.live.specs.declared.fault.LiveError.TheVariants.{OutOfMemory, TooMany};
     ghost use Rattle.live.specs.declared.fault.StepError.TheVariants.{Ended};
     ghost use Rattle.outside.specs.declared.limits.Limit.TheVariants.{Paths};
 
-    #[tactic(auto, unfolding(crate::specs::Config::config_of))]
+    #[tactic(auto, unfolding(live_input::specs::Config::config_of))]
     /// A session to which nothing was said, with the configuration of no words and an empty database.
     pub fn new(alloc: Global) -> Result<Live, AllocError>
         ensures holds { IfOk result (λ live. Holds live first_state) }

@@ -1,6 +1,6 @@
 -- What a program answers to words and a script where nothing fails: the status of its session's refusal, and its pages.
 use Rattle.std.specs.Prelude.{ℕ, List, [], Option, Some, None}
-use Rattle.live.specs.declared.config.LiveConfig.{LiveConfig}
+use Rattle.live_input.specs.declared.config.LiveConfig.{LiveConfig}
 use Rattle.live.specs.declared.fault.LiveError.{LiveError}
 use Rattle.live.specs.declared.fault.LiveError.TheVariants.{Usage}
 use Rattle.live.specs.Cli.{with_config}

@@ -8,7 +8,7 @@ mod turn;
 
 ghost use Rattle.std.specs.Prelude.{◌≡◌, IfOk};
 ghost use Rattle.live.specs.Cli.{texts_of};
-ghost use Rattle.live.specs.Config.{config_of};
+ghost use Rattle.live_input.specs.Config.{config_of};
 ghost use Rattle.live.specs.Session.{session};
 ghost use Rattle.live_plain.specs.Answer.{answer_of, status_after};
 
@@ -167,7 +167,7 @@ impl PlainOutcome {
 }
 
 /// The session of a state and the bytes of a script. Its time grows with the square of the script.
-#[tactic(auto, unfolding(live::specs::Session::session, live::specs::Lines::script_lines, live::specs::Lines::whole_lines, live::specs::Lines::partial_line))]
+#[tactic(auto, unfolding(live::specs::Session::session, live_input::specs::Lines::script_lines, live_input::specs::Lines::whole_lines, live_input::specs::Lines::partial_line))]
 pub fn plain_session(
     alloc: Global,
     state: PlainState,

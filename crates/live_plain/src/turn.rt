@@ -2,7 +2,7 @@
 
 ghost use Rattle.std.specs.Prelude.{◌≡◌, ◌^◌, ◌+◌, ◌-◌, ◌<◌, ◌≤◌, [], ◌∷◌, ◌++◌, IfOk, Some, map};
 ghost use Rattle.vfs_core.specs.Files.{kind_of};
-ghost use Rattle.live.specs.Event.{event};
+ghost use Rattle.live_input.specs.Event.{event};
 ghost use Rattle.live.specs.Session.{has_room, mark_turn, refuses, take_line, takes, turn, turn_of, turns};
 
 use crate::page::{flush_of, is_among, mentioned_paths, page};

@@ -2,7 +2,7 @@
 
 ghost use Rattle.std.specs.Prelude.{◌≡◌, ℕ, List, Some};
 ghost use Rattle.live.specs.Cli.{CompletesAs, TakesFor, UsageExactly, state_for, texts_of};
-ghost use Rattle.live.specs.Config.{command_of};
+ghost use Rattle.live_input.specs.Config.{command_of};
 ghost use Rattle.live.specs.Fault.{all_statuses};
 ghost use Rattle.live.specs.Run.{HasCause, IsFaultless};
 ghost use Rattle.live.specs.Turn.{first_state};

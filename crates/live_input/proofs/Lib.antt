@@ -1,0 +1,5 @@
+pub mod Cuts
+pub mod Gaves
+pub mod Parts
+pub mod Numbers
+pub mod Options

@@ -1,0 +1,52 @@
+use Rattle.std.proofs.Common.{◌≡◌, ◌-◌, ◌++◌, ◌∷◌, ◌==◌, ◌∙◌, [], Ok, false, true, length, length-take, refl, sym, ap, subst, arith}
+use Rattle.live_input.specs.Lines.{last_line}
+use Rattle.live_input.specs.Pieces.{Moves}
+use Rattle.live_input.specs.Reader.{lines_after}
+use Rattle.live_input.proofs.Gaves.{not_idle, Gave-moved, Gave-end, Gave-line, Gave-read, moved_uncut, moved_length, after_end, empty_from, some_from}
+use Rattle.live_input.proofs.lines.Lines.read_line.Goals.{then-is_empty, else-is_empty}
+use Rattle.live_input.proofs.lines.Lines.read_line.Goals as goal
+
+pub returns-then-count-eq0-clause-gave : goal.returns-then-count-eq0-clause-gave
+returns-then-count-eq0-clause-gave g c = λ limit first given gave.
+    let moves : Moves false c.loop-self.self-inside.piece c.move_line.new.self c.loop-self.self-inside.line.items c.move_line.new.line.items =
+    subst (λ f. Moves f c.loop-self.self-inside.piece c.move_line.new.self c.loop-self.self-inside.line.items c.move_line.new.line.items) c.if-not-branch.true c.in_ok-move_line.ensures.ok in
+    let before = c.loop-self.invariant.0.keeps limit first given gave in
+    let here = Gave-moved _ _ _ _ _ _ _ _ _ _ _ _ c.loop-self.invariant.0.not_done c.loop-self.invariant.0.uncut before moves in
+    let uncut = moved_uncut _ _ _ _ _ moves c.loop-self.invariant.0.uncut in
+    let none : c.replace-last.new.dest.items ≡ [] = ap (λ v. v.items) c.replace-last.ensures.after ∙ c.new.ensures.items in
+    let last : c.replace-last.result.items ≡ c.move_line.new.line.items = ap (λ v. v.items) c.replace-last.ensures.value in
+    let lines : lines_after given (Ok c.if-is_empty.result) ≡ given ++ last_line c.move_line.new.line.items = elim c.if-is_empty.branch [
+      | then-is_empty w ↦ ap (λ r. lines_after given (Ok r)) w.result-is ∙ (after_end given c.move_line.new.line.items).0 (sym last ∙ empty_from c.replace-last.result.items (w.if-is_empty.ensures ∙ ap (λ n. n == 0) c.replace-last.result.ok.0))
+      | else-is_empty w ↦ ap (λ r. lines_after given (Ok r)) w.result-is ∙ ap (λ l. given ++ l ∷ []) last ∙ (after_end given c.move_line.new.line.items).1 (λ e. some_from c.replace-last.result.items (w.if-is_empty.ensures ∙ ap (λ n. n == 0) c.replace-last.result.ok.0) (last ∙ e))
+    ] in
+    Gave-end _ _ _ _ _ _ [] _ _ _ _ _ c.loop-self.invariant.0.not_done uncut here _ _ c.in_ok-count.ensures.ok c.if-count-eq0.true c.if-self-2.false (moves.whole refl) _ none _ lines
+
+pub loop-self-preserved : goal.loop-self-preserved
+loop-self-preserved g c =
+    let moves : Moves false c.loop-self.self-inside.piece c.move_line.new.self c.loop-self.self-inside.line.items c.move_line.new.line.items =
+    subst (λ f. Moves f c.loop-self.self-inside.piece c.move_line.new.self c.loop-self.self-inside.line.items c.move_line.new.line.items) c.if-not-branch.true c.in_ok-move_line.ensures.ok in
+    let uncut = moved_uncut _ _ _ _ _ moves c.loop-self.invariant.0.uncut in
+    let room : c.saturating_sub-self-inside.result ≡ c.loop-self.self-inside.room - c.in_ok-count.count = omega (arith, c.saturating_sub-self-inside.ensures) in (
+      record {
+        keeps = λ limit first given gave.
+            let before = c.loop-self.invariant.0.keeps limit first given gave in
+            let here = Gave-moved _ _ _ _ _ _ _ _ _ _ _ _ c.loop-self.invariant.0.not_done c.loop-self.invariant.0.uncut before moves in
+            rw room (Gave-read _ _ _ _ _ _ [] _ _ _ _ _ c.loop-self.invariant.0.not_done uncut here _ _ c.in_ok-count.ensures.ok c.if-self-2.false (moves.whole refl));
+        uncut = uncut;
+        small = omega (arith, room, c.loop-self.invariant.0.small);
+        ahead = omega (arith, room, c.loop-self.invariant.0.ahead, moved_length _ _ _ _ _ moves, ap length c.in_ok-count.ensures.ok.piece_is, length-take c.loop-self.self-inside.room c.in_ok-count.ensures.ok.bytes, c.in_ok-count.ensures.ok.many);
+        not_done = c.loop-self.invariant.0.not_done;
+        not_ended = c.loop-self.invariant.0.not_ended;
+        later = omega (arith, c.loop-self.invariant.0.later, c.in_ok-count.ensures.faults);
+      },
+      record { idle = λ waits. absurd (not_idle _ _ _ _ _ _ _ c.loop-self.invariant.1 moves c.loop-self.invariant.0.uncut waits) },
+    )
+
+pub returns-clause-gave : goal.returns-clause-gave
+returns-clause-gave g c = λ limit first given gave.
+    let moves : Moves true c.loop-self.self-inside.piece c.move_line.new.self c.loop-self.self-inside.line.items c.move_line.new.line.items =
+    subst (λ f. Moves f c.loop-self.self-inside.piece c.move_line.new.self c.loop-self.self-inside.line.items c.move_line.new.line.items) c.if-not-branch.false c.in_ok-move_line.ensures.ok in
+    let before = c.loop-self.invariant.0.keeps limit first given gave in
+    let none : c.replace-line.new.dest.items ≡ [] = ap (λ v. v.items) c.replace-line.ensures.after ∙ c.new-2.ensures.items in
+    let line : c.replace-line.result.items ≡ c.move_line.new.line.items = ap (λ v. v.items) c.replace-line.ensures.value in
+    rw line (Gave-line _ _ _ _ _ _ _ _ _ _ _ _ c.loop-self.invariant.0.not_done c.loop-self.invariant.0.uncut before moves _ none)

@@ -1,0 +1,11 @@
+//! What comes into a session: the lines of a script, the event of each, and the words of the command line.
+#![tactic(auto)]
+
+pub mod config;
+pub mod event;
+pub mod lines;
+mod piece;
+
+pub use config::{Command, LiveConfig, WordsError};
+pub use event::{Event, EventError};
+pub use lines::{LineError, Lines};
