@@ -1,59 +1,16 @@
 -- What a line, a read and the end do to what a reader gave.
-use Rattle.std.proofs.Common.{◌≡◌, ℕ, ◌-◌, ◌≤◌, inl, Bool, true, false, true≢false, List, [], ◌∷◌, ◌++◌, ◌==◌, ◌||◌, Option, Some, None, option_map, Result, Ok, Err, length, map, refl, sym, ap, subst, ◌∙◌, append_assoc, append-nil, length-append, arith}
+use Rattle.std.proofs.Common.{◌≡◌, ℕ, ◌-◌, ◌≤◌, inl, Bool, true, false, true≢false, List, [], ◌∷◌, ◌++◌, Option, Some, None, option_map, Result, Ok, Err, length, map, refl, sym, ap, subst, ◌∙◌, append_assoc, append-nil, length-append, arith}
 use Rattle.std.specs.Result.{IsErr}
 use Rattle.std.specs.Io.KnownBytes.{Consumes}
 use Rattle.std.proofs.KnownBytes.{Consumes-trans}
-use Rattle.std.proofs.lemmas.List.{map-append}
-use Rattle.std.proofs.lemmas.List.Folds.{list_any-append}
-use Rattle.bounded_lines.specs.Lines.{newline, has_newline, whole_lines, partial_line, lines_of, last_line}
+use Rattle.std.proofs.lemmas.List.{map-append, nil_from_length}
+use Rattle.bounded_lines.specs.Lines.{newline, has_newline, partial_line, lines_of, last_line}
 use Rattle.bounded_lines.specs.Part.{IsHeld, Part, bytes_of, item_of, last_item_of, no_part}
 use Rattle.bounded_lines.specs.Pieces.{Moves, Reads, rest_of}
 use Rattle.bounded_lines.specs.Reader.{Reader, Gave, HoldsFew, IsCut, Tells, lines_after}
 use Rattle.bounded_lines.specs.declared.lines.Line.{Line}
 use Rattle.bounded_lines.specs.declared.lines.LineError.{LineError}
-use Rattle.bounded_lines.proofs.Cuts.{whole_lines-newline, partial_line-newline, whole_lines-other, partial_line-other}
-
-first_uncut : (b : ℕ) (part : List ℕ) → has_newline (b ∷ part) ≡ false → (b == newline) ≡ false
-first_uncut b part h = elim (b == newline) as (λ v. (v || has_newline part) ≡ false → v ≡ false) [ true ↦ λ e. e | false ↦ λ e. refl ] h
-
-rest_uncut : (b : ℕ) (part : List ℕ) → has_newline (b ∷ part) ≡ false → has_newline part ≡ false
-rest_uncut b part h = elim (b == newline) as (λ v. (v || has_newline part) ≡ false → has_newline part ≡ false) [ true ↦ λ e. absurd (cc) | false ↦ λ e. e ] h
-
--- bytes without newline end no line
-whole_lines-uncut : (front part : List ℕ) → has_newline part ≡ false → whole_lines (front ++ part) ≡ whole_lines front
-whole_lines-uncut front [] h = ap whole_lines (append-nil front)
-whole_lines-uncut front (b ∷ part) h =
-    ap whole_lines (sym (append_assoc front (b ∷ []) part)) ∙ whole_lines-uncut (front ++ b ∷ []) part (rest_uncut b part h) ∙ whole_lines-other front b (first_uncut b part h)
-
-partial_line-uncut : (front part : List ℕ) → has_newline part ≡ false → partial_line (front ++ part) ≡ partial_line front ++ part
-partial_line-uncut front [] h = ap partial_line (append-nil front) ∙ sym (append-nil (partial_line front))
-partial_line-uncut front (b ∷ part) h =
-    ap partial_line (sym (append_assoc front (b ∷ []) part)) ∙ partial_line-uncut (front ++ b ∷ []) part (rest_uncut b part h) ∙ ap (λ l. l ++ part) (partial_line-other front b (first_uncut b part h)) ∙ append_assoc (partial_line front) (b ∷ []) part
-
--- what ends in a newline has whole lines alone
-pub lines_of-whole : (front : List ℕ) → partial_line front ≡ [] → lines_of front ≡ whole_lines front
-unfolding lines_of
-lines_of-whole front h = ap (λ l. whole_lines front ++ last_line l) h ∙ append-nil (whole_lines front)
-
-module _ (front line : List ℕ) (cut : partial_line front ≡ []) (uncut : has_newline line ≡ false) where
-  at_line : partial_line (front ++ line) ≡ line
-  at_line = partial_line-uncut front line uncut ∙ ap (λ l. l ++ line) cut
-
-  -- one more line with its newline
-  partial_line-line : partial_line (front ++ (line ++ newline ∷ [])) ≡ []
-  partial_line-line = ap partial_line (sym (append_assoc front line (newline ∷ []))) ∙ partial_line-newline (front ++ line)
-
-  lines_of-line : lines_of (front ++ (line ++ newline ∷ [])) ≡ lines_of front ++ line ∷ []
-  lines_of-line =
-      lines_of-whole _ partial_line-line ∙ ap whole_lines (sym (append_assoc front line (newline ∷ []))) ∙ whole_lines-newline (front ++ line)
-      ∙ ap (λ ls. ls ++ partial_line (front ++ line) ∷ []) (whole_lines-uncut front line uncut ∙ sym (lines_of-whole front cut)) ∙ ap (λ l. lines_of front ++ l ∷ []) at_line
-
-  -- and what no newline ends, which is a last line where it is not empty
-  lines_of-end : lines_of (front ++ line) ≡ lines_of front ++ last_line line
-  unfolding lines_of
-  lines_of-end =
-      ap (λ ls. ls ++ last_line (partial_line (front ++ line))) (whole_lines-uncut front line uncut ∙ sym (lines_of-whole front cut))
-      ∙ ap (λ l. lines_of front ++ last_line l) at_line
+use Rattle.bounded_lines.proofs.LineEnds.{lines_of-end, lines_of-line, partial_line-line, uncut-append}
 
 -- a reader by its fields
 abbrev pub reader : Part → List ℕ → ℕ → Bool → Reader
@@ -65,11 +22,6 @@ pub record Reading (old : Reader) (left₀ left : Option (List ℕ)) (before now
   pub few : HoldsFew old → HoldsFew (reader part piece room done)
   pub not_done : done ≡ false
   pub later : before ≤ now
-
--- a list with no item
-nothing_of : (xs : List ℕ) → length xs ≡ 0 → xs ≡ []
-nothing_of [] h = refl
-nothing_of (x ∷ xs) h = absurd (omega arith)
 
 -- what is given of a last line, as a list
 pub listed : Option (Option (List ℕ)) → List (Option (List ℕ))
@@ -90,10 +42,6 @@ after_last given (Some line) = refl
 pub after_error : (given : List (Option (List ℕ))) (result : Result (Option Line) LineError) → IsErr result → lines_after given result ≡ given
 after_error given (Ok line) h = absurd (true≢false (sym h))
 after_error given (Err error) h = refl
-
--- what was looked at has no newline
-moved_uncut : {found : Bool} {piece piece' : List ℕ} {part part' : Part} (line : List ℕ) (moves : Moves found piece piece' part part') → has_newline line ≡ false → has_newline (line ++ moves.part) ≡ false
-moved_uncut line moves uncut = list_any-append (λ b. b == newline) line moves.part ∙ ap (λ v. v || has_newline moves.part) uncut ∙ moves.uncut
 
 module _ (first left : Option (List ℕ)) (given : List (Option (List ℕ))) (part : Part) (piece : List ℕ) (room : ℕ) (done : Bool) (not_done : done ≡ false)
     (gave : Gave first left given (reader part piece room done)) where
@@ -127,7 +75,7 @@ module _ (first left : Option (List ℕ)) (given : List (Option (List ℕ))) (pa
           taken = subst (Consumes first left) (ap (λ w. gave.front ++ w) same) gave.taken;
           items = ap (λ m. map (item_of m) (lines_of gave.front)) moves.bound ∙ gave.items;
           held = moves.adds gave.line gave.held;
-          uncut = moved_uncut gave.line moves gave.uncut;
+          uncut = uncut-append gave.line moves.part gave.uncut moves.uncut;
           within = omega (arith, gave.within, ap length same, length-append gave.line piece, length-append line' piece');
           cut = subst (λ w. IsCut done gave.front w left) same gave.cut;
         }
@@ -138,7 +86,7 @@ module _ (first left : Option (List ℕ)) (given : List (Option (List ℕ))) (pa
     Gave-line moves item gives =
         let line' = gave.line ++ moves.part in
         let front' = gave.front ++ (line' ++ newline ∷ []) in
-        let whole : has_newline line' ≡ false = moved_uncut gave.line moves gave.uncut in
+        let whole : has_newline line' ≡ false = uncut-append gave.line moves.part gave.uncut moves.uncut in
         let same : gave.line ++ piece ≡ (line' ++ newline ∷ []) ++ piece' = ap (λ p. gave.line ++ p) moves.piece_is ∙ sym (append_assoc gave.line moves.part (newline ∷ piece')) ∙ sym (append_assoc line' (newline ∷ []) piece') in
         let all : gave.front ++ (gave.line ++ piece) ≡ front' ++ piece' = ap (λ w. gave.front ++ w) same ∙ sym (append_assoc gave.front (line' ++ newline ∷ []) piece') in
         record {
@@ -177,7 +125,7 @@ module _ (first left : Option (List ℕ)) (given : List (Option (List ℕ))) (pa
     pub Gave-end : count ≡ 0 → (last : Option (Option (List ℕ))) → ((line : List ℕ) → IsHeld line part → last ≡ last_item_of part.max_line line)
         → Gave first left' (given ++ listed last) (reader (no_part part.max_line) piece' room true)
     Gave-end none last gives =
-        let no_piece : piece' ≡ [] = nothing_of piece' (reads.many ∙ none) in
+        let no_piece : piece' ≡ [] = nil_from_length piece' (reads.many ∙ none) in
         let front' = gave.front ++ gave.line in
         record {
           front = front';

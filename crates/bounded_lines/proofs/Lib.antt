@@ -1,4 +1,6 @@
-mod Cuts
+pub mod Bytes
+pub mod Cuts
+pub mod LineEnds
 mod Parts
 mod Gaves
 pub mod Wholes

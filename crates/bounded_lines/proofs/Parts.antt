@@ -1,36 +1,24 @@
 -- How a line is taken from a piece, and what is given of a line.
-use Rattle.std.proofs.Common.{◌≡◌, ℕ, ◌+◌, ◌-◌, ◌<◌, ◌≤◌, true, false, [], List, ◌∷◌, ◌++◌, ◌==◌, Option, Some, None, length, take, drop, get_or, nat_le, refl, sym, ap, subst, ◌∙◌, length-take, take-append-drop, drop-cons, add-one, arith}
-use Rattle.std.proofs.lemmas.List.{drop-take, drop-drop}
+use Rattle.std.proofs.Common.{◌≡◌, ℕ, ◌+◌, ◌<◌, ◌≤◌, true, false, [], List, ◌∷◌, ◌++◌, Option, Some, None, length, take, nat_le, refl, sym, ap, subst, arith}
 use Rattle.std.proofs.lemmas.Bool.Decides.{nat_tests}
 use Rattle.std.specs.List.{slice_range}
 use Rattle.bounded_lines.specs.Part.{IsHeld, IsHeldAs, Part, item_of, last_item_of}
 use Rattle.bounded_lines.specs.Pieces.{IsFirstNewline, Moves}
-
--- a part of a list behind one of its places
-range_after : (bytes : List ℕ) (start end n : ℕ) → start + n ≤ end → drop n (slice_range bytes start end) ≡ slice_range bytes (start + n) end
-range_after bytes start end n h =
-    let cut : end - start ≡ n + (end - (start + n)) = omega arith in
-    ap (λ m. drop n (take m (drop start bytes))) cut ∙ drop-take n (end - (start + n)) (drop start bytes) ∙ ap (take (end - (start + n))) (drop-drop n start bytes)
+use Rattle.bounded_lines.proofs.Bytes.{IsFirstNewline-cut}
 
 -- a line that ends at the first newline
 pub Moves-found : (bytes : List ℕ) (start end at : ℕ) (held held' : Part) → start ≤ end → end ≤ length bytes → IsFirstNewline (slice_range bytes start end) at
     → ((line : List ℕ) → IsHeld line held → IsHeld (line ++ take at (slice_range bytes start end)) held') → held'.max_line ≡ held.max_line → length held'.bytes ≤ held'.max_line
     → Moves true (slice_range bytes start end) (slice_range bytes (start + (at + 1)) end) held held'
-Moves-found bytes start end at held held' ordered fits first adds bound few =
-    let part = slice_range bytes start end in
-    let inside : at < length part = first.within in
-    let short : start + (at + 1) ≤ end = omega (arith, length-take (end - start) (drop start bytes)) in
-    record {
-      part = take at part;
-      uncut = first.before;
-      piece_is = sym (take-append-drop at part) ∙ ap (λ l. take at part ++ l)
-          (drop-cons part at 0 inside ∙ ap (λ n. get_or part at 0 ∷ drop n part) (sym (add-one at)) ∙ ap (λ l. get_or part at 0 ∷ l) (range_after bytes start end (at + 1) short)
-          ∙ ap (λ b. b ∷ slice_range bytes (start + (at + 1)) end) first.here);
-      adds = adds;
-      bound = bound;
-      few = few;
-      whole = λ e. absurd (cc);
-    }
+Moves-found bytes start end at held held' ordered fits first adds bound few = record {
+  part = take at (slice_range bytes start end);
+  uncut = first.before;
+  piece_is = IsFirstNewline-cut bytes start end at ordered fits first;
+  adds = adds;
+  bound = bound;
+  few = few;
+  whole = λ e. absurd (cc);
+}
 
 -- what is given of a line that is too long
 pub item-long : (held : Part) (line : List ℕ) → IsHeld line held → held.is_long ≡ true → None ≡ item_of held.max_line line
@@ -66,11 +54,3 @@ last_item-some held [] h some =
       | true ↦ λ e said. absurd (omega (arith, said.1))
       | false ↦ λ e said. absurd (some e (sym said.0))
     ] refl h
-
--- what a test for emptiness tells
-pub empty_from : (p : List ℕ) → true ≡ (length p == 0) → p ≡ []
-empty_from [] h = refl
-empty_from (b ∷ bs) h = absurd (grind (arith, nat_tests))
-
-pub some_from : (p : List ℕ) → false ≡ (length p == 0) → p ≡ [] → ⊥
-some_from p h e = let none : length p ≡ 0 = ap length e in grind (arith, nat_tests)

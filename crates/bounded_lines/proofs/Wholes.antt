@@ -8,11 +8,7 @@ use Rattle.bounded_lines.specs.Lines.{last_line, lines_of, partial_line, whole_l
 use Rattle.bounded_lines.specs.Part.{item_of}
 use Rattle.bounded_lines.specs.Reader.{Gave, IsCut, IsFrontOf, Reader, new_reader}
 use Rattle.bounded_lines.proofs.Cuts.{partial_line-nil, whole_lines-append}
-use Rattle.bounded_lines.proofs.Gaves.{lines_of-whole}
-
-lines_of-nil : lines_of [] ≡ []
-unfolding lines_of whole_lines partial_line
-lines_of-nil = refl
+use Rattle.bounded_lines.proofs.LineEnds.{lines_of-nil, lines_of-whole}
 
 -- nothing was given before the first read
 pub Gave-fresh : (max : ℕ) (left : Option (List ℕ)) → Gave left left [] (new_reader max)
@@ -33,9 +29,9 @@ unfolding lines_of
 lines_of-front front rest cut =
     let more = whole_lines-append front rest in
     record {
-      rest = more.more ++ last_line (partial_line (front ++ rest));
-      is = ap (λ ls. ls ++ last_line (partial_line (front ++ rest))) more.is ∙ append_assoc (whole_lines front) more.more (last_line (partial_line (front ++ rest)))
-          ∙ ap (λ ls. ls ++ (more.more ++ last_line (partial_line (front ++ rest)))) (sym (lines_of-whole front cut));
+      rest = more.rest ++ last_line (partial_line (front ++ rest));
+      is = ap (λ ls. ls ++ last_line (partial_line (front ++ rest))) more.is ∙ append_assoc (whole_lines front) more.rest (last_line (partial_line (front ++ rest)))
+          ∙ ap (λ ls. ls ++ (more.rest ++ last_line (partial_line (front ++ rest)))) (sym (lines_of-whole front cut));
     }
 
 module _ (bytes : List ℕ) (left : Option (List ℕ)) (given : List (Option (List ℕ))) (reader : Reader) (gave : Gave (Some bytes) left given reader) where

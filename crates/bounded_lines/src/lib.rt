@@ -3,7 +3,9 @@
 
 pub mod laws;
 pub mod lines;
+pub mod newline;
 mod part;
 mod piece;
 
 pub use lines::{BoundedLines, Line, LineError};
+pub use newline::newline_at;

@@ -1,12 +1,12 @@
 //! The bytes of one read, which are looked at line by line.
 
-ghost use Rattle.std.specs.Prelude.{◌≡◌, ◌≤◌, ◌<◌, [], length, take, IfErr, IfOk, OnErr, OnOk, MatchOption, false};
+ghost use Rattle.std.specs.Prelude.{◌≡◌, ◌≤◌, ◌<◌, [], length, take, IfErr, IfOk, OnErr, OnOk};
 ghost use Rattle.std.specs.Io.KnownBytes.{Consumes, IsAtEnd};
 ghost use Rattle.outside.specs.Causes.{HasCause};
-ghost use Rattle.bounded_lines.specs.Lines.{has_newline};
-ghost use Rattle.bounded_lines.specs.Pieces.{HasCauseOf, IsFirstNewline, Moves, Reads};
+ghost use Rattle.bounded_lines.specs.Pieces.{HasCauseOf, Moves, Reads};
 
 use crate::lines::LineError;
+use crate::newline::newline_at;
 use crate::part::LinePart;
 use outside::{ByteSource, Failed};
 use std::alloc::{AllocError, Global};
@@ -116,17 +116,4 @@ fn read_some<S: ByteSource>(input: &mut S, buffer: &mut [u8], room: u64) -> Resu
 {
     let most = room.min(buffer.len() as u64) as usize;
     input.read(&mut buffer[..most])
-}
-
-// The place of the first newline.
-fn newline_at(bytes: &[u8]) -> Option<usize>
-    ensures { MatchOption result (has_newline bytes.now ≡ false)
-        (λ at. IsFirstNewline bytes.now at) }
-{
-    for (at, byte) in bytes.iter().enumerate() {
-        if *byte == b'\n' {
-            return Some(at);
-        }
-    }
-    None
 }

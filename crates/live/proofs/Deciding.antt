@@ -6,28 +6,28 @@ use Rattle.outside.specs.declared.limits.Limit.TheVariants.{Bytes}
 use Rattle.live.specs.declared.session.Live.{Live}
 use Rattle.live.specs.declared.fault.LiveError.{LiveError}
 use Rattle.live.specs.declared.fault.LiveError.TheVariants.{TooMany}
-use Rattle.live_input.specs.Lines.{script_lines, whole_lines, partial_line, last_line}
+use Rattle.bounded_lines.specs.Lines.{lines_of, whole_lines, partial_line, last_line}
+use Rattle.bounded_lines.proofs.Cuts.{whole_lines-append}
 use Rattle.live.specs.Run.{Ran, Stops}
 use Rattle.live.specs.Session.{State, Outcome, refused_by, session, turns}
 use Rattle.live.specs.Written.{AppendsFront}
 use Rattle.live.proofs.Outcomes.{turns-refused, pages-append, AppendsFront-longer}
-use Rattle.live_input.proofs.Cuts.{whole_lines-append}
 
 -- bytes behind a refusal change nothing
 pub Stops-more : (s : State) (fed rest : List ℕ) (error : LiveError) (live : Live) (old new : Option (List ℕ)) → Stops (turns s (whole_lines fed)) error live (old, new)
     → Stops (turns s (whole_lines (fed ++ rest))) error live (old, new)
 Stops-more s fed rest error live old new stops =
     let more = whole_lines-append fed rest in
-    subst (λ o. Stops o error live (old, new)) (sym (ap (turns s) more.is ∙ turns-refused s (whole_lines fed) more.more error stops.refused)) stops
+    subst (λ o. Stops o error live (old, new)) (sym (ap (turns s) more.is ∙ turns-refused s (whole_lines fed) more.rest error stops.refused)) stops
 
 -- more bytes only add pages
 pub Front-more : (s : State) (fed rest : List ℕ) (old new : Option (List ℕ)) → AppendsFront (old, new) (turns s (whole_lines fed)).pages → AppendsFront (old, new) (turns s (whole_lines (fed ++ rest))).pages
 Front-more s fed rest old new front =
     let more = whole_lines-append fed rest in
-    subst (λ ls. AppendsFront (old, new) (turns s ls).pages) (sym more.is) (AppendsFront-longer old new _ _ (pages-append s (whole_lines fed) more.more) front)
+    subst (λ ls. AppendsFront (old, new) (turns s ls).pages) (sym more.is) (AppendsFront-longer old new _ _ (pages-append s (whole_lines fed) more.rest) front)
 
 -- bytes within the limit are taken whole
-pub session-within : (s : State) (bytes : List ℕ) → length bytes ≤ s.config.limits.bytes → session s bytes ≡ turns s (script_lines bytes)
+pub session-within : (s : State) (bytes : List ℕ) → length bytes ≤ s.config.limits.bytes → session s bytes ≡ turns s (lines_of bytes)
 unfolding session
 session-within s bytes h = let test : nat_le (length bytes) s.config.limits.bytes ≡ true = grind (arith, nat_tests) in rw test refl
 
@@ -54,7 +54,7 @@ Stops-refused_by o error late live old new stops = record {
 module _ (s : State) (fed rest : List ℕ) (live : Live) (old new : Option (List ℕ)) (small : length fed ≤ s.config.limits.bytes) where
   -- a refusal within the limit decides the session
   pub Stops-session : (error : LiveError) → Stops (turns s (whole_lines fed)) error live (old, new) → Stops (session s (fed ++ rest)) error live (old, new)
-  unfolding script_lines
+  unfolding lines_of
   Stops-session error stops =
       elim (nat_le (length (fed ++ rest)) s.config.limits.bytes) as (λ v. nat_le (length (fed ++ rest)) s.config.limits.bytes ≡ v → Stops (session s (fed ++ rest)) error live (old, new)) [
         | true ↦ λ e.
@@ -72,7 +72,7 @@ module _ (s : State) (fed rest : List ℕ) (live : Live) (old new : Option (List
 
   -- a front within the limit is one of the session
   pub Front-session : AppendsFront (old, new) (turns s (whole_lines fed)).pages → AppendsFront (old, new) (session s (fed ++ rest)).pages
-  unfolding script_lines
+  unfolding lines_of
   Front-session front =
       elim (nat_le (length (fed ++ rest)) s.config.limits.bytes) as (λ v. nat_le (length (fed ++ rest)) s.config.limits.bytes ≡ v → AppendsFront (old, new) (session s (fed ++ rest)).pages) [
         | true ↦ λ e.
@@ -100,12 +100,12 @@ Stops-limit s fed rest live old new full some ran =
     })
 
 -- the lines of bytes within the limit are the session's
-pub Ran-within : (s : State) (bytes : List ℕ) (live : Live) (old new : Option (List ℕ)) → length bytes ≤ s.config.limits.bytes → Ran (turns s (script_lines bytes)) live (old, new) → Ran (session s bytes) live (old, new)
+pub Ran-within : (s : State) (bytes : List ℕ) (live : Live) (old new : Option (List ℕ)) → length bytes ≤ s.config.limits.bytes → Ran (turns s (lines_of bytes)) live (old, new) → Ran (session s bytes) live (old, new)
 Ran-within s bytes live old new small ran = subst (λ o. Ran o live (old, new)) (sym (session-within s bytes small)) ran
 
-pub Stops-within : (s : State) (bytes : List ℕ) (error : LiveError) (live : Live) (old new : Option (List ℕ)) → length bytes ≤ s.config.limits.bytes → Stops (turns s (script_lines bytes)) error live (old, new)
+pub Stops-within : (s : State) (bytes : List ℕ) (error : LiveError) (live : Live) (old new : Option (List ℕ)) → length bytes ≤ s.config.limits.bytes → Stops (turns s (lines_of bytes)) error live (old, new)
     → Stops (session s bytes) error live (old, new)
 Stops-within s bytes error live old new small stops = subst (λ o. Stops o error live (old, new)) (sym (session-within s bytes small)) stops
 
-pub Front-within : (s : State) (bytes : List ℕ) (old new : Option (List ℕ)) → length bytes ≤ s.config.limits.bytes → AppendsFront (old, new) (turns s (script_lines bytes)).pages → AppendsFront (old, new) (session s bytes).pages
+pub Front-within : (s : State) (bytes : List ℕ) (old new : Option (List ℕ)) → length bytes ≤ s.config.limits.bytes → AppendsFront (old, new) (turns s (lines_of bytes)).pages → AppendsFront (old, new) (session s bytes).pages
 Front-within s bytes old new small front = subst (λ (o : Outcome). AppendsFront (old, new) o.pages) (sym (session-within s bytes small)) front

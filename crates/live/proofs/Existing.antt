@@ -1,21 +1,21 @@
 -- The files that exist, of a file system that follows marks, are the live files of the marks, in one order.
-use Rattle.std.proofs.Common.{◌≡◌, ℕ, suc, ◌+◌, slice_get, subst, Bool, true, false, cond, List, [], ◌∷◌, ◌++◌, Option, Some, None, get_or, map, refl, sym, ◌∙◌, ap, arith, is_some, if◌then◌else◌}
+use Rattle.std.proofs.Common.{◌≡◌, ℕ, suc, ◌+◌, slice_get, subst, Bool, true, false, List, [], ◌∷◌, ◌++◌, Option, Some, None, get_or, map, refl, sym, ◌∙◌, ap, arith, is_some, if◌then◌else◌}
 use Rattle.std.specs.List.{All, IsDistinct, filter_map, list_any}
 use Rattle.std.specs.Map.{keys_of, lookup}
 use Rattle.std.specs.Option.{option_map, unwrap_or}
-use Rattle.std.specs.Cmp.{IsEquivalence, bool_eq_equiv}
-use Rattle.std.proofs.lemmas.Cmp.{and_equiv, nat_list_eq_equiv, on_equiv}
 use Rattle.std.proofs.lemmas.List.Elements.{All-contains_itself, All-tail}
 use Rattle.std.proofs.lemmas.Map.Keys.{IsDistinct-push}
 use Rattle.std.proofs.lemmas.Option.{get_or_from_slice_get, slice_get_within}
 use Rattle.std.proofs.lemmas.Map.Views.{lookup-from_Contains}
 use Rattle.vfs_core.specs.declared.file_state.FileState.{FileState}
-use Rattle.vfs_core.specs.declared.file_state.FileState.TheVariants.{Deleted, Excluded}
+use Rattle.vfs_core.specs.declared.file_state.FileState.TheVariants.{Deleted}
 use Rattle.vfs_core.specs.declared.marks.Mark.{Mark}
-use Rattle.vfs_core.specs.FileState.{is_existing, state_of}
-use Rattle.vfs_core.specs.Files.{Files, Follows, existing_files, existing_files_from, state_by_marks}
-use Rattle.vfs_core.specs.Marks.{is_out, kept_text, live_files, live_text, mentioned_paths}
+use Rattle.vfs_core.specs.FileState.{is_existing}
+use Rattle.vfs_core.specs.Files.{Files, Follows, existing_files, existing_files_from}
+use Rattle.vfs_core.specs.Marks.{live_files, live_text, mentioned_paths}
 use Rattle.vfs_core.specs.VfsPath.{PathContent, vfs_path_eq}
+use Rattle.vfs_core.specs.VfsPathOrder.{vfs_path_equiv}
+use Rattle.vfs_core.proofs.LiveLemmas.{existing_files-told}
 
 -- the live files among some places, by the text that counts for each
 abbrev live_of : (PathContent → Option (List ℕ)) → List PathContent → List (PathContent × List ℕ)
@@ -24,22 +24,6 @@ live_of text_of places = filter_map (λ place. option_map (λ text. (place, text
 -- an entry exists where a text counts for it
 abbrev IsTold : (PathContent → Option (List ℕ)) → PathContent × FileState → Type 0
 IsTold text_of entry = is_existing entry.1 ≡ is_some (text_of entry.0)
-
--- a file exists where it has a text that counts and is not left out
-told-split : (is_left_out : Bool) (text : Option (List ℕ))
-    → is_existing (cond is_left_out Excluded (state_of text)) ≡ is_some (cond is_left_out None text)
-told-split true text = refl
-told-split false None = refl
-told-split false (Some text) = refl
-
-existing_files-told : (marks : List Mark) (place : PathContent)
-    → is_existing (state_by_marks marks place) ≡ is_some (live_text marks place)
-unfolding live_text
-existing_files-told marks place = told-split (is_out marks place) (kept_text marks place)
-
--- equality of places is an equivalence
-vfs_path_equiv : IsEquivalence vfs_path_eq
-vfs_path_equiv = and_equiv (on_equiv (λ p. p.is_virtual) bool_eq_equiv) (on_equiv (λ p. p.text) nat_list_eq_equiv)
 
 -- places with one more: the same by whether it is new
 distinct-split : (place : PathContent) (places : List PathContent) (is_known : Bool)
@@ -67,33 +51,6 @@ entries_told files marks follows = λ k d within.
     (All-contains_itself files.entries k d within) in
     ap is_existing (sym (ap (λ (s : Option FileState). unwrap_or s Deleted) at) ∙ follows.states entry.0)
     ∙ existing_files-told marks entry.0
-
--- one more entry: the same by the text that counts for it
-existing_files-split : (text_of : PathContent → Option (List ℕ)) (number : ℕ) (place : PathContent) (state : FileState)
-    (entries : List (PathContent × FileState)) (text : Option (List ℕ))
-    → is_existing state ≡ is_some text → text_of place ≡ text
-    → map (λ f. f.1) (existing_files_from (number + 1) entries) ≡ map (λ f. f.0) (live_of text_of (keys_of entries))
-    → map (λ f. f.1) (existing_files_from number ((place, state) ∷ entries))
-    ≡ map (λ f. f.0) (live_of text_of (place ∷ keys_of entries))
-existing_files-split text_of number place state entries None told is more = rw (told, is) more
-existing_files-split text_of number place state entries (Some text) told is more =
-    rw (told, is) (ap (λ places. place ∷ places) more)
-
--- what exists among entries that have the states of their places
-existing_files-live : (text_of : PathContent → Option (List ℕ)) (number : ℕ) (entries : List (PathContent × FileState))
-    → All (IsTold text_of) entries
-    → map (λ f. f.1) (existing_files_from number entries) ≡ map (λ f. f.0) (live_of text_of (keys_of entries))
-existing_files-live text_of number [] told = refl
-existing_files-live text_of number (entry ∷ entries) told =
-    existing_files-split text_of number entry.0 entry.1 entries (text_of entry.0) (told 0 entry (omega arith)) refl
-    (existing_files-live text_of (number + 1) entries (All-tail (IsTold text_of) entry entries told))
-
--- the places of the files that exist are the live places
-pub existing_files-Follows : (files : Files) (marks : List Mark) → Follows files marks
-    → map (λ f. f.1) (existing_files files) ≡ map (λ f. f.0) (live_files marks)
-existing_files-Follows files marks follows =
-    existing_files-live (live_text marks) 0 files.entries (entries_told files marks follows)
-    ∙ ap (λ places. map (λ f. f.0) (live_of (live_text marks) places)) follows.numbers
 
 -- a live file among entries that are numbered from here on: the same by whether the first lives
 files-split : {B : Type 0} (made : ℕ × PathContent → B) (of : PathContent × List ℕ → B) (text_of : PathContent → Option (List ℕ)) (number : ℕ) (place : PathContent)
@@ -127,6 +84,11 @@ files_live made of files marks follows agree =
     files-live made of (live_text marks) 0 files.entries (entries_told files marks follows)
     (λ k entry t at is. subst (λ n. made (n, entry.0) ≡ of (entry.0, t)) (omega arith) (agree k entry t at is))
     ∙ ap (λ places. map of (live_of (live_text marks) places)) follows.numbers
+
+-- the places of the files that exist are the live places
+pub existing_files-Follows : (files : Files) (marks : List Mark) → Follows files marks
+    → map (λ f. f.1) (existing_files files) ≡ map (λ f. f.0) (live_files marks)
+existing_files-Follows files marks follows = files_live (λ f. f.1) (λ f. f.0) files marks follows (λ k entry t at is. refl)
 
 -- a file that lives exists
 pub file_told : (files : Files) (marks : List Mark) → Follows files marks → (k : ℕ) (entry : PathContent × FileState) (t : List ℕ)

@@ -7,6 +7,7 @@ use Rattle.std.proofs.lemmas.List.Sums.{fold-append}
 use Rattle.std.proofs.lemmas.List.Folds.{concat-append}
 use Rattle.std.proofs.lemmas.List.{take-append-le}
 use Rattle.std.proofs.Math.Seq.{take-append-add, take-append_seam}
+use Rattle.bounded_lines.specs.Reader.{IsFrontOf}
 use Rattle.live.specs.declared.session.Live.{Live}
 use Rattle.live.specs.declared.fault.LiveError.{LiveError}
 use Rattle.live_input.specs.Event.{event}
@@ -14,7 +15,6 @@ use Rattle.live.specs.Run.{Ran, Stops}
 use Rattle.live.specs.Session.{State, Outcome, start, then_turn, take_line, take_line_after, turn_of, turns}
 use Rattle.live.specs.Turn.{TakesTurn, RefusesTurn}
 use Rattle.live.specs.Written.{AppendsFront, AppendsPages}
-use Rattle.live_input.proofs.Cuts.{Longer}
 
 -- no line
 pub turns-nil : (s : State) → turns s [] ≡ start s
@@ -43,32 +43,32 @@ pub turns-refused : (s : State) (ls more : List (List ℕ)) (error : LiveError) 
 unfolding turns
 turns-refused s ls more error refused = fold-append take_line (start s) ls more ∙ passed-lines (fold take_line (start s) ls) more error refused
 
-longer-line : (o : Outcome) (line : List ℕ) (r : Option LiveError) → Longer o.pages (take_line_after r o line).pages
-longer-line o line None = record { more = (turn_of o.state (o.lines + 1) (event line)).pages; is = refl }
-longer-line o line (Some error) = record { more = []; is = sym (append-nil o.pages) }
+longer-line : (o : Outcome) (line : List ℕ) (r : Option LiveError) → IsFrontOf o.pages (take_line_after r o line).pages
+longer-line o line None = record { rest = (turn_of o.state (o.lines + 1) (event line)).pages; is = refl }
+longer-line o line (Some error) = record { rest = []; is = sym (append-nil o.pages) }
 
-pub Longer-trans : (a b c : List (List ℕ)) → Longer a b → Longer b c → Longer a c
-Longer-trans a b c first second = record { more = first.more ++ second.more; is = second.is ∙ ap (λ l. l ++ second.more) first.is ∙ append_assoc a first.more second.more }
+pub IsFrontOf-trans : (a b c : List (List ℕ)) → IsFrontOf a b → IsFrontOf b c → IsFrontOf a c
+IsFrontOf-trans a b c first second = record { rest = first.rest ++ second.rest; is = second.is ∙ ap (λ l. l ++ second.rest) first.is ∙ append_assoc a first.rest second.rest }
 
-longer-lines : (o : Outcome) (more : List (List ℕ)) → Longer o.pages (fold take_line o more).pages
-longer-lines o [] = record { more = []; is = sym (append-nil o.pages) }
-longer-lines o (line ∷ more) = Longer-trans o.pages (take_line o line).pages _ (longer-line o line o.refusal) (longer-lines (take_line o line) more)
+longer-lines : (o : Outcome) (more : List (List ℕ)) → IsFrontOf o.pages (fold take_line o more).pages
+longer-lines o [] = record { rest = []; is = sym (append-nil o.pages) }
+longer-lines o (line ∷ more) = IsFrontOf-trans o.pages (take_line o line).pages _ (longer-line o line o.refusal) (longer-lines (take_line o line) more)
 
 -- more lines only add pages
-pub pages-append : (s : State) (ls more : List (List ℕ)) → Longer (turns s ls).pages (turns s (ls ++ more)).pages
+pub pages-append : (s : State) (ls more : List (List ℕ)) → IsFrontOf (turns s ls).pages (turns s (ls ++ more)).pages
 unfolding turns
 pages-append s ls more =
     let both = fold-append take_line (start s) ls more in
-    subst (λ o. Longer (fold take_line (start s) ls).pages o.pages) (sym both) (longer-lines (fold take_line (start s) ls) more)
+    subst (λ o. IsFrontOf (fold take_line (start s) ls).pages o.pages) (sym both) (longer-lines (fold take_line (start s) ls) more)
 
 -- a front of some pages is a front of more
-pub AppendsFront-longer : (old new : Option (List ℕ)) (short long : List (List ℕ)) → Longer short long → AppendsFront (old, new) short → AppendsFront (old, new) long
+pub AppendsFront-longer : (old new : Option (List ℕ)) (short long : List (List ℕ)) → IsFrontOf short long → AppendsFront (old, new) short → AppendsFront (old, new) long
 AppendsFront-longer old new short long more front =
-    let whole : concat long ≡ concat short ++ concat more.more = ap concat more.is ∙ concat-append short more.more in
+    let whole : concat long ≡ concat short ++ concat more.rest = ap concat more.is ∙ concat-append short more.rest in
     let inside : front.count ≤ length (concat short) = front.within in
     record {
       count = front.count;
-      within = rw whole (omega (arith, length-append (concat short) (concat more.more)));
+      within = rw whole (omega (arith, length-append (concat short) (concat more.rest)));
       front = rw (whole, take-append-le) front.front;
     }
 

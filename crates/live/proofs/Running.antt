@@ -5,11 +5,13 @@ use Rattle.outside.specs.Causes.{Rose, Rose-after}
 use Rattle.outside.specs.Source.{Knows-after, Knows-all}
 use Rattle.outside.specs.Sink.{Appends-nil}
 use Rattle.outside.specs.declared.limits.Limit.TheVariants.{Bytes}
-use Rattle.live_input.specs.Lines.{has_newline, partial_line, whole_lines}
-use Rattle.live_input.specs.Reader.{Gave, IsCut, IsPast, Reader, Tells, bytes_ahead, fresh}
+use Rattle.bounded_lines.specs.Lines.{has_newline, partial_line, whole_lines}
+use Rattle.bounded_lines.specs.Reader.{IsCut}
+use Rattle.bounded_lines.proofs.LineEnds.{lines_of-whole, whole_lines-uncut}
+use Rattle.live_input.specs.Reader.{Gave, IsPast, Reader, Tells, bytes_ahead, fresh}
 use Rattle.live_input.specs.declared.lines.LineError.{LineError}
 use Rattle.live_input.specs.declared.lines.LineError.TheVariants.{ReadFault as ReadFault', TooMany as TooMany', OutOfMemory as OutOfMemory', Ended}
-use Rattle.live_input.proofs.Gaves.{Gave-fresh, script_lines-whole, whole_lines-uncut}
+use Rattle.live_input.proofs.Gaves.{Gave-fresh}
 use Rattle.live.specs.declared.session.Live.{Live}
 use Rattle.live.specs.declared.fault.LiveError.{LiveError}
 use Rattle.live.specs.declared.fault.LiveError.TheVariants.{OutOfMemory, Usage, ReadFault, WriteFault, Script, TooMany}
@@ -80,7 +82,7 @@ module _ (limit : ℕ) (left₀ left : Option (List ℕ)) (given : List (List �
               let ends : all ≡ gave.front = Knows-all left₀ left all gave.front known whole cut.1 in
               subst P (sym (ap (session s) ends ∙ session-within s gave.front within ∙ ap (turns s) gave.lines)) here
           | false ↦ λ cut.
-              let lines : whole_lines gave.front ≡ given = sym (script_lines-whole gave.front cut) ∙ gave.lines in
+              let lines : whole_lines gave.front ≡ given = sym (lines_of-whole gave.front cut) ∙ gave.lines in
               subst (λ bs. P (session s bs)) (sym all_is) (more cut (subst (λ ls. P (turns s ls)) (sym lines) here))
         ] gave.cut
 
@@ -103,7 +105,7 @@ module _ (limit : ℕ) (left₀ left : Option (List ℕ)) (given : List (List �
               let fed = gave.front ++ reader.waiting in
               let whole : all ≡ fed ++ (gave.beyond ++ after.0) = after.1 ∙ append_assoc gave.front (reader.waiting ++ gave.beyond) after.0
               ∙ ap (λ r. gave.front ++ r) (append_assoc reader.waiting gave.beyond after.0) ∙ sym (append_assoc gave.front reader.waiting (gave.beyond ++ after.0)) in
-              let lines : whole_lines fed ≡ given = whole_lines-uncut gave.front reader.waiting uncut ∙ sym (script_lines-whole gave.front cut) ∙ gave.lines in
+              let lines : whole_lines fed ≡ given = whole_lines-uncut gave.front reader.waiting uncut ∙ sym (lines_of-whole gave.front cut) ∙ gave.lines in
               subst (λ bs. Stops (session s bs) (TooMany Bytes) live (held₀, held)) (sym whole)
               (Stops-limit s fed (gave.beyond ++ after.0) live held₀ held (omega (arith, gave.within, one.1, length-append gave.front reader.waiting)) (omega (arith, one.0, length-append gave.beyond after.0))
               (subst (λ ls. Ran (turns s ls) live (held₀, held)) (sym lines) ran))

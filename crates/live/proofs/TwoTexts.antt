@@ -11,9 +11,9 @@ use Rattle.live_input.specs.declared.event.Event.TheVariants.{Exclude, File, Flu
 use Rattle.live.specs.declared.fault.LiveError.{LiveError}
 use Rattle.live_input.specs.Event.{event}
 use Rattle.live.specs.Laws.{IsJoined, SessionsJoin, counted_on}
-use Rattle.live_input.specs.Lines.{final, front, last_line, newline, pieces, script_lines, partial_line, whole_lines}
+use Rattle.bounded_lines.specs.Lines.{final, front, last_line, lines_of, newline, partial_line, pieces, whole_lines}
 use Rattle.live.specs.Session.{Outcome, State, has_room, mark_turn, session, start, take_line, take_line_after, turn, turn_of, turns}
-use Rattle.live_input.proofs.Cuts.{parts_of}
+use Rattle.bounded_lines.proofs.Cuts.{parts_of}
 use Rattle.live.proofs.Deciding.{session-within}
 
 -- the pieces of a text, the first of which goes on a piece before it
@@ -58,9 +58,9 @@ module _ (first second : List ℕ) (whole : partial_line first ≡ []) where
       pieces-append first second ∙ ap (λ p. front (pieces first) ++ onto_piece p (pieces second)) whole
       ∙ ap (λ ps. front (pieces first) ++ onto_piece [] ps) r.is ∙ ap (λ ps. front (pieces first) ++ ps) (sym r.is)
 
-  script_lines-append : script_lines (first ++ second) ≡ script_lines first ++ script_lines second
-  unfolding script_lines whole_lines partial_line
-  script_lines-append =
+  lines_of-append : lines_of (first ++ second) ≡ lines_of first ++ lines_of second
+  unfolding lines_of whole_lines partial_line
+  lines_of-append =
       let r = parts_of (λ b. b == newline) second in
       let fronts : front (pieces (first ++ second)) ≡ front (pieces first) ++ front (pieces second) =
       ap front (pieces-both ∙ ap (λ ps. front (pieces first) ++ ps) r.is) ∙ front-behind (front (pieces first)) r.first r.others ∙ ap (λ ps. front (pieces first) ++ front ps) (sym r.is) in
@@ -164,14 +164,14 @@ turns-config s ls = lines-config (start s) ls
 pub sessions_join : SessionsJoin
 sessions_join s first second h =
     let long : length (first ++ second) ≡ length first + length second = length-append first second in
-    let own : session s first ≡ turns s (script_lines first) = session-within s first (omega (arith, h.within, long)) in
-    let o = turns s (script_lines first) in
+    let own : session s first ≡ turns s (lines_of first) = session-within s first (omega (arith, h.within, long)) in
+    let o = turns s (lines_of first) in
     let accepted : o.refusal ≡ None = ap (λ (p : Outcome). p.refusal) (sym own) ∙ h.accepted in
-    let limit : o.state.config.limits.bytes ≡ s.config.limits.bytes = ap (λ (c : LiveConfig). c.limits.bytes) (turns-config s (script_lines first)) in
-    let next : session o.state second ≡ turns o.state (script_lines second) = session-within o.state second (omega (arith, h.within, long, limit)) in
+    let limit : o.state.config.limits.bytes ≡ s.config.limits.bytes = ap (λ (c : LiveConfig). c.limits.bytes) (turns-config s (lines_of first)) in
+    let next : session o.state second ≡ turns o.state (lines_of second) = session-within o.state second (omega (arith, h.within, long, limit)) in
     let both : session s (first ++ second) ≡ behind o (session o.state second) =
-    session-within s (first ++ second) h.within ∙ ap (turns s) (script_lines-append first second h.whole)
-    ∙ turns-behind s (script_lines first) (script_lines second) accepted ∙ ap (behind o) (sym next) in
+    session-within s (first ++ second) h.within ∙ ap (turns s) (lines_of-append first second h.whole)
+    ∙ turns-behind s (lines_of first) (lines_of second) accepted ∙ ap (behind o) (sym next) in
     let joined : IsJoined o (session o.state second) (session s (first ++ second)) = record {
       pages = ap (λ (p : Outcome). p.pages) both;
       state = ap (λ (p : Outcome). p.state) both;

@@ -14,7 +14,7 @@ use Rattle.live_input.specs.declared.event.Event.TheVariants.{Exclude, File, Flu
 use Rattle.live.specs.declared.fault.LiveError.{LiveError}
 use Rattle.live.specs.declared.fault.LiveError.TheVariants.{Script, TooMany}
 use Rattle.live_input.specs.Event.{event}
-use Rattle.live_input.specs.Lines.{script_lines, whole_lines}
+use Rattle.bounded_lines.specs.Lines.{lines_of, whole_lines}
 use Rattle.live.specs.Page.{Flush, page}
 
 -- what a session knows: its configuration, what was said of files (newest first), what the last flush brought into the
@@ -113,5 +113,5 @@ refused_by o error = record o { refusal = Some (unwrap_or o.refusal error) }
 -- the session of a state and the bytes of a script
 unfoldable pub session : State → List ℕ → Outcome
 session s bytes =
-    if nat_le (length bytes) s.config.limits.bytes then turns s (script_lines bytes)
+    if nat_le (length bytes) s.config.limits.bytes then turns s (lines_of bytes)
     else refused_by (turns s (whole_lines (take s.config.limits.bytes bytes))) (TooMany Bytes)

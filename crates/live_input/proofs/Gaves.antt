@@ -1,59 +1,20 @@
 -- What a line, a read and the end do to what a reader gave.
-use Rattle.std.proofs.Common.{◌≡◌, ℕ, ◌+◌, ◌-◌, ◌^◌, ◌<◌, ◌≤◌, Bool, true, false, List, [], ◌∷◌, ◌++◌, ◌==◌, ◌||◌, Option, Some, None, Result, Ok, Err, Vec, true≢false, length, take, drop, refl, sym, ap, subst, ◌∙◌, append_assoc, append-nil, length-append, length-take, length-drop, take-append-drop, arith, nat_lt}
+use Rattle.std.proofs.Common.{◌≡◌, ℕ, ◌+◌, ◌-◌, ◌^◌, ◌<◌, ◌≤◌, Bool, true, false, List, [], ◌∷◌, ◌++◌, Option, Some, None, Result, Ok, Err, Vec, true≢false, length, take, drop, refl, sym, ap, subst, ◌∙◌, append_assoc, append-nil, length-append, length-take, length-drop, take-append-drop, arith, nat_lt}
 use Rattle.std.proofs.lemmas.Bool.Decides.{nat_tests}
 use Rattle.std.specs.Io.KnownBytes.{Consumes}
 use Rattle.std.proofs.KnownBytes.{Consumes-nil, Consumes-trans}
-use Rattle.live_input.specs.Lines.{newline, has_newline, whole_lines, partial_line, script_lines, last_line}
-use Rattle.std.proofs.lemmas.List.Folds.{list_any-append}
-use Rattle.live_input.specs.Pieces.{Moves, Reads, rest_of}
-use Rattle.live_input.specs.Reader.{Reader, Gave, IsPast, IsCut, IsSpent, Tells, TooManyExactly, bytes_ahead, fresh, lines_after}
+use Rattle.std.proofs.lemmas.List.{nil_from_length}
+use Rattle.bounded_lines.specs.Lines.{newline, has_newline, whole_lines, partial_line, last_line}
+use Rattle.bounded_lines.specs.Pieces.{rest_of}
+use Rattle.bounded_lines.specs.Reader.{IsCut}
+use Rattle.bounded_lines.proofs.Cuts.{partial_line-nil, whole_lines-append}
+use Rattle.bounded_lines.proofs.LineEnds.{lines_of-end, lines_of-line, lines_of-nil, lines_of-whole, partial_line-line, uncut-append, whole_lines-uncut}
+use Rattle.live_input.specs.Pieces.{Moves, Reads}
+use Rattle.live_input.specs.Reader.{Reader, Gave, IsPast, IsSpent, Tells, TooManyExactly, bytes_ahead, fresh, lines_after}
 use Rattle.live_input.specs.declared.lines.LineError.{LineError}
 use Rattle.live_input.specs.declared.lines.LineError.TheVariants.{ReadFault, TooMany, OutOfMemory, Ended}
 use Rattle.outside.specs.Source.{Knows-after, Knows-all}
 use Rattle.std.proofs.Math.Seq.{take-append-add, take-append_seam}
-use Rattle.live_input.proofs.Cuts.{whole_lines-newline, partial_line-newline, partial_line-nil, whole_lines-append, whole_lines-other, partial_line-other}
-
-first_uncut : (b : ℕ) (part : List ℕ) → has_newline (b ∷ part) ≡ false → (b == newline) ≡ false
-first_uncut b part h = elim (b == newline) as (λ v. (v || has_newline part) ≡ false → v ≡ false) [ true ↦ λ e. e | false ↦ λ e. refl ] h
-
-rest_uncut : (b : ℕ) (part : List ℕ) → has_newline (b ∷ part) ≡ false → has_newline part ≡ false
-rest_uncut b part h = elim (b == newline) as (λ v. (v || has_newline part) ≡ false → has_newline part ≡ false) [ true ↦ λ e. absurd (cc) | false ↦ λ e. e ] h
-
--- bytes without newline end no line
-pub whole_lines-uncut : (front part : List ℕ) → has_newline part ≡ false → whole_lines (front ++ part) ≡ whole_lines front
-whole_lines-uncut front [] h = ap whole_lines (append-nil front)
-whole_lines-uncut front (b ∷ part) h =
-    ap whole_lines (sym (append_assoc front (b ∷ []) part)) ∙ whole_lines-uncut (front ++ b ∷ []) part (rest_uncut b part h) ∙ whole_lines-other front b (first_uncut b part h)
-
-pub partial_line-uncut : (front part : List ℕ) → has_newline part ≡ false → partial_line (front ++ part) ≡ partial_line front ++ part
-partial_line-uncut front [] h = ap partial_line (append-nil front) ∙ sym (append-nil (partial_line front))
-partial_line-uncut front (b ∷ part) h =
-    ap partial_line (sym (append_assoc front (b ∷ []) part)) ∙ partial_line-uncut (front ++ b ∷ []) part (rest_uncut b part h) ∙ ap (λ l. l ++ part) (partial_line-other front b (first_uncut b part h)) ∙ append_assoc (partial_line front) (b ∷ []) part
-
--- what ends in a newline has whole lines alone
-pub script_lines-whole : (front : List ℕ) → partial_line front ≡ [] → script_lines front ≡ whole_lines front
-unfolding script_lines
-script_lines-whole front h = ap (λ l. whole_lines front ++ last_line l) h ∙ append-nil (whole_lines front)
-
-module _ (front line : List ℕ) (cut : partial_line front ≡ []) (uncut : has_newline line ≡ false) where
-  at_line : partial_line (front ++ line) ≡ line
-  at_line = partial_line-uncut front line uncut ∙ ap (λ l. l ++ line) cut
-
-  -- one more line with its newline
-  pub partial_line-line : partial_line (front ++ (line ++ newline ∷ [])) ≡ []
-  partial_line-line = ap partial_line (sym (append_assoc front line (newline ∷ []))) ∙ partial_line-newline (front ++ line)
-
-  pub script_lines-line : script_lines (front ++ (line ++ newline ∷ [])) ≡ script_lines front ++ line ∷ []
-  script_lines-line =
-      script_lines-whole _ partial_line-line ∙ ap whole_lines (sym (append_assoc front line (newline ∷ []))) ∙ whole_lines-newline (front ++ line)
-      ∙ ap (λ ls. ls ++ partial_line (front ++ line) ∷ []) (whole_lines-uncut front line uncut ∙ sym (script_lines-whole front cut)) ∙ ap (λ l. script_lines front ++ l ∷ []) at_line
-
-  -- and what no newline ends, which is a last line where it is not empty
-  pub script_lines-end : script_lines (front ++ line) ≡ script_lines front ++ last_line line
-  unfolding script_lines
-  script_lines-end =
-      ap (λ ls. ls ++ last_line (partial_line (front ++ line))) (whole_lines-uncut front line uncut ∙ sym (script_lines-whole front cut))
-      ∙ ap (λ l. script_lines front ++ last_line l) at_line
 
 -- a reader by its fields: a line that is being read, and what was not looked at
 abbrev pub reader : List ℕ → List ℕ → ℕ → Bool → Bool → Bool → Reader
@@ -69,11 +30,6 @@ pub record Reading (old : Reader) (left₀ left : Option (List ℕ)) (before now
   pub not_ended : ended ≡ false
   pub later : before ≤ now
 
--- a list with no item
-nothing_of : (xs : List ℕ) → length xs ≡ 0 → xs ≡ []
-nothing_of [] h = refl
-nothing_of (x ∷ xs) h = absurd (omega arith)
-
 -- a line and a piece stay the same bytes where a part is moved
 pub moved : (found : Bool) (piece piece' line line' : List ℕ) → Moves found piece piece' line line' → line ++ piece ≡ line' ++ rest_of found piece'
 moved found piece piece' line line' moves =
@@ -81,7 +37,7 @@ moved found piece piece' line line' moves =
 
 pub moved_uncut : (found : Bool) (piece piece' line line' : List ℕ) → Moves found piece piece' line line' → has_newline line ≡ false → has_newline line' ≡ false
 moved_uncut found piece piece' line line' moves uncut =
-    ap has_newline moves.line_is ∙ list_any-append (λ b. b == newline) line moves.part ∙ ap (λ v. v || has_newline moves.part) uncut ∙ moves.uncut
+    ap has_newline moves.line_is ∙ uncut-append line moves.part uncut moves.uncut
 
 -- how many bytes wait
 pub moved_length : (found : Bool) (piece piece' line line' : List ℕ) → Moves found piece piece' line line' → length line + length piece ≡ length line' + length (rest_of found piece')
@@ -102,7 +58,7 @@ past_read : (room count : ℕ) (bytes : List ℕ) → length bytes ≡ count →
 past_read room count bytes many most =
     elim (nat_lt room count) as (λ v. nat_lt room count ≡ v → IsPast v (room - count) (drop room bytes)) [
       | true ↦ λ e. let over : room < count = grind (arith, nat_tests) in (omega (arith, length-drop room bytes), omega arith)
-      | false ↦ λ e. let under : count ≤ room = grind (arith, nat_tests) in nothing_of (drop room bytes) (omega (arith, length-drop room bytes))
+      | false ↦ λ e. let under : count ≤ room = grind (arith, nat_tests) in nil_from_length (drop room bytes) (omega (arith, length-drop room bytes))
     ] refl
 
 module _ (limit : ℕ) (first left : Option (List ℕ)) (given : List (List ℕ)) (line piece line' piece' : List ℕ) (room : ℕ) (past done ended : Bool) (not_done : done ≡ false)
@@ -130,7 +86,7 @@ module _ (limit : ℕ) (first left : Option (List ℕ)) (given : List (List ℕ)
         front = front';
         beyond = gave.beyond;
         taken = subst (Consumes first left) (ap (λ w. gave.front ++ (w ++ gave.beyond)) same ∙ line_bytes gave.front line' piece' gave.beyond ∙ ap (λ w. front' ++ (w ++ gave.beyond)) (sym rest)) gave.taken;
-        lines = script_lines-line gave.front line' front_cut whole ∙ ap (λ ls. ls ++ line' ∷ []) gave.lines;
+        lines = lines_of-line gave.front line' front_cut whole ∙ ap (λ ls. ls ++ line' ∷ []) gave.lines;
         within = omega (arith, gave.within, ap length same, ap length rest, length-append gave.front (line' ++ newline ∷ []), length-append line' (newline ∷ []), length-append line' (newline ∷ piece'));
         past = gave.past;
         cut = subst (λ d. IsCut d front' ((none ++ piece') ++ gave.beyond) left) (sym not_done) (partial_line-line gave.front line' front_cut whole);
@@ -160,9 +116,9 @@ module _ (limit : ℕ) (first left : Option (List ℕ)) (given : List (List ℕ)
       → (given' : List (List ℕ)) → given' ≡ given ++ last_line line
       → Gave limit first left' given' (reader none piece' room past true ended)
   Gave-end left' count reads nothing not_past emptied none empty given' is =
-      let bytes : reads.bytes ≡ [] = nothing_of reads.bytes (reads.many ∙ nothing) in
+      let bytes : reads.bytes ≡ [] = nil_from_length reads.bytes (reads.many ∙ nothing) in
       let many : length reads.bytes ≡ 0 = reads.many ∙ nothing in
-      let no_piece : piece' ≡ [] = nothing_of piece' (omega (arith, ap length reads.piece_is, length-take room reads.bytes)) in
+      let no_piece : piece' ≡ [] = nil_from_length piece' (omega (arith, ap length reads.piece_is, length-take room reads.bytes)) in
       let rest : none ++ piece' ≡ [] = ap (λ n. n ++ piece') empty ∙ no_piece in
       let all : (none ++ piece') ++ [] ≡ [] = append-nil (none ++ piece') ∙ rest in
       let before : gave.front ++ ((line ++ piece) ++ gave.beyond) ≡ gave.front ++ line =
@@ -172,7 +128,7 @@ module _ (limit : ℕ) (first left : Option (List ℕ)) (given : List (List ℕ)
         front = gave.front ++ line;
         beyond = [];
         taken = subst (Consumes first left') (ap (λ b. (gave.front ++ line) ++ b) (bytes ∙ sym all)) taken;
-        lines = script_lines-end gave.front line front_cut uncut ∙ ap (λ ls. ls ++ last_line line) gave.lines ∙ sym is;
+        lines = lines_of-end gave.front line front_cut uncut ∙ ap (λ ls. ls ++ last_line line) gave.lines ∙ sym is;
         within = omega (arith, gave.within, length-append gave.front line, length-append line piece, ap length emptied, ap length rest);
         past = subst (λ p. IsPast p room []) (sym not_past) refl;
         cut = (all, reads.end nothing);
@@ -183,25 +139,13 @@ pub after_end : (given : List (List ℕ)) (line : List ℕ) → (line ≡ [] →
 after_end given [] = (λ e. sym (append-nil given), λ some. absurd (some refl))
 after_end given (b ∷ bs) = (λ e. absurd (cc), λ some. refl)
 
--- what a test for emptiness tells
-pub empty_from : (p : List ℕ) → true ≡ (length p == 0) → p ≡ []
-empty_from [] h = refl
-empty_from (b ∷ bs) h = absurd (grind (arith, nat_tests))
-
-pub some_from : (p : List ℕ) → false ≡ (length p == 0) → p ≡ [] → ⊥
-some_from p h e = let none : length p ≡ 0 = ap length e in grind (arith, nat_tests)
-
 -- before the first read
-script_lines-nil : script_lines [] ≡ []
-unfolding script_lines whole_lines partial_line
-script_lines-nil = refl
-
 pub Gave-fresh : (limit : ℕ) (left : Option (List ℕ)) → Gave limit left left [] (fresh limit)
 Gave-fresh limit left = record {
   front = [];
   beyond = [];
   taken = Consumes-nil left;
-  lines = script_lines-nil;
+  lines = lines_of-nil;
   within = omega arith;
   past = refl;
   cut = partial_line-nil;
@@ -236,7 +180,7 @@ module _ (limit : ℕ) (left' : Option (List ℕ)) (given : List (List ℕ)) (al
         | true ↦ λ cut. absurd (omega (arith, one.0, ap length cut.0, length-append reader'.waiting gave.beyond))
         | false ↦ λ cut. record {
           past = omega (arith, full, one.0, ap length whole, length-append (gave.front ++ reader'.waiting) (gave.beyond ++ after.0), length-append gave.beyond after.0);
-          lines = ap whole_lines front ∙ whole_lines-uncut gave.front reader'.waiting uncut ∙ sym (script_lines-whole gave.front cut) ∙ gave.lines;
+          lines = ap whole_lines front ∙ whole_lines-uncut gave.front reader'.waiting uncut ∙ sym (lines_of-whole gave.front cut) ∙ gave.lines;
         }
       ] gave.cut
 
@@ -263,8 +207,8 @@ module _ (limit : ℕ) (left' : Option (List ℕ)) (given : List (List ℕ)) (al
             omega (arith, spent.past, ap length ends, gave.within)
         | false ↦ λ cut.
             let more = whole_lines-append gave.front (take (limit - length gave.front) rest) in
-            let lines : given ≡ (given ++ line ∷ []) ++ more.more = sym spent.lines ∙ ap whole_lines front ∙ more.is ∙ ap (λ ls. ls ++ more.more) (sym (script_lines-whole gave.front cut) ∙ gave.lines) in
-            omega (arith, ap length lines, length-append (given ++ line ∷ []) more.more, length-append given (line ∷ []))
+            let lines : given ≡ (given ++ line ∷ []) ++ more.rest = sym spent.lines ∙ ap whole_lines front ∙ more.is ∙ ap (λ ls. ls ++ more.rest) (sym (lines_of-whole gave.front cut) ∙ gave.lines) in
+            omega (arith, ap length lines, length-append (given ++ line ∷ []) more.rest, length-append given (line ∷ []))
       ] gave.cut
 
 pub too_many : {Z : Type 0} (limit : ℕ) (left' : Option (List ℕ)) (given : List (List ℕ)) (all : List ℕ) (old new : Reader) (before now : ℕ) (result : Result (Option (Vec ℕ Z)) LineError)

@@ -1,4 +1,3 @@
-pub mod Cuts
 pub mod Gaves
 pub mod Parts
 pub mod Numbers

@@ -1,32 +1,22 @@
 -- How a line is taken from a piece, and what a read makes of it.
-use Rattle.std.proofs.Common.{◌≡◌, ℕ, ◌+◌, ◌-◌, ◌<◌, ◌≤◌, true, min, List, ◌∷◌, ◌++◌, Option, length, take, drop, get_or, sym, ap, ◌∙◌, length-take, take-append-drop, drop-cons, add-one, arith}
-use Rattle.std.proofs.lemmas.List.{drop-take, drop-drop, take_min, take-append-le}
+use Rattle.std.proofs.Common.{◌≡◌, ℕ, ◌+◌, ◌-◌, ◌≤◌, true, min, List, ◌++◌, Option, length, take, drop, sym, ap, ◌∙◌, length-take, take-append-drop, arith}
+use Rattle.std.proofs.lemmas.List.{take_min, take-append-le}
 use Rattle.std.specs.List.{slice_range}
 use Rattle.std.specs.Io.KnownBytes.{Consumes, IsAtEnd}
-use Rattle.live_input.specs.Pieces.{IsFirstNewline, Moves, Reads}
-
--- a part of a list behind one of its places
-range_after : (bytes : List ℕ) (start end n : ℕ) → start + n ≤ end → drop n (slice_range bytes start end) ≡ slice_range bytes (start + n) end
-range_after bytes start end n h =
-    let cut : end - start ≡ n + (end - (start + n)) = omega arith in
-    ap (λ m. drop n (take m (drop start bytes))) cut ∙ drop-take n (end - (start + n)) (drop start bytes) ∙ ap (take (end - (start + n))) (drop-drop n start bytes)
+use Rattle.bounded_lines.specs.Pieces.{IsFirstNewline}
+use Rattle.bounded_lines.proofs.Bytes.{IsFirstNewline-cut}
+use Rattle.live_input.specs.Pieces.{Moves, Reads}
 
 -- a line that ends at the first newline
 pub Moves-found : (bytes : List ℕ) (start end at : ℕ) (line line' : List ℕ) → start ≤ end → end ≤ length bytes → IsFirstNewline (slice_range bytes start end) at → line' ≡ line ++ take at (slice_range bytes start end)
     → Moves true (slice_range bytes start end) (slice_range bytes (start + (at + 1)) end) line line'
-Moves-found bytes start end at line line' ordered fits first is =
-    let part = slice_range bytes start end in
-    let inside : at < length part = first.within in
-    let short : start + (at + 1) ≤ end = omega (arith, length-take (end - start) (drop start bytes)) in
-    record {
-      part = take at part;
-      uncut = first.before;
-      piece_is = sym (take-append-drop at part) ∙ ap (λ l. take at part ++ l)
-          (drop-cons part at 0 inside ∙ ap (λ n. get_or part at 0 ∷ drop n part) (sym (add-one at)) ∙ ap (λ l. get_or part at 0 ∷ l) (range_after bytes start end (at + 1) short)
-          ∙ ap (λ b. b ∷ slice_range bytes (start + (at + 1)) end) first.here);
-      line_is = is;
-      whole = λ e. absurd (cc);
-    }
+Moves-found bytes start end at line line' ordered fits first is = record {
+  part = take at (slice_range bytes start end);
+  uncut = first.before;
+  piece_is = IsFirstNewline-cut bytes start end at ordered fits first;
+  line_is = is;
+  whole = λ e. absurd (cc);
+}
 
 -- what a read of a buffer's front leaves as a piece
 pub Reads-front : (room count end : ℕ) (left left' : Option (List ℕ)) (buffer : List ℕ) → Consumes left left' (take count buffer) → count ≤ room + 1 → count ≤ length buffer → (count ≡ 0 → IsAtEnd left') → end ≡ min count room

@@ -1,10 +1,11 @@
 -- What a reader of lines holds, and what it gave of the bytes that it took from a source.
 use Rattle.std.specs.Prelude.{◌≡◌, ℕ, ◌+◌, ◌<◌, ◌≤◌, Bool, true, false, List, [], ◌∷◌, ◌++◌, Option, Some, None, Result, Ok, Err, Vec, is_err, length, take}
-use Rattle.std.specs.Io.KnownBytes.{Consumes, IsAtEnd}
+use Rattle.std.specs.Io.KnownBytes.{Consumes}
 use Rattle.outside.specs.Causes.{Rose}
+use Rattle.bounded_lines.specs.Lines.{has_newline, lines_of, whole_lines}
+use Rattle.bounded_lines.specs.Reader.{IsCut}
 use Rattle.live_input.specs.declared.lines.LineError.{LineError}
 use Rattle.live_input.specs.declared.lines.LineError.TheVariants.{ReadFault, TooMany, OutOfMemory, Ended}
-use Rattle.live_input.specs.Lines.{has_newline, script_lines, partial_line, whole_lines}
 
 -- of the bytes within the limit those that wait to be given, and how many more there is room for; whether a byte past the
 -- limit was taken, whether the source told its end, and whether a call was refused
@@ -24,18 +25,13 @@ abbrev pub IsPast : Bool → ℕ → List ℕ → Type 0
 IsPast false room beyond = beyond ≡ []
 IsPast true room beyond = (length beyond ≡ 1) × (room ≡ 0)
 
--- the lines that were given end in a newline each, or nothing follows them
-abbrev pub IsCut : Bool → List ℕ → List ℕ → Option (List ℕ) → Type 0
-IsCut false front rest left = partial_line front ≡ []
-IsCut true front rest left = (rest ≡ []) × IsAtEnd left
-
 -- a reader gave these lines of a source, which had `first` to read and has `left` now: the bytes that were taken are those of
 -- the lines, those that wait, and at most one past the limit
 pub record Gave (limit : ℕ) (first left : Option (List ℕ)) (given : List (List ℕ)) (reader : Reader) : Type 0 where
   pub front : List ℕ
   pub beyond : List ℕ
   pub taken : Consumes first left (front ++ (reader.waiting ++ beyond))
-  pub lines : script_lines front ≡ given
+  pub lines : lines_of front ≡ given
   pub within : length front + length reader.waiting + reader.room ≡ limit
   pub past : IsPast reader.is_past reader.room beyond
   pub cut : IsCut reader.is_done front (reader.waiting ++ beyond) left

@@ -63,7 +63,7 @@ pub struct Lines {
 
 impl Model for Lines {
     ghost use Rattle.std.specs.Prelude.{◌≡◌, ◌++◌, ◌+◌, ◌^◌, ◌<◌, false};
-    ghost use Rattle.live_input.specs.Lines.{has_newline};
+    ghost use Rattle.bounded_lines.specs.Lines.{has_newline};
     ghost use Rattle.live_input.specs.Reader.{Reader};
 
     ghost Value = { Reader };
@@ -81,7 +81,7 @@ impl Model for Lines {
 
 impl Lines {
     ghost use Rattle.live_input.specs.Reader.{Answers, Gave, IsSpent, Tells, TooManyExactly, fresh, lines_after};
-    ghost use Rattle.live_input.specs.Lines.{has_newline};
+    ghost use Rattle.bounded_lines.specs.Lines.{has_newline};
     ghost use Rattle.live_input.specs.declared.lines.LineError.TheVariants.{Ended};
 
     /// A reader that takes nothing yet.

@@ -1,13 +1,13 @@
 //! The bytes of one read, which are looked at line by line.
 
-ghost use Rattle.std.specs.Prelude.{◌≡◌, ◌+◌, ◌^◌, ◌<◌, ◌≤◌, [], length, take, IfErr, IfOk, OnErr, OnOk, MatchOption, MatchResult, false};
+ghost use Rattle.std.specs.Prelude.{◌≡◌, ◌+◌, ◌^◌, ◌<◌, ◌≤◌, [], length, take, IfErr, IfOk, OnErr, OnOk};
 ghost use Rattle.std.specs.Io.KnownBytes.{Consumes, IsAtEnd};
 ghost use Rattle.outside.specs.Causes.{HasCause};
-ghost use Rattle.live_input.specs.Lines.{has_newline};
-ghost use Rattle.live_input.specs.Pieces.{HasCauseOf, IsFirstNewline, Moves, Reads};
+ghost use Rattle.live_input.specs.Pieces.{HasCauseOf, Moves, Reads};
 
 use crate::lines::LineError;
 use base_text::{ByteSource, Failed};
+use bounded_lines::newline_at;
 use std::alloc::{AllocError, Global};
 use std::marker::Model;
 
@@ -116,17 +116,4 @@ fn read_some<S: ByteSource>(input: &mut S, buffer: &mut [u8], room: u64) -> Resu
     let most = (room + 1).min(buffer.len() as u64) as usize;
     let count = input.read(&mut buffer[..most])?;
     Ok(count as u64)
-}
-
-// The place of the first newline.
-fn newline_at(bytes: &[u8]) -> Option<usize>
-    ensures { MatchOption result (has_newline bytes.now ≡ false)
-        (λ at. IsFirstNewline bytes.now at) }
-{
-    for (at, byte) in bytes.iter().enumerate() {
-        if *byte == b'\n' {
-            return Some(at);
-        }
-    }
-    None
 }

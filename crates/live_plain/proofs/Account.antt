@@ -10,7 +10,7 @@ use Rattle.std.proofs.lemmas.List.Elements.{filter_map-append}
 use Rattle.vfs_core.specs.declared.marks.Mark.{Mark}
 use Rattle.vfs_core.specs.Marks.{live_text}
 use Rattle.vfs_core.specs.VfsPath.{PathContent}
-use Rattle.live_input.specs.Lines.{final, front, last_line}
+use Rattle.bounded_lines.specs.Lines.{final, front, last_line}
 use Rattle.live.specs.Session.{State, take_line, turns}
 use Rattle.live.proofs.Outcomes.{turns-snoc}
 

@@ -167,7 +167,7 @@ impl PlainOutcome {
 }
 
 /// The session of a state and the bytes of a script. Its time grows with the square of the script.
-#[tactic(auto, unfolding(live::specs::Session::session, live_input::specs::Lines::script_lines, live_input::specs::Lines::whole_lines, live_input::specs::Lines::partial_line))]
+#[tactic(auto, unfolding(live::specs::Session::session, bounded_lines::specs::Lines::lines_of, bounded_lines::specs::Lines::whole_lines, bounded_lines::specs::Lines::partial_line))]
 pub fn plain_session(
     alloc: Global,
     state: PlainState,

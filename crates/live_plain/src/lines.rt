@@ -1,7 +1,7 @@
 //! The lines of a script, cut at its newlines.
 
 ghost use Rattle.std.specs.Prelude.{◌≡◌, ◌++◌, IfOk, map};
-ghost use Rattle.live_input.specs.Lines.{final, front, last_line, pieces};
+ghost use Rattle.bounded_lines.specs.Lines.{final, front, last_line, pieces};
 
 use std::alloc::{AllocError, Global};
 

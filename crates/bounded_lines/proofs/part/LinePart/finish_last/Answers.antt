@@ -1,6 +1,7 @@
 use Rattle.std.proofs.Common.{◌≡◌, ◌==◌, ◌∙◌, Some, false, [], true≢false, ap, sym, subst}
 use Rattle.bounded_lines.specs.Part.{Part}
-use Rattle.bounded_lines.proofs.Parts.{empty_from, last_item-none, last_item-some, some_from}
+use Rattle.bounded_lines.proofs.Bytes.{empty_from, some_from}
+use Rattle.bounded_lines.proofs.Parts.{last_item-none, last_item-some}
 use Rattle.bounded_lines.proofs.part.LinePart.finish_last.Goals.{else-not-self-via-then-not-self+else-is_empty, else-not-self-via-else-not-self}
 use Rattle.bounded_lines.proofs.part.LinePart.finish_last.Goals as goal
 

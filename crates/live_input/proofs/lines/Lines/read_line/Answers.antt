@@ -1,8 +1,9 @@
 use Rattle.std.proofs.Common.{◌≡◌, ◌-◌, ◌++◌, ◌∷◌, ◌==◌, ◌∙◌, [], Ok, false, true, length, length-take, refl, sym, ap, subst, arith}
-use Rattle.live_input.specs.Lines.{last_line}
+use Rattle.bounded_lines.specs.Lines.{last_line}
+use Rattle.bounded_lines.proofs.Bytes.{empty_from, some_from}
 use Rattle.live_input.specs.Pieces.{Moves}
 use Rattle.live_input.specs.Reader.{lines_after}
-use Rattle.live_input.proofs.Gaves.{not_idle, Gave-moved, Gave-end, Gave-line, Gave-read, moved_uncut, moved_length, after_end, empty_from, some_from}
+use Rattle.live_input.proofs.Gaves.{not_idle, Gave-moved, Gave-end, Gave-line, Gave-read, moved_uncut, moved_length, after_end}
 use Rattle.live_input.proofs.lines.Lines.read_line.Goals.{then-is_empty, else-is_empty}
 use Rattle.live_input.proofs.lines.Lines.read_line.Goals as goal
 

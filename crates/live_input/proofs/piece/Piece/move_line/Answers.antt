@@ -1,6 +1,6 @@
 use Rattle.std.proofs.Common.{arith, ap, ◌∙◌, ◌≡◌, ◌++◌, take}
 use Rattle.std.specs.List.{slice_range}
-use Rattle.live_input.specs.Pieces.{IsFirstNewline}
+use Rattle.bounded_lines.specs.Pieces.{IsFirstNewline}
 use Rattle.live_input.proofs.Parts.{Moves-found}
 use Rattle.live_input.proofs.piece.Piece.move_line.Goals as goal
 

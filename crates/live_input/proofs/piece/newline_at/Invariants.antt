@@ -1,6 +1,0 @@
-use Rattle.std.proofs.Common.{◌≡◌, false, take}
-use Rattle.live_input.specs.Lines.{has_newline}
-use Rattle.live_input.proofs.piece.newline_at.Given as goal
-
-abbrev pub invariant-loop-at : goal.invariant-loop-at
-invariant-loop-at l = has_newline (take l.at l.bytes) ≡ false
