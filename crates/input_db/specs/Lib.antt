@@ -1,7 +1,9 @@
 pub mod Applied
 pub mod Change
+pub mod Channel
 pub mod Database
 pub mod Identity
 pub mod SetInDb
 pub mod FinishSteps
 pub mod Queries
+pub mod RootCrates

@@ -10,6 +10,7 @@ pub mod input_db;
 pub mod laws;
 pub mod lowering;
 pub mod queries;
+pub mod root_crates;
 pub mod source_database;
 
 pub use base_text::Boxed;
@@ -19,7 +20,8 @@ pub use crates_map::CratesMap;
 pub use indexmap::{IndexMap as FxIndexMap, IndexSet as FxIndexSet};
 pub use input_db::InputDb;
 pub use lowering::{CratesIdMap, set_in_db};
-pub use queries::{all_crates, set_all_crates_with_durability};
+pub use queries::{all_crates, set_all_crates_with_durability, toolchain_channel};
+pub use root_crates::{crates_have_source_roots, relevant_crates, source_root_crates};
 pub use source_database::SourceDatabase;
 pub use source_files::{
     Durability, EditionedFileId, FileSourceRootInput, FileText, Files, LibraryRoots, LocalRoots,

@@ -7,12 +7,13 @@ ghost use Rattle.graph_base.specs.Reach.{Reaches};
 ghost use Rattle.input_db.specs.Database.{with_crate_list};
 ghost use Rattle.source_files.specs.EditionedFileId.{edition_of, file_of};
 ghost use Rattle.input_db.specs.Identity.{crate_edges, input_in};
+ghost use Rattle.input_db.specs.Channel.{channel_in};
 ghost use Rattle.input_db.specs.Queries.{IsWithItselfFirst, others};
 
 use crate::crate_input::{BuiltCrateData, Crate};
 use crate::source_database::SourceDatabase;
 use base_text::CfgOptions;
-use crate_graph::{CrateWorkspaceData, Env, ExtraCrateData};
+use crate_graph::{CrateWorkspaceData, Env, ExtraCrateData, ReleaseChannel};
 use source_files::{Durability, EditionedFileId};
 use std::alloc::{AllocError, Global};
 
@@ -35,6 +36,16 @@ pub fn set_all_crates_with_durability<D: SourceDatabase>(
     ensures { D.seen db.new ≡ with_crate_list (D.seen db.old) crates.items durability }
 {
     db.store_all_crates(crates, durability);
+}
+
+/// The channel that a crate's toolchain was released on: that which the pre-release of its version names, where it is known.
+/// The crate is there, as `has_crate` reports.
+pub fn toolchain_channel<D: SourceDatabase>(db: &D, krate: Crate) -> Option<ReleaseChannel>
+    requires { krate < length (D.seen db.now).crates }
+    ensures { result ≡ channel_in (D.seen db.now).crates krate }
+{
+    let version = krate.workspace_data(db).toolchain.as_ref()?;
+    ReleaseChannel::from_text(version.as_version().pre.as_str())
 }
 
 // Each getter asks that the crate is there, as `has_crate` of the database reports.
