@@ -1,0 +1,4 @@
+pub mod BandLemmas
+pub mod OffsetLemmas
+pub mod PlacingLemmas
+pub mod RoomLemmas

@@ -1,0 +1,4 @@
+pub mod Band
+pub mod Insertion
+pub mod Order
+pub mod Placing

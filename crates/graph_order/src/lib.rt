@@ -1,0 +1,10 @@
+//! An order of a graph's nodes in which every edge leads down, kept while edges are added: an edge that
+//! fits the order costs a comparison, and any other a search among the ranks between its two nodes.
+#![tactic(auto)]
+
+mod band;
+mod insertion;
+pub mod order;
+mod placing;
+
+pub use order::Order;
