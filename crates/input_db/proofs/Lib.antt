@@ -2,7 +2,9 @@ mod Beside
 mod ChangedTexts
 mod ContentLaws
 mod Contents
+mod Dependents
 mod Equality
+mod Filtered
 mod GivenRoots
 mod IdentityLaws
 mod InputLaws

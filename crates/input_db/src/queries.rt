@@ -1,6 +1,6 @@
 //! What is asked of the crates of a database.
 
-ghost use Rattle.std.specs.Prelude.{◌≡◌, ◌↔◌, ℕ, ◌<◌, ◌∷◌, IfOk, Some, length, slice_index};
+ghost use Rattle.std.specs.Prelude.{◌≡◌, ◌↔◌, ◌⊎◌, ℕ, ◌<◌, ◌∷◌, IfOk, Some, filter, length, slice_index};
 ghost use Rattle.std.specs.List.{All, Contains};
 ghost use Rattle.std.specs.Option.{option_map};
 ghost use Rattle.graph_base.specs.Reach.{Reaches};
@@ -8,12 +8,13 @@ ghost use Rattle.input_db.specs.Database.{with_crate_list};
 ghost use Rattle.source_files.specs.EditionedFileId.{edition_of, file_of};
 ghost use Rattle.input_db.specs.Identity.{crate_edges, input_in};
 ghost use Rattle.input_db.specs.Channel.{channel_in};
-ghost use Rattle.input_db.specs.Queries.{IsWithItselfFirst, others};
+ghost use Rattle.input_db.specs.Queries.{AreListed, IsListedDependent, IsWithItselfFirst, is_marked, others};
 
 use crate::crate_input::{BuiltCrateData, Crate};
 use crate::source_database::SourceDatabase;
 use base_text::CfgOptions;
 use crate_graph::{CrateWorkspaceData, Env, ExtraCrateData, ReleaseChannel};
+use reversed_graph::Reversed;
 use source_files::{Durability, EditionedFileId};
 use std::alloc::{AllocError, Global};
 
@@ -118,6 +119,53 @@ impl Crate {
         let reached = graph_base::reachable_nodes(alloc, table, table.number(self))?;
         itself_first(alloc, self, &reached)
     }
+
+    /// The crates that reach a crate over dependencies, of those that there are now: itself first, then the
+    /// others in no promised order.
+    pub fn transitive_rev_deps<D: SourceDatabase>(
+        self,
+        alloc: Global,
+        db: &D,
+    ) -> Result<Vec<Crate>, AllocError>
+        requires { self < length (D.seen db.now).crates }
+        ensures exact { IfOk result (λ crates. (krate : ℕ) → Contains crates.items krate
+            ↔ ((krate ≡ self) ⊎ IsListedDependent (D.seen db.now) krate self)) }
+        ensures once { IfOk result (λ crates. IsWithItselfFirst self crates.items) }
+    {
+        let table = db.crates_map();
+        let back = Reversed::of(alloc, table)?;
+        let reaching = graph_base::reachable_nodes(alloc, &back, table.number(self))?;
+        let is_listed = listed_marks(alloc, table.len(), all_crates(db))?;
+        let dependents = marked_among(alloc, &reaching, &is_listed)?;
+        itself_first(alloc, self, &dependents)
+    }
+}
+
+// Whether each number below a count is that of a crate of the list.
+fn listed_marks(alloc: Global, count: usize, listed: &[Crate]) -> Result<Vec<bool>, AllocError>
+    requires { All (λ krate. krate < count) listed.now }
+    ensures count { IfOk result (λ marks. length marks.items ≡ count) }
+    ensures listed { IfOk result (λ marks. AreListed marks.items listed.now) }
+{
+    let mut marks = vec![in alloc; false; count]?;
+    for krate in listed {
+        marks[krate.place()] = true;
+    }
+    Ok(marks)
+}
+
+// The nodes that are marked, of some.
+fn marked_among(alloc: Global, nodes: &[u32], marks: &[bool]) -> Result<Vec<u32>, AllocError>
+    requires { All (λ node. node < length marks.now) nodes.now }
+    ensures { IfOk result (λ marked. marked.items ≡ filter (is_marked marks.now) nodes.now) }
+{
+    let mut marked = Vec::new(alloc);
+    for node in nodes {
+        if marks[*node as usize] {
+            marked.push(*node)?;
+        }
+    }
+    Ok(marked)
 }
 
 // The crate, and then the other crates of the list.
