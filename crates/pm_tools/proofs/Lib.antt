@@ -1,2 +1,4 @@
-mod Equalities
-mod Names
+pub mod ConfigEnv
+pub mod Equalities
+pub mod Names
+pub mod RelativeRoots

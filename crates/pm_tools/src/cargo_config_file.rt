@@ -2,15 +2,22 @@
 //! come from is told by comments alone.
 
 ghost use Rattle.std.specs.Prelude.{◌≡◌, IfOk, option_map, string_bytes};
+ghost use Rattle.base_text.specs.AbsPath.{abs_text};
 ghost use Rattle.toml.specs.Parse.{parse_document};
 ghost use Rattle.toml.specs.View.{table_view, view};
 ghost use Rattle.config_origins.specs.Statements.{origin_root};
+ghost use Rattle.pm_sysroot.specs.Ask.{means_of};
 ghost use Rattle.pm_tools.specs.Config.{below_keys, value_at_keys};
+ghost use Rattle.pm_tools.specs.ConfigQuestion.{config_of};
 
-use base_text::{AbsPathBuf, Text, TryClone};
+use crate::config_question::config_question;
+use base_text::{AbsPath, AbsPathBuf, Runner, Text, TryClone};
+use pm_packages::ManifestPath;
+use pm_sysroot::{Ask, Sysroot, serving_answer};
 use std::alloc::{AllocError, Global};
 use std::marker::Model;
 use toml::{Table, Value};
+use trees::Tree;
 
 /// A printed configuration. The text may be one that TOML refuses, which has no values.
 #[derive(Debug, Drop)]
@@ -41,6 +48,25 @@ fn below_keys<'a>(document: &'a Value, keys: &[Text]) -> Option<&'a Value>
 }
 
 impl CargoConfigFile {
+    /// The configuration that `cargo` prints for a manifest, with the file at `config_path` given to it.
+    /// None where no answer is recorded, or where the command failed.
+    pub fn load<R: Runner, T: Tree>(
+        alloc: Global,
+        manifest: &ManifestPath,
+        sysroot: &Sysroot,
+        config_path: Option<AbsPath<'_>>,
+        ask: &Ask<'_, R, T>,
+    ) -> Result<Option<CargoConfigFile>, AllocError>
+        ensures { IfOk result (λ file. file ≡ config_of manifest.now sysroot.now
+            (option_map abs_text config_path.entry) (means_of R.answers T.files ask.now)) }
+    {
+        let question = config_question(alloc, manifest, sysroot, config_path, ask)?;
+        match serving_answer(alloc, ask.runner, &question)? {
+            Some(text) => Ok(Some(CargoConfigFile { text })),
+            None => Ok(None),
+        }
+    }
+
     pub fn from_text(text: String) -> Self
         ensures { result ≡ string_bytes text }
     {
