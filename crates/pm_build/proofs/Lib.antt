@@ -1,0 +1,6 @@
+mod ArtifactLemmas
+mod LibraryLemmas
+mod OutputLemmas
+mod PackageLemmas
+mod ReadingLemmas
+mod ScriptLemmas

@@ -1,0 +1,8 @@
+use Rattle.std.proofs.Common.{◌≡◌, fold, map}
+use Rattle.std.specs.FinMap.{empty, insert}
+use Rattle.base_text.specs.Arena.{number_of}
+use Rattle.pm_build.specs.Output.{default_output}
+use Rattle.pm_build.proofs.outputs.default_outputs.Given as goal
+
+abbrev pub invariant-loop-package : goal.invariant-loop-package
+invariant-loop-package l = l.outputs ≡ fold (λ outputs number. insert outputs number default_output) empty (map number_of l.yielded)

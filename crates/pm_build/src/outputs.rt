@@ -1,0 +1,266 @@
+//! The outputs of packages, and the lines of errors, while the messages of a build are read.
+
+ghost use Rattle.std.specs.Prelude.{◌≡◌, fold, length, IfOk, OnOk};
+ghost use Rattle.std.specs.Str.Lines.{lines};
+ghost use Rattle.base_text.specs.Arena.{number_of};
+ghost use Rattle.pm_reading.specs.Nodes.{place_of};
+ghost use Rattle.pm_build.specs.Artifact.{output_after_artifact};
+ghost use Rattle.pm_build.specs.Outputs.{default_outputs, error_of, outputs_after, start_state, take_artifact, take_line, take_message, take_rendered, take_script, with_error, with_line};
+ghost use Rattle.pm_build.specs.Reading.{Leaves, take_each};
+ghost use Rattle.pm_build.specs.Script.{invalid_cfg_line, output_after_script};
+
+use crate::artifact::{gives_library, take_artifact};
+use crate::build_error::BuildError;
+use crate::output::BuildScriptOutput;
+use crate::packages::KnownPackages;
+use crate::script::{AtomsError, atoms_of, take_script};
+use base_text::{ArenaMap, CfgAtom, Items, Text};
+use cargo_msgs::{Artifact, BuildScript, CompilerMessage, Message};
+use pm_cargo::CargoWorkspace;
+use pm_config::Progress;
+use pm_packages::{Package, PackageTag};
+use std::alloc::{AllocError, Global};
+use std::marker::Model;
+
+/// The outputs of packages, each under the number of its package.
+pub(crate) type Outputs = ArenaMap<PackageTag, BuildScriptOutput>;
+
+// The outputs that the packages of a workspace start with.
+fn default_outputs(alloc: Global, workspace: &CargoWorkspace) -> Result<Outputs, AllocError>
+    ensures { IfOk result (λ outputs. outputs ≡ default_outputs (length workspace.now.packages)) }
+{
+    let mut outputs = ArenaMap::new(alloc);
+    for package in workspace.packages() {
+        drop(outputs.insert(package, BuildScriptOutput::new(alloc))?);
+    }
+    Ok(outputs)
+}
+
+// Takes an artifact of the package, if it has an output.
+fn change_by_artifact(
+    alloc: Global,
+    outputs: &mut Outputs,
+    package: Package,
+    artifact: &Artifact,
+) -> Result<(), BuildError>
+    ensures { Leaves result outputs.new
+        (outputs_after (output_after_artifact artifact.now) outputs.old (number_of «package»)) }
+{
+    match outputs.get_mut(package) {
+        Some(output) => take_artifact(alloc, artifact, output),
+        None => Ok(()),
+    }
+}
+
+// Takes a build script of the package, if it has an output.
+fn change_by_script(
+    alloc: Global,
+    outputs: &mut Outputs,
+    package: Package,
+    script: BuildScript,
+    atoms: Items<CfgAtom>,
+) -> Result<(), BuildError>
+    ensures { Leaves result outputs.new
+        (outputs_after (output_after_script script atoms) outputs.old (number_of «package»)) }
+{
+    match outputs.get_mut(package) {
+        Some(output) => take_script(alloc, script, atoms, output),
+        None => Ok(()),
+    }
+}
+
+/// What is known while the messages of a build are read.
+#[derive(Drop)]
+pub(crate) struct OutputsBuilder {
+    outputs: Outputs,
+    // The lines of errors, each with a newline.
+    errors: String,
+}
+
+impl Model for OutputsBuilder {
+    ghost use Rattle.std.specs.Prelude.{string_bytes};
+    ghost use Rattle.pm_build.specs.Outputs as seen;
+
+    ghost Value = { seen.BuildState };
+
+    ghost coded = { seen.build_state_code };
+
+    ghost view = { λ a. record { outputs = a.outputs; errors = string_bytes a.errors } };
+}
+
+impl OutputsBuilder {
+    pub(crate) fn new(
+        alloc: Global,
+        workspace: &CargoWorkspace,
+    ) -> Result<OutputsBuilder, AllocError>
+        ensures { IfOk result (λ builder. builder ≡ start_state workspace.now.packages) }
+    {
+        Ok(OutputsBuilder {
+            outputs: default_outputs(alloc, workspace)?,
+            errors: String::new(alloc),
+        })
+    }
+
+    // Adds a line of errors.
+    fn push_error(&mut self, line: &str) -> Result<(), AllocError>
+        ensures { OnOk result (self.new ≡ with_error self.old line.now) }
+    {
+        self.errors.push_str(line)?;
+        self.errors.push('\n')?;
+        Ok(())
+    }
+
+    // Adds the line that stands for a build script with a text that is no atom.
+    fn push_invalid(&mut self, alloc: Global, cfg: &str) -> Result<(), AllocError>
+        ensures { OnOk result (self.new ≡ with_error self.old (invalid_cfg_line cfg.now)) }
+    {
+        let line = format!(in alloc; "invalid cfg from cargo-metadata: {cfg}")?;
+        self.push_error(line.as_str())
+    }
+
+    // Whether an artifact gives the package its library.
+    fn gains_library(&self, package: Package, artifact: &Artifact) -> bool {
+        match self.outputs.get(package) {
+            Some(output) => gives_library(artifact, &output.proc_macro_dylib_path),
+            None => false,
+        }
+    }
+
+    // Takes an artifact. That of an unknown package is skipped.
+    fn take_artifact<P: Progress>(
+        &mut self,
+        alloc: Global,
+        packages: &KnownPackages<'_>,
+        artifact: &Artifact,
+        progress: &mut P,
+    ) -> Result<(), BuildError>
+        ensures { Leaves result self.new (take_artifact self.old artifact.now
+            (place_of packages.now.workspace.now.packages artifact.now.package_id.repr)) }
+    {
+        let Some(package) = packages.find(&artifact.package_id) else {
+            return Ok(());
+        };
+        if self.gains_library(package, artifact) {
+            let text = format!(in alloc; "proc-macro {} built", packages.name(package))?;
+            progress.line(text.as_str());
+        }
+        change_by_artifact(alloc, &mut self.outputs, package, artifact)
+    }
+
+    // Takes a build script. That of an unknown package is skipped, and one with a text that is no atom
+    // gives a line of errors alone.
+    fn take_script<P: Progress>(
+        &mut self,
+        alloc: Global,
+        packages: &KnownPackages<'_>,
+        script: BuildScript,
+        progress: &mut P,
+    ) -> Result<(), BuildError>
+        ensures { Leaves result self.new (take_script self.old script
+            (place_of packages.now.workspace.now.packages script.package_id.repr)) }
+    {
+        let Some(package) = packages.find(&script.package_id) else {
+            return Ok(());
+        };
+        let text = format!(in alloc; "build script {} run", packages.name(package))?;
+        progress.line(text.as_str());
+        match atoms_of(alloc, script.cfgs.as_slice()) {
+            Ok(atoms) => change_by_script(alloc, &mut self.outputs, package, script, atoms),
+            Err(AtomsError::Invalid(cfg)) => Ok(self.push_invalid(alloc, cfg.as_str())?),
+            Err(AtomsError::OutOfMemory) => Err(BuildError::OutOfMemory),
+        }
+    }
+
+    // Takes what the compiler said, as it rendered it, if it did.
+    fn take_compiler_message<P: Progress>(
+        &mut self,
+        alloc: Global,
+        message: &CompilerMessage,
+        progress: &mut P,
+    ) -> Result<(), AllocError>
+        ensures { OnOk result (self.new ≡ take_rendered self.old message.now.message.rendered) }
+    {
+        let target = message.target.name.as_str();
+        let text = format!(in alloc; "received compiler message for: {target}")?;
+        progress.line(text.as_str());
+        match &message.message.rendered {
+            Some(rendered) => self.push_error(rendered.as_str()),
+            None => Ok(()),
+        }
+    }
+
+    // Takes a message.
+    fn take_message<P: Progress>(
+        &mut self,
+        alloc: Global,
+        packages: &KnownPackages<'_>,
+        message: Message,
+        progress: &mut P,
+    ) -> Result<(), BuildError>
+        ensures { Leaves result self.new
+            (take_message packages.now.workspace.now.packages self.old message) }
+    {
+        match message {
+            Message::CompilerArtifact(artifact) => {
+                self.take_artifact(alloc, packages, &artifact, progress)
+            }
+            Message::BuildScriptExecuted(script) => {
+                self.take_script(alloc, packages, script, progress)
+            }
+            Message::CompilerMessage(message) => {
+                self.take_compiler_message(alloc, &message, progress)?;
+                Ok(())
+            }
+            Message::BuildFinished(_) | Message::TextLine(_) => Ok(()),
+        }
+    }
+
+    /// Takes the lines of the standard output.
+    pub(crate) fn take_lines<P: Progress>(
+        &mut self,
+        alloc: Global,
+        packages: &KnownPackages<'_>,
+        out: &str,
+        progress: &mut P,
+    ) -> Result<(), BuildError>
+        ensures { Leaves result self.new
+            (take_each (take_line packages.now.workspace.now.packages) self.old (lines out.now)) }
+    {
+        for line in out.lines() {
+            let message = Message::of_line(alloc, line)?;
+            self.take_message(alloc, packages, message, progress)?;
+        }
+        Ok(())
+    }
+
+    /// Adds the lines of the error stream.
+    pub(crate) fn push_errors(&mut self, err: &str) -> Result<(), AllocError>
+        ensures { OnOk result (self.new ≡ record self.old {
+          errors = fold with_line self.old.errors (lines err.now);
+        }) }
+    {
+        for line in err.lines() {
+            self.push_error(line)?;
+        }
+        Ok(())
+    }
+
+    /// The outputs, and why the build failed, if it did.
+    pub(crate) fn finish(
+        self,
+        alloc: Global,
+        ok: bool,
+    ) -> Result<(Outputs, Option<Text>), AllocError>
+        ensures { IfOk result (λ given. given ≡ (self.outputs, error_of ok self.errors)) }
+    {
+        let OutputsBuilder { outputs, errors } = self;
+        let error = if ok {
+            None
+        } else if errors.is_empty() {
+            Some(Text::of_str(alloc, "cargo check failed")?)
+        } else {
+            Some(Text::new(errors))
+        };
+        Ok((outputs, error))
+    }
+}
