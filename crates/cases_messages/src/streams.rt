@@ -60,7 +60,10 @@ fn numbers(alloc: Global, values: &[Value]) -> Result<Vec<u64>, Fault> {
     Ok(numbers)
 }
 
-fn items<S: ByteSource + Drop>(alloc: Global, mut messages: MessageIter<S>) -> Result<Value, Fault> {
+fn items<S: ByteSource + Drop>(
+    alloc: Global,
+    mut messages: MessageIter<S>,
+) -> Result<Value, Fault> {
     let mut items = Vec::new(alloc);
     for _ in 0..u64::MAX {
         match messages.next() {
@@ -84,7 +87,10 @@ fn fault_answer(alloc: Global, fault: ItemFault) -> Result<Value, Fault> {
 }
 
 // How many messages, lines of text and refused lines there are.
-fn count<S: ByteSource + Drop>(alloc: Global, mut messages: MessageIter<S>) -> Result<Value, Fault> {
+fn count<S: ByteSource + Drop>(
+    alloc: Global,
+    mut messages: MessageIter<S>,
+) -> Result<Value, Fault> {
     let mut read = 0u64;
     let mut texts = 0u64;
     let mut faults = 0u64;

@@ -16,8 +16,8 @@ loop-krate-preserved c =
     record {
       count = length-set marks krate true ∙ c.loop-krate.invariant.count;
       listed =
-      listed_more marks listed place krate c.loop-krate-test.true is
-      (omega (arith, is, below, c.loop-krate.invariant.count)) c.loop-krate.invariant.listed;
+          listed_more marks listed place krate c.loop-krate-test.true is
+          (omega (arith, is, below, c.loop-krate.invariant.count)) c.loop-krate.invariant.listed;
     }
 
 pub returns-clause-listed : goal.returns-clause-listed
