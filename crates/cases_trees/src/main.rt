@@ -1,7 +1,7 @@
 //! Cases of trees of files.
 #![tactic(auto)]
 
-mod trees;
+mod answers;
 
 use cases::{Case, Family, Fault, run_files};
 use serde_json::Value;
@@ -14,7 +14,7 @@ struct TreeFamily;
 impl<R: AllocGlobal> Family<R> for TreeFamily {
     fn answer(rt: &R, file: &str, case: Case<'_>) -> Result<Value, Fault> {
         match file {
-            "trees.jsonl" => trees::answer(rt.alloc(), case),
+            "trees.jsonl" => answers::answer(rt.alloc(), case),
             _ => Err(Fault::Kind),
         }
     }
