@@ -7,6 +7,7 @@ use Rattle.std.specs.Ordering.{nat_cmp}
 use Rattle.std.specs.Str.Lines.{lines}
 use Rattle.base_text.specs.declared.cfg.CfgAtom.{CfgAtom}
 use Rattle.outside.specs.declared.command.Output.{Output}
+use Rattle.cargo_diagnostics.specs.declared.diagnostic.Diagnostic.TheViews.{out-Diagnostic}
 use Rattle.cargo_msgs.specs.Messages.{message_of}
 use Rattle.cargo_msgs.specs.declared.artifact.Artifact.{Artifact}
 use Rattle.cargo_msgs.specs.declared.build.BuildScript.{BuildScript}
@@ -100,7 +101,7 @@ take_rendered s (Some text) = with_error s text
 abbrev pub take_message : List PackageData → BuildState → Message → Reading BuildState
 take_message packages s (message.CompilerArtifact a) = take_artifact s a (place_of packages a.package_id.repr)
 take_message packages s (message.BuildScriptExecuted script) = take_script s script (place_of packages script.package_id.repr)
-take_message packages s (message.CompilerMessage m) = Ok (take_rendered s m.message.rendered)
+take_message packages s (message.CompilerMessage m) = Ok (take_rendered s (out-Diagnostic m.message).rendered)
 take_message packages s (message.BuildFinished end) = Ok s
 take_message packages s (message.TextLine line) = Ok s
 

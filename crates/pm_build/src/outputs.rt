@@ -4,6 +4,7 @@ ghost use Rattle.std.specs.Prelude.{◌≡◌, fold, length, IfOk, OnOk};
 ghost use Rattle.std.specs.Str.Lines.{lines};
 ghost use Rattle.base_text.specs.Arena.{number_of};
 ghost use Rattle.pm_reading.specs.Nodes.{place_of};
+ghost use Rattle.cargo_diagnostics.specs.declared.diagnostic.Diagnostic.{out-Diagnostic};
 ghost use Rattle.pm_build.specs.Artifact.{output_after_artifact};
 ghost use Rattle.pm_build.specs.Outputs.{default_outputs, error_of, outputs_after, start_state, take_artifact, take_line, take_message, take_rendered, take_script, with_error, with_line};
 ghost use Rattle.pm_build.specs.Reading.{Leaves, take_each};
@@ -178,7 +179,8 @@ impl OutputsBuilder {
         message: &CompilerMessage,
         progress: &mut P,
     ) -> Result<(), AllocError>
-        ensures { OnOk result (self.new ≡ take_rendered self.old message.now.message.rendered) }
+        ensures { OnOk result (self.new
+            ≡ take_rendered self.old (out-Diagnostic message.now.message).rendered) }
     {
         let target = message.target.name.as_str();
         let text = format!(in alloc; "received compiler message for: {target}")?;
