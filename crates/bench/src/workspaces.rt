@@ -15,7 +15,11 @@ pub fn build(alloc: Global, text: &str) -> Result<usize> {
     let limits = Limits::greatest();
     let env = Env::new(alloc);
     let workspace = CargoWorkspace::new(alloc, metadata, manifest, env, false, &limits)?;
-    Ok(workspace.packages().count())
+    let mut count = 0usize;
+    for _ in workspace.packages() {
+        count = count.saturating_add(1);
+    }
+    Ok(count)
 }
 
 fn manifest(alloc: Global) -> Result<ManifestPath> {
