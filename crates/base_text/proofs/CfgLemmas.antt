@@ -98,7 +98,7 @@ names_key text key quoted value at found between k v same_key same_value =
 pub names_none : (text key quoted : List ℕ) → SplitsAtEquals text key quoted → None ≡ unquoted quoted → atom_of text ≡ None
 names_none text key quoted at bad = atom_of-bad text at.within (ap unquoted (sym at.after) ∙ sym bad)
 
--- out of memory is not told as a bad text, and a text that names an atom is none
+-- out of memory is not reported as a bad text, and a text that names an atom is none
 pub not_bad : (text : List ℕ) (atom : CfgAtom) (r : Result CfgAtom CfgError)
     → atom_of text ≡ Some atom → IsErrAnd r (λ e. e ≡ OutOfMemory) → IsErrOf r BadCfg ↔ (atom_of text ≡ None)
 not_bad text atom (Ok x) named memory = absurd memory

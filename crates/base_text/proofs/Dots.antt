@@ -12,7 +12,7 @@ use Rattle.base_text.specs.Rows.{IsCutAtLast, Lacks}
 not_dot : (text : List ℕ) (k : ℕ) → Lacks 46 text → k < length text → not (is_dot (get_or text k 0)) ≡ true
 not_dot text k lacks l = ap not (All-from_recursion (λ b. (b == 46) ≡ false) text lacks k 0 l)
 
--- what stands behind the last dot, by its length
+-- what follows the last dot, by its length
 suffix_at_cut : (name front back : List ℕ) → IsCutAtLast 46 name front back → suffix_len (λ b. not (is_dot b)) name ≡ length name - (length front + 1)
 suffix_at_cut name front back cut =
     let whole : length name ≡ length front + (length back + 1) = omega (arith, ap length cut.parts, length-append front (46 ∷ back)) in

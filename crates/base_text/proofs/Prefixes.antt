@@ -11,7 +11,7 @@ use Rattle.base_text.specs.Paths.{components, is_component, is_prefix, slashed, 
 use Rattle.base_text.specs.Rows.{IsRow, IsSlashed}
 use Rattle.base_text.proofs.Names.{components_are_names, row_of_names, split_slashed, filter_names, AreNames, IsName, IsUnbroken}
 
--- names of which each ends at a slash or at the end are told apart
+-- names of which each ends at a slash or at the end are distinguished
 same_names : (name next rest more : List ℕ) → IsUnbroken name → IsUnbroken next → get_or rest 0 47 ≡ 47 → get_or more 0 47 ≡ 47 → name ++ rest ≡ next ++ more → (name ≡ next) × (rest ≡ more)
 same_names [] [] rest more u v a b e = (refl, e)
 same_names [] (c ∷ next) rest more u v a b e =
@@ -26,7 +26,7 @@ same_names (c ∷ name) (d ∷ next) rest more u v a b e =
     let tails = same_names name next rest more u.1 v.1 a b others in
     (cc, tails.1)
 
--- a row is empty or begins with a slash, whatever stands behind it does so too
+-- a row is empty or begins with a slash, whatever follows it does so too
 head_of_row : (parts : List (List ℕ)) (rest : List ℕ) → get_or rest 0 47 ≡ 47 → get_or (slashed parts ++ rest) 0 47 ≡ 47
 unfolding slashed
 head_of_row [] rest a = a

@@ -36,7 +36,7 @@ HasTaken-up text short start parts part h up e =
       names = rw now (recursion_from_All IsName _ (All-take IsName (length taken - 1) taken (All-from_recursion IsName taken h.names)));
     }
 
--- a name stands behind one more slash
+-- a name follows one more slash
 pub HasTaken-name : (text slash more : List ℕ) (start parts : List (List ℕ)) (part : List ℕ) → HasTaken text start parts → bytes_eq part (codes "..") ≡ false → IsName part → slash ≡ text ++ 47 ∷ [] → more ≡ slash ++ part → HasTaken more start (parts ++ part ∷ [])
 unfolding resolve
 HasTaken-name text slash more start parts part h other name one two =

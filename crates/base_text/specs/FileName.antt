@@ -14,6 +14,6 @@ has_extension name = nat_lt 0 (length (before_last is_dot name))
 unfoldable pub stem_of : List ℕ → List ℕ
 stem_of name = if has_extension name then before_last is_dot name else name
 
--- what stands behind the last dot, if that is an extension
+-- what follows the last dot, if that is an extension
 unfoldable pub extension_of : List ℕ → Option (List ℕ)
 extension_of name = if has_extension name then Some (after_last is_dot name) else None

@@ -1,4 +1,4 @@
--- How a path's text is built and cut: as a row, in which each component stands behind a slash.
+-- How a path's text is built and cut: as a row, in which each component follows a slash.
 use Rattle.std.specs.Prelude.{◌≡◌, ℕ, ◌<◌, false, ◌==◌, List, ◌∷◌, ◌++◌, length, take}
 use Rattle.std.specs.List.{AllByRecursion}
 use Rattle.std.specs.Str.{IsCharBoundary}

@@ -1,4 +1,4 @@
--- Parts of bytes that were read, and what a test for emptiness tells.
+-- Parts of bytes that were read, and what a test for emptiness means.
 use Rattle.std.proofs.Common.{◌≡◌, ℕ, ◌+◌, ◌-◌, ◌<◌, ◌≤◌, true, false, [], List, ◌∷◌, ◌++◌, ◌==◌, length, take, drop, get_or, refl, sym, ap, ◌∙◌, length-take, take-append-drop, drop-cons, add-one, arith}
 use Rattle.std.proofs.lemmas.List.{drop-take, drop-drop}
 use Rattle.std.proofs.lemmas.Bool.Decides.{nat_tests}
@@ -23,7 +23,7 @@ IsFirstNewline-cut bytes start end at ordered fits first =
     (drop-cons part at 0 inside ∙ ap (λ n. get_or part at 0 ∷ drop n part) (sym (add-one at)) ∙ ap (λ l. get_or part at 0 ∷ l) (range_after bytes start end (at + 1) short)
     ∙ ap (λ b. b ∷ slice_range bytes (start + (at + 1)) end) first.here)
 
--- what a test for emptiness tells
+-- what a test for emptiness means
 pub empty_from : (p : List ℕ) → true ≡ (length p == 0) → p ≡ []
 empty_from [] h = refl
 empty_from (b ∷ bs) h = absurd (grind (arith, nat_tests))

@@ -121,7 +121,7 @@ module _ (first left : Option (List ℕ)) (given : List (Option (List ℕ))) (pa
       cut = subst (λ d. IsCut d gave.front (gave.line ++ piece') left') (sym not_done) front_cut;
     }
 
-    -- the end was told: what is held is the last line, where it is not empty
+    -- the end was reported: what is held is the last line, where it is not empty
     pub Gave-end : count ≡ 0 → (last : Option (Option (List ℕ))) → ((line : List ℕ) → IsHeld line part → last ≡ last_item_of part.max_line line)
         → Gave first left' (given ++ listed last) (reader (no_part part.max_line) piece' room true)
     Gave-end none last gives =
@@ -145,7 +145,7 @@ pub Gave-last : (first left : Option (List ℕ)) (given : List (Option (List ℕ
 Gave-last first left given new result last is gave =
     subst (λ g. Gave first left g new) (sym (after_last given result ∙ ap (λ l. given ++ listed l) is)) gave
 
--- what an answer tells at the end
+-- what an answer means at the end
 pub Tells-last : (result : Option Line) (old new : Reader) (before now : ℕ) → new.is_done ≡ true → Tells (Ok result) old new before now
 Tells-last None old new before now done = inl done
 Tells-last (Some line) old new before now done = tt

@@ -9,7 +9,7 @@ use Rattle.bounded_lines.specs.Lines.{has_newline, lines_of, partial_line}
 use Rattle.bounded_lines.specs.Part.{IsHeld, Part, bytes_of, item_of, no_part}
 
 -- what is held of the line that is read, the bytes behind it that were read and not looked at, how many more may be read, and
--- whether the source told its end
+-- whether the source reported its end
 pub record Reader : Type 0 where
   pub part : Part
   pub piece : List ℕ
@@ -48,7 +48,7 @@ lines_after given (Ok (Some line)) = given ++ bytes_of line ∷ []
 lines_after given (Ok None) = given
 lines_after given (Err error) = given
 
--- no line is left: the source told its end, or no more may be read of it and no newline waits
+-- no line is left: the source reported its end, or no more may be read of it and no newline waits
 abbrev pub IsSpent : Reader → Type 0
 IsSpent reader = (reader.is_done ≡ true) ⊎ ((reader.room ≡ 0) × (reader.piece ≡ []))
 
@@ -56,7 +56,7 @@ IsSpent reader = (reader.is_done ≡ true) ⊎ ((reader.room ≡ 0) × (reader.p
 abbrev pub bytes_ahead : Reader → ℕ
 bytes_ahead reader = length reader.piece + reader.room
 
--- what an answer tells: none is the end, and an error has its cause
+-- what an answer means: none is the end, and an error has its cause
 abbrev pub Tells : Result (Option Line) LineError → Reader → Reader → ℕ → ℕ → Type 0
 Tells (Ok (Some line)) old new before now = Unit {0}
 Tells (Ok None) old new before now = IsSpent new

@@ -33,7 +33,7 @@ trim_trailing-is path n e = ap (λ k. take k path) (sym e)
 not_slash : (text : List ℕ) (k : ℕ) → Lacks 47 text → k < length text → not (is_slash (get_or text k 0)) ≡ true
 not_slash text k lacks l = ap not (All-from_recursion (λ b. (b == 47) ≡ false) text lacks k 0 l)
 
--- what stands behind the last slash, by its length
+-- what follows the last slash, by its length
 suffix_at_cut : (text front back : List ℕ) → IsCutAtLast 47 text front back → suffix_len (λ b. not (is_slash b)) text ≡ length text - (length front + 1)
 suffix_at_cut text front back cut =
     let whole : length text ≡ length front + (length back + 1) = omega (arith, ap length cut.parts, length-append front (47 ∷ back)) in

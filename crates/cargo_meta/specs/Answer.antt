@@ -37,7 +37,7 @@ of_line (Some line) = as_json (document metadata_at line)
 abbrev pub of_output : Output → Result Metadata Error
 of_output output = if output.ok then of_line (json_line output.out) else Err (CargoMetadata output.err)
 
--- what is had of the answer to a command, if there is one
+-- what the answer to a command gives, if there is one
 abbrev pub of_answer : CommandLine → Option Output → Result Metadata Error
 of_answer line None = Err (Io (line_text line))
 of_answer line (Some output) = of_output output

@@ -4,7 +4,7 @@ use Rattle.std.specs.List.{suffix_len}
 use Rattle.std.specs.Path.{root_dir, trim_trailing}
 use Rattle.base_text.specs.Paths.{is_absolute, is_slash}
 
--- the text without what stands behind its last slash
+-- the text without what follows its last slash
 abbrev pub up_to_slash : List ℕ → List ℕ
 up_to_slash text = take (length text - suffix_len (λ b. not (is_slash b)) text) text
 

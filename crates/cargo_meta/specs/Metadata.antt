@@ -9,7 +9,7 @@ use Rattle.cargo_meta.specs.Package.{package_at, package_data}
 use Rattle.cargo_values.specs.Resolve.{resolve_at, resolve_data}
 use Rattle.cargo_meta.specs.declared.metadata.Metadata.{Metadata}
 
--- a document as its members tell it
+-- a document as its members give it
 unfoldable pub metadata_from : Members → Reading Metadata
 metadata_from ms = do
   packages ← required (codes "packages") (list_at package_at) ms
@@ -33,7 +33,7 @@ metadata_from ms = do
     version = version;
   })
 
--- a document as its value tells it
+-- a document as its value gives it
 unfoldable pub metadata_at : Data → Reading Metadata
 metadata_at d = members_at d >>= metadata_from
 

@@ -19,7 +19,7 @@ use serde_json::{Map, Value};
 use std::alloc::{AllocError, Global};
 use std::marker::Model;
 
-/// The members that `cargo` works on by default, or none where this `cargo` does not tell them.
+/// The members that `cargo` works on by default, or none where this `cargo` does not give them.
 #[derive(Debug, PartialEq, Eq, Drop)]
 pub struct WorkspaceDefaultMembers {
     ids: Option<Items<PackageId>>,
@@ -43,14 +43,14 @@ impl WorkspaceDefaultMembers {
         WorkspaceDefaultMembers { ids }
     }
 
-    /// Whether the document tells the default members.
+    /// Whether the document gives the default members.
     pub fn is_available(&self) -> bool
         ensures { result ≡ is_some self.now }
     {
         self.ids.is_some()
     }
 
-    /// Whether the document does not tell them, as those of `cargo` before 1.71.
+    /// Whether the document does not give them, as those of `cargo` before 1.71.
     pub fn is_missing(&self) -> bool
         ensures { result ≡ is_none self.now }
     {

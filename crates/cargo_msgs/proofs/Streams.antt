@@ -59,7 +59,7 @@ GaveMessages-line bytes (Err TooLong) is first left left' given reader reader' l
 GaveMessages-line bytes (Err ReadFault) is first left left' given reader reader' lives step before = absurd is
 GaveMessages-line bytes (Err OutOfMemory) is first left left' given reader reader' lives step before = absurd (true≢false lives)
 
--- an item of a line tells nothing more
+-- an item of a line means nothing more
 pub Tells-line : {S : Type 0} (bytes : List ℕ) (item : Item) → GivesItem item (item_of_bytes bytes) → (old new : Stream S) (before now : ℕ) → Tells (Some item) old new before now
 Tells-line bytes (Ok m) is old new before now = tt
 Tells-line bytes (Err NotUtf8) is old new before now = tt

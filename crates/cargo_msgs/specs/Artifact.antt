@@ -53,7 +53,7 @@ artifact_from ms = do
     fresh = fresh;
   })
 
--- an artifact as its document tells it
+-- an artifact as its document gives it
 unfoldable pub artifact_at : Data → Reading Artifact
 artifact_at d = members_at d >>= artifact_from
 

@@ -27,7 +27,7 @@ build_script_from ms = do
     out_dir = out_dir;
   })
 
--- a build script as its document tells it
+-- a build script as its document gives it
 unfoldable pub build_script_at : Data → Reading BuildScript
 build_script_at d = members_at d >>= build_script_from
 
@@ -47,7 +47,7 @@ build_finished_from ms = do
   success ← required (codes "success") flag_at ms
   Ok (record { success = success })
 
--- the end of a build as its document tells it
+-- the end of a build as its document gives it
 unfoldable pub build_finished_at : Data → Reading BuildFinished
 build_finished_at d = members_at d >>= build_finished_from
 

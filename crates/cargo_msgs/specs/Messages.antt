@@ -24,7 +24,7 @@ compiler_message_from ms = do
   diagnostic ← required (codes "message") diagnostic_at ms
   Ok (record { package_id = package_id; target = target; message = diagnostic })
 
--- what the compiler said, as its document tells it
+-- what the compiler said, as its document gives it
 unfoldable pub compiler_message_at : Data → Reading CompilerMessage
 compiler_message_at d = members_at d >>= compiler_message_from
 
@@ -50,7 +50,7 @@ message_from ms = do
   reason ← required (codes "reason") text_at ms
   message_by reason ms
 
--- a message as its document tells it
+-- a message as its document gives it
 unfoldable pub message_at : Data → Reading Message
 message_at d = members_at d >>= message_from
 

@@ -60,7 +60,7 @@ is_fatal (Some (Err TooLong)) = false
 is_fatal (Some (Err ReadFault)) = true
 is_fatal (Some (Err OutOfMemory)) = true
 
--- what an answer tells: none is the end of the lines, or follows a fault; a fault of the source has its cause
+-- what an answer means: none is the end of the lines, or follows a fault; a fault of the source has its cause
 abbrev pub Tells : {S : Type 0} → Option Item → Stream S → Stream S → ℕ → ℕ → Type 0
 Tells None old new before now = IsSpent new.lines ⊎ (old.has_failed ≡ true)
 Tells (Some (Ok m)) old new before now = Unit {0}

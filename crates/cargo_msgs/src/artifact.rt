@@ -28,7 +28,7 @@ pub struct ArtifactProfile {
 #[derive(Debug, PartialEq, Eq, Drop)]
 pub struct Artifact {
     pub package_id: PackageId,
-    /// The manifest, which is empty where an old `cargo` does not tell it.
+    /// The manifest, which is empty where an old `cargo` does not give it.
     pub manifest_path: Text,
     pub target: Target,
     pub profile: ArtifactProfile,

@@ -12,7 +12,7 @@ use json_fields::{Json, ReadError, ReadJson, defaulted, members, required, set};
 use serde_json::{Map, Value};
 use std::alloc::{AllocError, Global};
 
-/// What a package's build script told `cargo`.
+/// What a package's build script reported to `cargo`.
 #[derive(Debug, PartialEq, Eq, Drop)]
 pub struct BuildScript {
     pub package_id: PackageId,
@@ -21,7 +21,7 @@ pub struct BuildScript {
     pub cfgs: Items<Text>,
     /// Variables of the environment, each with its value.
     pub env: Items<(Text, Text)>,
-    /// The directory of its output, which is empty where it is not told.
+    /// The directory of its output, which is empty where it is not given.
     pub out_dir: Text,
 }
 

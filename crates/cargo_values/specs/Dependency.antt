@@ -9,7 +9,7 @@ use Rattle.cargo_values.specs.Kinds.{dependency_kind_at, dependency_kind_data}
 use Rattle.cargo_values.specs.Names.{source_at, source_data}
 use Rattle.cargo_values.specs.declared.dependency.Dependency.{Dependency}
 
--- a dependency as its document tells it
+-- a dependency as its document gives it
 unfoldable pub dependency_at : Data → Reading Dependency
 dependency_at d = do
   ms ← members_at d

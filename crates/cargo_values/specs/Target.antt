@@ -8,7 +8,7 @@ use Rattle.cargo_values.specs.Kinds.{crate_type_at, crate_type_data, edition_at,
 use Rattle.cargo_values.specs.declared.kinds.Edition.TheVariants.{E2015}
 use Rattle.cargo_values.specs.declared.target.Target.{Target}
 
--- a target as its document tells it
+-- a target as its document gives it
 unfoldable pub target_at : Data → Reading Target
 target_at d = do
   ms ← members_at d

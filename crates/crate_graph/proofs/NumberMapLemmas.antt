@@ -18,7 +18,7 @@ use Rattle.base_text.specs.contracts.arena.IdxPartialEq.TheImpl as equals
 use Rattle.crate_values.specs.contracts.crate_data.CrateTag.{the_row}
 use Rattle.crate_graph.specs.Extend.{Id, moved_entry}
 
--- comparing two numbers tells whether they are one
+-- comparing two numbers decides whether they are one
 same_test : (a b : ℕ) → is_eq (nat_cmp a b) ≡ eqb a b
 same_test a b = elim (ltb a b) as (λ t. ltb a b ≡ t → is_eq (cond t Less (cond (eqb a b) Equal Greater)) ≡ eqb a b) [
   | true ↦ λ is. let differ : eqb a b ≡ false = grind (arith, nat_tests) in sym differ

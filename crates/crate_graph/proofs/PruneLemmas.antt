@@ -134,7 +134,7 @@ same_some (Some id) = refl
 some_number : (keep : List ℕ) (n : ℕ) → is_some (new_number keep n) ≡ is_named keep n
 some_number keep n = elim (is_named keep n) as (λ b. is_some (cond b (Some (kept_below keep n)) None) ≡ b) [ true ↦ refl | false ↦ refl ]
 
--- what a list of new numbers tells of a crate
+-- what a list of new numbers says of a crate
 module _ (keep : List ℕ) (ids : List (Option (Idx CrateTag))) (count : ℕ) (ids_are : map (option_map number_of) ids ≡ map (new_number keep) (range_with_len 0 count)) where
   pub length-ids : length ids ≡ count
   length-ids = sym (length-map ids (option_map number_of)) ∙ ap length ids_are ∙ length-map-range_with_len (new_number keep) 0 count

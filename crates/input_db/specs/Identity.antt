@@ -1,4 +1,4 @@
--- What tells the crates of a database from each other, and the table of all crates that it was ever given: each identity
+-- What distinguishes the crates of a database, and the table of all crates that it was ever given: each identity
 -- once, with what the database holds of its crate. The place of an entry is the number of its crate.
 -- From the way in which a language server's inputs are made of a crate graph: the first crate of a root file is known by that
 -- file alone, and each further one by its data and its conditional compilation as well.

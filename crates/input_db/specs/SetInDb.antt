@@ -1,6 +1,6 @@
 -- What a database is once the crates of a graph are set in it: the crate of each, what is held of it, and what stays.
 -- From the way in which a language server's inputs are made of a crate graph: crates are finished depth first, the first of
--- a root file is known by that alone, and only further crates of one root file are told from each other by all that they hold.
+-- a root file is known by that alone, and only further crates of one root file are distinguished by all that they hold.
 use Rattle.std.specs.Prelude.{◌≡◌, ◌↔◌, ◌⊎◌, ◌==◌, ℕ, ◌<◌, ◌≤◌, Bool, false, List, [], ◌∷◌, ◌++◌, Option, Some}
 use Rattle.std.specs.Prelude.{fold, if◌then◌else◌, length, map, nat_eq, not, slice_get, slice_index_or, take}
 use Rattle.std.specs.BTreeMap as tree

@@ -52,7 +52,7 @@ impl Model for InputDb {
 }
 
 impl InputDb {
-    /// A database of no files and no crates. Its nonce tells it from others.
+    /// A database of no files and no crates. Its nonce distinguishes it from others.
     pub fn new(alloc: Global, nonce: Nonce) -> Self
         ensures { result ≡ empty_database nonce }
     {

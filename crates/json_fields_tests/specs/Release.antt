@@ -7,7 +7,7 @@ use Rattle.json_fields.specs.Versions.{bare_at, requirement_at, version_at, vers
 use Rattle.json_fields.specs.Written.{list_data, map_data, option_data, set_member}
 use Rattle.json_fields_tests.specs.declared.release.Release.{Release}
 
--- a release as its document tells it
+-- a release as its document gives it
 unfoldable pub release_at : Data → Reading Release
 release_at d = do
   ms ← members_at d

@@ -37,7 +37,7 @@ pub taken-split : (files : Held) (roots : List SourceRoot) (entry : ℕ × Chang
 taken-split files roots entry rest true e = rw e refl
 taken-split files roots entry rest false e = rw e refl
 
--- a change that is taken stands behind those before it
+-- a change that is taken follows those before it
 pub takes_change : (files : Held) (roots : List SourceRoot) (all batch rest : List (ℕ × ChangedFile)) (entry : ℕ × ChangedFile)
     (before after : List (ℕ × Option (List ℕ))) (text : Option (List ℕ))
     → before ++ changes_taken files roots batch ≡ changes_taken files roots all → batch ≡ entry ∷ rest

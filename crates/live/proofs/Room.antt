@@ -1,4 +1,4 @@
--- Whether there is room for a path, as the files and as the marks tell it.
+-- Whether there is room for a path, as the files and as the marks have it.
 use Rattle.std.proofs.Common.{◌≡◌, ℕ, ◌<◌, ◌≤◌, true, false, ◌||◌, List, [], ◌∷◌, Option, Some, None, inl, inr, ◌⊎◌, refl, sym, ap, ◌∙◌, arith, length, nat_lt, subst}
 use Rattle.std.specs.List.{list_any}
 use Rattle.std.specs.Option.{is_some}

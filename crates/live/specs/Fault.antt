@@ -27,7 +27,7 @@ limit_name Packages = codes "packages"
 limit_name Targets = codes "targets"
 limit_name Crates = codes "crates"
 
--- the text that tells an error
+-- the text that reports an error
 unfoldable pub text_of : LiveError → List ℕ
 text_of OutOfMemory = codes "out of memory"
 text_of Usage = codes "usage: live [options] or live generate N"

@@ -27,7 +27,7 @@ pub record Fails (o : Outcome) (error : LiveError) (live : Live) (held : Told) :
   pub written : AppendsFront held o.pages
   pub refused : IsRefusal error → Stops o error live held
 
--- an error ends the session of the bytes that a source has left, where it tells them
+-- an error ends the session of the bytes that a source has left, where it shows them
 abbrev pub FailsFrom : State → LiveError → Live → Option (List ℕ) → Told → Type 0
 FailsFrom s error live left held = (all : List ℕ) → left ≡ Some all → Fails (session s all) error live held
 
@@ -44,7 +44,7 @@ pub record TakesAtMost (most : ℕ) (left : Told) : Type 0 where
   pub read : Consumes left.0 left.1 bytes
   pub few : length bytes ≤ most
 
--- a status is one of these, and a fault rose in the source or the sink where it tells one
+-- a status is one of these, and a fault rose in the source or the sink where it reports one
 pub record HasCause (statuses : List ℕ) (status : ℕ) (reads writes : Counts) : Type 0 where
   pub only : IsOneOf statuses status
   pub read : status ≡ 3 → Rose reads.0 reads.1

@@ -9,7 +9,7 @@ use Rattle.live.specs.declared.fault.LiveError.{LiveError}
 use Rattle.live.specs.declared.fault.LiveError.TheVariants.{TooMany, WriteFault}
 use Rattle.live.specs.Fault.{IsOneOf, status_of}
 
--- the bytes that a stream tells before a call, and after it: those left to read, or those written
+-- the bytes that a stream shows before a call, and after it: those left to read, or those written
 abbrev pub Told : Type 0
 Told = Option (List ℕ) × Option (List ℕ)
 

@@ -111,7 +111,7 @@ module _ (limit : ℕ) (first left : Option (List ℕ)) (given : List (List ℕ)
         cut = subst (λ d. IsCut d gave.front ((line ++ piece') ++ drop room bytes) left') (sym not_done) front_cut;
       }
 
-  -- the end was told: what waits is the last line, where it is not empty
+  -- the end was reported: what waits is the last line, where it is not empty
   pub Gave-end : (left' : Option (List ℕ)) (count : ℕ) → Reads room count left left' piece' → count ≡ 0 → past ≡ false → piece ≡ [] → (none : List ℕ) → none ≡ []
       → (given' : List (List ℕ)) → given' ≡ given ++ last_line line
       → Gave limit first left' given' (reader none piece' room past true ended)
@@ -165,7 +165,7 @@ pub not_idle : {S : Type 0} (old : Reader) (input₀ input : S) (line piece line
 not_idle old input₀ input line piece line' piece' idle moves uncut waits =
     let here = idle.idle waits in true≢false (sym waits ∙ ap has_newline (sym here.1) ∙ no_newline piece piece' line line' moves uncut)
 
--- too many bytes are told exactly where there are
+-- too many bytes are reported exactly where there are
 module _ (limit : ℕ) (left' : Option (List ℕ)) (given : List (List ℕ)) (all : List ℕ) (reader' : Reader) where
   -- the rest of the source
   spent_past : Gave limit (Some all) left' given reader' → reader'.is_past ≡ true → has_newline reader'.waiting ≡ false → IsSpent limit given all

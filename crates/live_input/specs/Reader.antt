@@ -8,7 +8,7 @@ use Rattle.live_input.specs.declared.lines.LineError.{LineError}
 use Rattle.live_input.specs.declared.lines.LineError.TheVariants.{ReadFault, TooMany, OutOfMemory, Ended}
 
 -- of the bytes within the limit those that wait to be given, and how many more there is room for; whether a byte past the
--- limit was taken, whether the source told its end, and whether a call was refused
+-- limit was taken, whether the source reported its end, and whether a call was refused
 pub record Reader : Type 0 where
   pub waiting : List ℕ
   pub room : ℕ
@@ -59,7 +59,7 @@ TooManyExactly (Err TooMany) Spent = Spent
 TooManyExactly (Err OutOfMemory) Spent = Unit {0}
 TooManyExactly (Err Ended) Spent = Unit {0}
 
--- what an answer tells: a line is one step on, no line is the end, and an error has its cause
+-- what an answer means: a line is one step on, no line is the end, and an error has its cause
 abbrev pub Tells : {Z : Type 0} → Result (Option (Vec ℕ Z)) LineError → Reader → Reader → ℕ → ℕ → Type 0
 Tells (Ok (Some line)) old new before now = bytes_ahead new < bytes_ahead old
 Tells (Ok None) old new before now = new.is_done ≡ true
@@ -68,7 +68,7 @@ Tells (Err TooMany) old new before now = (new.is_past ≡ true) × (has_newline 
 Tells (Err OutOfMemory) old new before now = Unit {0}
 Tells (Err Ended) old new before now = old.has_ended ≡ true
 
--- what a call answers: what it tells, whether it was refused, and that no fault is forgotten
+-- what a call answers: what it means, whether it was refused, and that no fault is forgotten
 pub record Answers {Z : Type 0} (result : Result (Option (Vec ℕ Z)) LineError) (old new : Reader) (before now : ℕ) : Type 0 where
   pub told : Tells result old new before now
   pub refused : new.has_ended ≡ is_err result

@@ -1,5 +1,6 @@
-//! Readers and writers of std as sources and sinks. A source tells what its reader has left, where std knows it;
-//! what a stream of the system gives is not known. A sink tells no bytes, since a flush may fail after a write.
+//! Readers and writers of std as sources and sinks. A source shows what its reader has left, where std
+//! knows it; what a stream of the system gives is not known. A sink shows no bytes, since a flush may
+//! fail after a write.
 
 ghost use Rattle.std.specs.Prelude.{◌≡◌, IfOk, take};
 ghost use Rattle.std.specs.Io.{WritesAtMost};
@@ -79,7 +80,7 @@ impl<W: Write> ByteSink for WriterSink<W> {
     }
 }
 
-// One write, and a flush after it. What it answers was written, where the writer tells its bytes.
+// One write, and a flush after it. What it answers was written, where the writer shows its bytes.
 fn write_through<W: Write>(writer: &mut W, piece: &[u8]) -> Result<usize, SinkError>
     ensures bound { WritesAtMost result piece.now }
     ensures taken { IfOk result (λ count.

@@ -1,4 +1,4 @@
--- Questions and their answers: the test of two command lines tells whether they ask the same, and the last answer to a
+-- Questions and their answers: the test of two command lines decides whether they ask the same, and the last answer to a
 -- question counts.
 use Rattle.std.proofs.Common.{◌≡◌, ◌↔◌, Bool, IsTrue, List, Some, cond, if◌then◌else◌, ap, sym, ◌∙◌}
 use Rattle.std.specs.Cmp.Lexicographic.{pointwise_decides, bytes_decides}

@@ -16,7 +16,7 @@ left_after left buffer = drop (read_count left buffer) left
 abbrev pub filled : List ℕ → List ℕ → List ℕ
 filled left buffer = take (read_count left buffer) left ++ drop (read_count left buffer) buffer
 
--- what is left is told, and it is these bytes
+-- what is left is known, and it is these bytes
 abbrev pub Knows : Option (List ℕ) → List ℕ → Type 0
 Knows left bytes = left ≡ Some bytes
 

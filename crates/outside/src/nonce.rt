@@ -1,4 +1,4 @@
-//! Numbers for things that must be told apart, none of which is given twice.
+//! Numbers that identify things, none of which is given twice.
 
 ghost use Rattle.std.specs.Prelude.{◌≡◌, ℕ};
 ghost use Rattle.outside.specs.Causes.{next_count};

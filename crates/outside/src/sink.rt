@@ -50,7 +50,7 @@ impl From<AllocError> for SinkError {
 
 /// A stream of bytes to write, which counts its faults.
 pub trait ByteSink {
-    // What was written, where it is told.
+    // What was written, where it is known.
     ghost held: { Self → Option (List ℕ) };
 
     // How often a write failed or took nothing. The count stops at the greatest u64.

@@ -16,7 +16,7 @@ pub struct Failed;
 
 /// A stream of bytes to read, which counts its faults.
 pub trait ByteSource {
-    // What is left to read, where it is told.
+    // What is left to read, where it is known.
     ghost left: { Self → Option (List ℕ) };
 
     // How often a read failed. The count stops at the greatest u64.

@@ -1,4 +1,4 @@
--- What an artifact tells of the library that a procedural macro is loaded from.
+-- What an artifact says of the library that a procedural macro is loaded from.
 use Rattle.std.specs.Prelude.{ℕ, Bool, ◌&&◌, not, true, false, if◌then◌else◌, List, find, Option, Some, None, Ok, Err}
 use Rattle.std.specs.List.{list_any}
 use Rattle.base_text.specs.Paths.{components, is_absolute, path_text}

@@ -1,4 +1,4 @@
--- What a build script tells of its package: atoms of conditional compilation, variables, and the directory of its output.
+-- What a build script says of its package: atoms of conditional compilation, variables, and the directory of its output.
 use Rattle.std.specs.Prelude.{◌≡◌, ℕ, if◌then◌else◌, List, [], ◌∷◌, ◌++◌, bytes_eq, codes, Option, Some, None, Result, Ok, Err}
 use Rattle.base_text.specs.Cfg.{atom_of}
 use Rattle.base_text.specs.declared.cfg.CfgAtom.{CfgAtom}

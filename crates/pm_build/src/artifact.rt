@@ -1,4 +1,4 @@
-//! What an artifact tells of its package: whether anything is built, and the library of a macro.
+//! What an artifact says of its package: whether anything is built, and the library of a macro.
 
 ghost use Rattle.std.specs.Prelude.{◌≡◌, find, option_copied};
 ghost use Rattle.pm_build.specs.Artifact.{after_build, dylib_after, gives_library, is_macro, is_path, library_among, output_after_artifact};

@@ -35,7 +35,7 @@ fn last_component(text: &str) -> Option<&str>
     last
 }
 
-// What stands behind the last dot of the last component, unless that dot comes first.
+// What follows the last dot of the last component, unless that dot comes first.
 fn extension(file: &str) -> Option<&str>
     ensures { option_copied result ≡ extension_in file.now }
 {

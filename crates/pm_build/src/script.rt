@@ -1,4 +1,4 @@
-//! What a build script tells of its package.
+//! What a build script says of its package.
 
 ghost use Rattle.std.specs.Prelude.{◌≡◌, OnOk};
 ghost use Rattle.crate_values.specs.Env.{with_pairs};

@@ -19,8 +19,8 @@ pub enum TargetDirectoryConfig {
 }
 
 impl TargetDirectoryConfig {
-    /// The directory that a build is told to write into, where the workspace's other builds write into
-    /// `ws_target_dir`. None where it is told none.
+    /// The directory that a build is to write into, where the workspace's other builds write into
+    /// `ws_target_dir`. None where it is given none.
     pub fn target_dir(
         &self,
         alloc: Global,

@@ -76,7 +76,7 @@ impl FetchMetadata {
     }
 
     /// The metadata, and beside it the error of the full question where the light answer stands in for
-    /// it. With `locked` the lockfile stays as it is. `progress` is told when the full question is
+    /// it. With `locked` the lockfile stays as it is. `progress` hears when the full question is
     /// asked and answered, and what its answer reports.
     pub fn exec<R: Runner, P: Progress>(
         self,

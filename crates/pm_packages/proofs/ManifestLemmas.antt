@@ -29,7 +29,7 @@ module _ (file : List ℕ) (path : AbsPath) (parent : Option AbsPath) (same : ab
           let missing : parent_text (abs_text path) ≡ None = none_from abs_text parent (parent_text (abs_text path)) told none in
           cc
 
-  -- the answer of the test, which is told by its opposite
+  -- the answer of the test, which is given by its opposite
   is_missing : (missing : Bool) → not missing ≡ is_some parent → missing ≡ true → is_none parent ≡ true
   is_missing missing is none = by parent (sym is ∙ ap not none)
     where

@@ -1,5 +1,5 @@
 //! The configuration that cargo prints for a manifest. Its values are what TOML reads; where they
-//! come from is told by comments alone.
+//! come from is given by comments alone.
 
 ghost use Rattle.std.specs.Prelude.{◌≡◌, IfOk, option_map, string_bytes};
 ghost use Rattle.base_text.specs.AbsPath.{abs_text};

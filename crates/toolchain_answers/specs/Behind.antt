@@ -1,4 +1,4 @@
--- What stands behind a front of a text, such as the name of a tool or of a field.
+-- What follows a prefix of a text, such as the name of a tool or of a field.
 use Rattle.std.specs.Prelude.{ℕ, if◌then◌else◌, nat_eq, List, drop, length, Option, Some, None}
 use Rattle.std.specs.List.{starts_with}
 

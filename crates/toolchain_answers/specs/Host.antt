@@ -4,7 +4,7 @@ use Rattle.std.specs.Option.{option_or}
 use Rattle.std.specs.Str.Lines.{lines}
 use Rattle.toolchain_answers.specs.Behind.{behind}
 
--- what stands behind `host: ` on the first line that begins so
+-- what follows `host: ` on the first line that begins so
 abbrev pub host_in : List (List ℕ) → Option (List ℕ)
 host_in [] = None
 host_in (line ∷ more) = option_or (behind (codes "host: ") line) (host_in more)

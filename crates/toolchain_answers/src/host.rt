@@ -3,7 +3,7 @@
 ghost use Rattle.std.specs.Prelude.{◌≡◌, option_copied};
 ghost use Rattle.toolchain_answers.specs.Host.{host_of};
 
-/// The platform that the answer of `rustc -vV` names: what stands behind `host: ` on the first such line.
+/// The platform that the answer of `rustc -vV` names: what follows `host: ` on the first such line.
 pub fn host_of(text: &str) -> Option<&str>
     ensures { option_copied result ≡ host_of text.now }
 {

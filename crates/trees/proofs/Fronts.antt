@@ -161,7 +161,7 @@ one_component name whole =
     counts (b ∷ []) = elim (nat_eq b 46) as (λ t. not (false || (t && false)) ≡ true) [ true ↦ refl | false ↦ refl ]
     counts (b ∷ c ∷ text) = elim (nat_eq b 46) as (λ t. not (false || (t && false)) ≡ true) [ true ↦ refl | false ↦ refl ]
 
--- so it stands behind a directory as its last component
+-- so it follows a directory as its last component
 pub components_behind : (directory name tail : List ℕ) → Lacks 47 name → tail ≡ name ++ 0 ∷ [] → components_with_tail directory tail ≡ components directory ++ (name ++ 0 ∷ []) ∷ []
 unfolding components_with_tail
 components_behind directory name tail whole e =

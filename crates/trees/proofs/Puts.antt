@@ -58,7 +58,7 @@ unfolding file_text
 file_text-get files path key is =
     (λ i. lookup (λ file. sym (path_ties key file) i) files) ∙ ap (λ parts. lookup (λ file. pointwise bytes_eq parts (components file)) files) is
 
--- a test that tells paths apart finds the new text where it passes for its path, and else what it found before
+-- a test that distinguishes paths finds the new text where it passes for its path, and else what it found before
 lookup-insert_entry : (parts : List (List ℕ)) (files : Files) (path text : List ℕ)
     → lookup (λ file. pointwise bytes_eq parts (components file)) (insert_entry path_cmp files path text)
     ≡ cond (pointwise bytes_eq parts (components path)) (Some text) (lookup (λ file. pointwise bytes_eq parts (components file)) files)

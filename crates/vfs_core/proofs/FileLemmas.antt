@@ -56,7 +56,7 @@ state_next-contents : (contents : Option (List ℕ)) (before : FileState)
 state_next-contents None before = refl
 state_next-contents (Some text) before = refl
 
--- the state that is told after one more thing that is said
+-- the state that follows from one more thing that is said
 told-next : (kind : MarkKind) (was_out : Bool) (before : Option (List ℕ))
     → cond (leaves_out kind || was_out) Excluded (state_of (kept_text_after kind before))
     ≡ state_next kind (cond was_out Excluded (state_of before))
@@ -73,7 +73,7 @@ told-split : (kind : MarkKind) (was_out : Bool) (before : Option (List ℕ)) (is
 told-split kind was_out before true = told-next kind was_out before
 told-split kind was_out before false = refl
 
--- a mark of another path leaves the state that is told, one of its own what it says
+-- a mark of another path leaves the state as it was, one of its own gives what it says
 state_by_marks-mark : (mark : Mark) (marks : List Mark) (path : PathContent)
     → state_by_marks (mark ∷ marks) path
     ≡ cond (vfs_path_eq path mark.path) (state_next mark.kind (state_by_marks marks path)) (state_by_marks marks path)

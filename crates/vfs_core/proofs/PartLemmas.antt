@@ -13,7 +13,7 @@ use Rattle.base_text.specs.Rows.{IsCutAtLast, Lacks}
 use Rattle.base_text.proofs.Dots.{before_at_cut as before_dot, before_lacking, extension_none, stem_whole}
 use Rattle.vfs_core.specs.VirtualPath.{climb, last_name, virtual_parent, without_end_slash, without_dots}
 
--- texts that differ are told apart
+-- texts that differ are distinguished
 not_bytes : (xs ys : List ℕ) → (xs ≡ ys → ⊥) → bytes_eq xs ys ≡ false
 not_bytes xs ys h = false_from_ne_true (bytes_eq xs ys) (λ e. h ((bytes_eq-Decides xs ys).0 e))
 
@@ -21,7 +21,7 @@ not_bytes xs ys h = false_from_ne_true (bytes_eq xs ys) (λ e. h ((bytes_eq-Deci
 not_at : (at : ℕ) (text : List ℕ) (k : ℕ) → Lacks at text → k < length text → not (get_or text k 0 == at) ≡ true
 not_at at text k lacks l = ap not (All-from_recursion (λ b. (b == at) ≡ false) text lacks k 0 l)
 
--- what stands behind the last `at`, by its length
+-- what follows the last `at`, by its length
 suffix_at_cut : (at : ℕ) (text front back : List ℕ) → IsCutAtLast at text front back
     → suffix_len (λ b. not (b == at)) text ≡ length text - (length front + 1)
 suffix_at_cut at text front back cut =

@@ -175,7 +175,7 @@ existing_files-contents batch known file bytes before text false earlier live =
 eq-symm : (a b : ℕ) → nat_eq a b ≡ nat_eq b a
 eq-symm a b = grind (arith, nat_tests)
 
--- contents that come for a file are what lives, by what was told of the file before
+-- contents that come for a file are what lives, by what was said of the file before
 told-contents : (contents : Option (List ℕ)) (was_out : Bool) (before : Option (List ℕ)) (batch : List (ℕ × ChangedFile))
     (known : ℕ → Option (List ℕ)) (file : ℕ) (text : List ℕ)
     → ((t : List ℕ) → cond was_out None before ≡ Some t → contents_after batch known file ≡ Some t)

@@ -1,4 +1,4 @@
--- The parts of a virtual path: its components, what stands behind them, and what is left without slashes at the ends.
+-- The parts of a virtual path: its components, what follows them, and what is left without slashes at the ends.
 use Rattle.std.proofs.Common.{◌≡◌, ℕ, zero, suc, ◌+◌, ◌<◌, ◌≤◌, ◌==◌, Bool, true, false, not, cond, ◌&&◌, List, [], ◌∷◌, ◌++◌, length, take, Option, Some, None, Bor, is_some, refl, sym, ap, ◌∙◌, arith, length-drop, reverse, true≢false, if◌then◌else◌}
 use Rattle.std.proofs.lemmas.Bool.{cond-true, cond-false, false_from_ne_true}
 use Rattle.std.proofs.lemmas.Slice.Eq.{bytes_eq-Decides}
@@ -96,7 +96,7 @@ component_some : (part : List ℕ) → is_component part ≡ true → 0 < length
 component_some [] counts = absurd (true≢false (sym counts))
 component_some (b ∷ part) counts = omega arith
 
--- nothing stands behind the last part
+-- nothing follows the last part
 behind_last : (count : ℕ) → join_with_byte 47 (parts_behind [] count) ≡ text_behind [] count
 behind_last zero = refl
 behind_last (suc count) = refl

@@ -142,7 +142,7 @@ kind_of (Some text) = Text text
 abbrev pub state_by_marks : List Mark → PathContent → FileState
 state_by_marks marks path = if is_out marks path then Excluded else state_of (kept_text marks path)
 
--- the files are what marks make of them: numbers in order of first mention, states as the marks tell
+-- the files are what marks make of them: numbers in order of first mention, states as the marks give
 pub record Follows (files : Files) (marks : List Mark) : Type 0 where
   pub numbers : paths_of files ≡ mentioned_paths marks
   pub states : (path : PathContent) → state_at files path ≡ state_by_marks marks path

@@ -18,7 +18,7 @@ real_joined_text text tail = path_text (resolved_components (components_with_tai
 abbrev pub is_text_prefix : List ℕ → List ℕ → Bool
 is_text_prefix front text = is_prefix (components front) (components text)
 
--- what stands behind the components of a front in a real path
+-- what follows the components of a front in a real path
 abbrev pub real_rest : List ℕ → List ℕ → Option (List ℕ)
 real_rest front text = text_below (components front) (components text)
 

@@ -34,7 +34,7 @@ virtual_joined base tail = option_map (λ parts. parts.0 ++ 47 ∷ without_dots 
 unfoldable pub without_end_slash : List ℕ → List ℕ
 without_end_slash text = if slice_index text (length text - 1) == 47 then take (length text - 1) text else text
 
--- what stands behind the last slash, or the whole text where there is none
+-- what follows the last slash, or the whole text where there is none
 unfoldable pub last_name : List ℕ → List ℕ
 last_name text = after_last is_slash text
 
@@ -66,11 +66,11 @@ parts_behind [] (suc count) = []
 parts_behind (part ∷ parts) (suc count) =
     if is_component part then parts_behind parts count else parts_behind parts (suc count)
 
--- what stands behind so many components of a text
+-- what follows so many components of a text
 abbrev pub text_behind : List ℕ → ℕ → List ℕ
 text_behind text count = join_with_byte 47 (parts_behind (slice_split is_slash text) count)
 
--- what stands behind the components of a front, where they come first: from the next component to the last
+-- what follows the components of a front, where they come first: from the next component to the last
 unfoldable pub virtual_rest : List ℕ → List ℕ → Option (List ℕ)
 virtual_rest front text =
     if is_text_prefix front text then Some (trim_back (trim_front (text_behind text (length (components front))))) else None
@@ -79,7 +79,7 @@ virtual_rest front text =
 abbrev pub both_texts : Bor (List ℕ) × Bor (List ℕ) → List ℕ × List ℕ
 both_texts parts = (parts.0.now, parts.1.now)
 
--- the first component of a text, and what stands behind the slash that ends it
+-- the first component of a text, and what follows the slash that ends it
 pub record TakesComponent (text part rest : List ℕ) : Type 0 where
   pub parts : components text ≡ part ∷ components rest
   pub shorter : length rest < length text

@@ -142,7 +142,7 @@ impl VfsPath {
         }
     }
 
-    /// Drops the last component of a real path, or what stands behind the last slash of a virtual one.
+    /// Drops the last component of a real path, or what follows the last slash of a virtual one.
     /// Answers whether there was one.
     pub fn pop(&mut self) -> bool
         ensures path { IsReal self.old → self.new ≡ real (path_text (parts_above self.old)) }

@@ -53,7 +53,7 @@ fn without_end_slash(text: &str) -> &str
     }
 }
 
-/// What stands behind the last slash, or the whole text where there is none.
+/// What follows the last slash, or the whole text where there is none.
 fn last_name(text: &str) -> &str
     ensures { result.now ≡ last_name text.now }
 {
@@ -85,7 +85,7 @@ fn stem_and_extension(name: &str) -> (&str, Option<&str>)
     }
 }
 
-/// The first component of a text, and what stands behind the slash that ends it.
+/// The first component of a text, and what follows the slash that ends it.
 fn first_component(text: &str) -> Option<(&str, &str)>
     ensures { MatchOption result (components text.now ≡ [])
         (λ parts. TakesComponent text.now parts.0.now parts.1.now) }
@@ -104,7 +104,7 @@ fn first_component(text: &str) -> Option<(&str, &str)>
     }
 }
 
-/// What stands behind the components of `front`, where they come first.
+/// What follows the components of `front`, where they come first.
 pub(crate) fn rest_below<'a>(front: &str, whole: &'a str) -> Option<&'a str>
     ensures { option_copied result ≡ virtual_rest front.now whole.now }
 {

@@ -4,7 +4,7 @@ use Rattle.std.proofs.Common.{arith, drop, if◌then◌else◌, length, refl}
 use Rattle.vfs_core.specs.VfsPath.{PathContent}
 use Rattle.vfs_sets.specs.Placement.{place_of, takes}
 
--- nothing stands behind all of a list
+-- nothing follows all of a list
 pub drop_end : {X : Type 0} → (xs : List X) → drop (length xs) xs ≡ []
 drop_end [] = refl
 drop_end (x ∷ xs) = drop_end xs

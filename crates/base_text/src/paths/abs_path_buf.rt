@@ -77,7 +77,7 @@ impl AbsPathBuf {
         }
     }
 
-    /// The path whose components stand behind slashes in `slashed`.
+    /// The path whose components follow slashes in `slashed`.
     pub(crate) fn of_slashed(slashed: String) -> Result<Self, AllocError>
         requires { IsSlashed (string_bytes slashed) }
         ensures ok { IfOk result (λ path. path ≡ path_text (components (string_bytes slashed))) }

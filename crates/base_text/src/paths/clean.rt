@@ -1,4 +1,4 @@
-//! Clean texts, in which each component stands behind one slash, are built here piece by piece.
+//! Clean texts, in which each component follows one slash, are built here piece by piece.
 
 ghost use Rattle.std.specs.Prelude.{◌≡◌, ◌<◌, ◌==◌, [], ◌++◌, drop, is_some, length};
 ghost use Rattle.std.specs.Prelude.{slice_index_or, string_bytes, IfOk, IfSome, MatchOption, OnOk};
@@ -74,7 +74,7 @@ pub(crate) fn row_of(path: &str) -> &str
     if path == "/" { "" } else { path }
 }
 
-/// What stands behind the row `front` in the row `whole`, where its components come first.
+/// What follows the row `front` in the row `whole`, where its components come first.
 pub(crate) fn rest_below<'a>(whole: &'a str, front: &str) -> Option<&'a str>
     requires whole { IsSlashed whole.now }
     requires front { IsSlashed front.now }
@@ -122,7 +122,7 @@ pub(crate) fn push_resolved(text: &mut String, path: &str) -> Result<(), AllocEr
     Ok(())
 }
 
-/// The text of the path whose components stand behind slashes in `text`.
+/// The text of the path whose components follow slashes in `text`.
 pub(crate) fn rooted(mut text: String) -> Result<String, AllocError>
     requires { IsSlashed (string_bytes text) }
     ensures { IfOk result (λ path.

@@ -16,7 +16,7 @@ pub(crate) fn stem_of(name: &str) -> &str
     }
 }
 
-/// What stands behind the last dot of a name, unless that dot comes first.
+/// What follows the last dot of a name, unless that dot comes first.
 pub(crate) fn extension_of(name: &str) -> Option<&str>
     ensures { option_copied result ≡ extension_of name.now }
 {

@@ -4,7 +4,7 @@ use Rattle.cargo_meta.specs.Command.{joined_text}
 use Rattle.cargo_meta.proofs.Joins.{feature_words-some, pushed-both}
 use Rattle.cargo_meta.proofs.words.push_features.Goals as goal
 
--- the word and the names stand behind the others
+-- the word and the names follow the others
 pub returns : goal.returns
 returns c =
     let features = c.args.features.now in

@@ -4,7 +4,7 @@ use Rattle.outside.specs.declared.sink.SinkError.TheVariants.{Failed, OutOfMemor
 use Rattle.outside.specs.Faulty.{fails_next}
 use Rattle.outside.proofs.sink.FaultSinkByteSink.write.Goals as goal
 
--- want of memory is not a failure
+-- out of memory is not a failure
 never_failed : (r : Result ℕ SinkError) (b : Bool) → IfErr r (λ e. e ≡ OutOfMemory) → b ≡ false → IsErrOf r Failed ↔ IsTrue b
 never_failed (Ok n) b memory off = (λ h. cc, λ h. cc)
 never_failed (Err e) b memory off = (λ h. cc, λ h. cc)
