@@ -1,4 +1,5 @@
-//! Cases of pm_json_data and pm_json: documents of JSON projects, and the projects that they make on a base.
+//! Cases of pm_json_data, pm_json and pm_tools: documents of JSON projects, the projects that they make on
+//! a base, and what a command printed of one.
 #![tactic(auto)]
 
 mod crates;
@@ -10,7 +11,7 @@ use serde_json::Value;
 use std::io;
 use std::process::ExitCode;
 
-/// The calls of pm_json_data and of pm_json.
+/// The calls of pm_json_data, pm_json and pm_tools.
 struct ProjectFamily;
 
 impl<R: AllocGlobal> Family<R> for ProjectFamily {
