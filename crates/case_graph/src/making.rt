@@ -5,8 +5,9 @@ use cases::{Case, Fault, file_number_of, item, items_of, number_of};
 use crate_graph::target::TargetLoadError;
 use crate_graph::{
     AddDepError, CrateBuilderId, CrateDisplayName, CrateGraphBuilder, CrateName, CrateOrigin,
-    CrateWorkspaceData, Dependency, Env, GraphError, LangCrateOrigin, TargetKind,
+    CrateWorkspaceData, Dependency, Env, GraphError, LangCrateOrigin, TargetKind, ToolchainVersion,
 };
+use semver::Version;
 use serde_json::Value;
 use std::alloc::Global;
 use std::rc::Rc;
@@ -21,7 +22,7 @@ struct Parts {
     workspace: Rc<CrateWorkspaceData>,
 }
 
-/// Puts a crate in: its root file, its name, one flag, and the value of its variable `K`.
+/// Puts a crate in: its root file, its name, one flag, the value of its variable `K`, and the version of its toolchain.
 pub fn add(
     alloc: Global,
     graph: &mut CrateGraphBuilder,
@@ -56,7 +57,7 @@ fn parts_of(alloc: Global, krate: Case<'_>) -> Result<Parts, Fault> {
     let cfgs = cfgs_of(alloc, krate.optional_text("flag"))?;
     let env = env_of(alloc, krate.optional_text("value"))?;
     let directory = directory(alloc)?;
-    let workspace = workspace(alloc)?;
+    let workspace = workspace(alloc, krate.optional_text("toolchain"))?;
     Ok(Parts {
         name,
         cfgs,
@@ -70,13 +71,21 @@ fn directory(alloc: Global) -> Result<AbsPathBuf, Fault> {
     AbsPathBuf::new(alloc, "/w").map_err(|_| Fault::OutOfMemory)
 }
 
-fn workspace(alloc: Global) -> Result<Rc<CrateWorkspaceData>, Fault> {
+fn workspace(alloc: Global, version: Option<&str>) -> Result<Rc<CrateWorkspaceData>, Fault> {
     let target = Err(TargetLoadError(Text::of_str(alloc, "no rustc")?));
-    let data = CrateWorkspaceData {
-        target,
-        toolchain: None,
-    };
+    let toolchain = toolchain(alloc, version)?;
+    let data = CrateWorkspaceData { target, toolchain };
     Ok(Rc::new(alloc, data)?)
+}
+
+fn toolchain(alloc: Global, version: Option<&str>) -> Result<Option<ToolchainVersion>, Fault> {
+    let Some(text) = version else {
+        return Ok(None);
+    };
+    match Version::parse(alloc, text) {
+        Ok(version) => Ok(Some(ToolchainVersion::new(version))),
+        Err(_) => Err(Fault::Member("toolchain")),
+    }
 }
 
 fn name_of(alloc: Global, name: Option<&str>) -> Result<Option<CrateDisplayName>, Fault> {

@@ -49,7 +49,8 @@ fn make<D: SourceDatabase>(
     }
 }
 
-fn are_few(roots: &Option<Items<SourceRoot>>) -> bool
+/// Whether the roots that a change gives, where it gives some, are few.
+pub fn are_few(roots: &Option<Items<SourceRoot>>) -> bool
     ensures { IsTrue result → IfSome roots.now (λ roots. length roots < 2 ^ 32) }
 {
     match roots {

@@ -54,7 +54,8 @@ fn set(
     crates_of(alloc, &ids)
 }
 
-fn crates_of(alloc: Global, ids: &CratesIdMap) -> Result<Vec<Crate>, AllocError> {
+/// The crates of a graph, in its order.
+pub fn crates_of(alloc: Global, ids: &CratesIdMap) -> Result<Vec<Crate>, AllocError> {
     let mut crates = Vec::new(alloc);
     for krate in ids.values() {
         crates.push(*krate)?;
@@ -114,7 +115,8 @@ fn at(crates: &[Crate], place: u64) -> Option<Crate> {
     crates.get(place).copied()
 }
 
-fn store_one(alloc: Global, db: &mut InputDb, krate: Crate) -> Result<(), AllocError> {
+/// Stores a list of one crate.
+pub fn store_one(alloc: Global, db: &mut InputDb, krate: Crate) -> Result<(), AllocError> {
     let mut crates = Vec::new(alloc);
     if db.has_crate(krate) {
         crates.push(krate)?;

@@ -1,4 +1,5 @@
-//! Cases of input_db: graphs that are set in a database one after another, changes of roots and texts, and setters.
+//! Cases of input_db: graphs that are set in a database one after another, changes of roots and texts, setters, and what
+//! is asked of crates.
 #![tactic(auto)]
 
 mod changes;
@@ -6,6 +7,7 @@ mod contents;
 mod crates;
 mod graphs;
 mod making;
+mod roots;
 mod setters;
 
 use cases::{Case, Family, Fault, run_files};
@@ -21,6 +23,7 @@ impl<R: AllocGlobal> Family<R> for DatabaseFamily {
         match file {
             "changes.jsonl" => changes::apply_all(rt.alloc(), case.list("changes")?),
             "graphs.jsonl" => graphs::answer(rt.alloc(), case),
+            "roots.jsonl" => roots::answer(rt.alloc(), case),
             "setters.jsonl" => setters::set_all(rt.alloc(), case.list("settings")?),
             _ => Err(Fault::Kind),
         }

@@ -1,0 +1,119 @@
+//! What is asked of the crates of a database: which are in a source root, which reach one, and the channel of a toolchain.
+
+use crate::changes::are_few;
+use crate::graphs::{crates_of, store_one};
+use crate::making::change_of;
+use base_text::FileId;
+use cases::{Case, Fault, file_number_of, number_of, optional_answer};
+use crate_graph::ReleaseChannel;
+use input_db::{
+    Crate, InputDb, Nonce, SourceDatabase, SourceRootId, crates_have_source_roots, relevant_crates,
+    source_root_crates, toolchain_channel,
+};
+use serde_json::{Value, json};
+use std::alloc::{AllocError, Global};
+
+/// What a call gives of a database that a change was made to. Crates are named by their places in the graph.
+pub fn answer(alloc: Global, case: Case<'_>) -> Result<Value, Fault> {
+    let mut db = InputDb::new(alloc, Nonce::invalid());
+    let crates = change(alloc, &mut db, case)?;
+    ask(alloc, &db, crates.as_slice(), case)
+}
+
+// Makes the change that a case gives, and returns the crates of its graph in order. Where the case says so, the database
+// lists one of them alone.
+fn change(alloc: Global, db: &mut InputDb, case: Case<'_>) -> Result<Vec<Crate>, Fault> {
+    let change = change_of(alloc, case)?;
+    if !change.fits(db) || !are_few(&change.roots) {
+        return Err(Fault::Condition);
+    }
+    let crates = match change.apply(alloc, db)? {
+        Some(ids) => crates_of(alloc, &ids)?,
+        None => Vec::new(alloc),
+    };
+    if case.find("list").is_some() {
+        store_one(alloc, db, krate_of(crates.as_slice(), case, "list")?)?;
+    }
+    Ok(crates)
+}
+
+fn ask(alloc: Global, db: &InputDb, crates: &[Crate], case: Case<'_>) -> Result<Value, Fault> {
+    match case.text("call")? {
+        "crates_have_source_roots" => Ok(Value::from(crates_have_source_roots(db))),
+        "source_root_crates" => in_root(alloc, db, crates, case),
+        "relevant_crates" => beside(alloc, db, crates, case),
+        "transitive_rev_deps" => reaching(alloc, db, crates, krate_of(crates, case, "of")?),
+        "toolchain_channel" => channel(alloc, db, krate_of(crates, case, "of")?),
+        _ => Err(Fault::Call),
+    }
+}
+
+// The crate at the place that a case gives.
+fn krate_of(crates: &[Crate], case: Case<'_>, key: &'static str) -> Result<Crate, Fault> {
+    let place = number_of(case.member(key)?, key)?;
+    crates
+        .get(place as usize)
+        .copied()
+        .ok_or(Fault::Member(key))
+}
+
+// The crates of a source root.
+fn in_root(alloc: Global, db: &InputDb, crates: &[Crate], case: Case<'_>) -> Result<Value, Fault> {
+    let root = SourceRootId(number_of(case.member("root")?, "root")?);
+    if !crates_have_source_roots(db) {
+        return Err(Fault::Condition);
+    }
+    let answer = source_root_crates(alloc, db, root)?;
+    Ok(places(alloc, crates, answer.as_slice())?)
+}
+
+// The crates of the source root of a file.
+fn beside(alloc: Global, db: &InputDb, crates: &[Crate], case: Case<'_>) -> Result<Value, Fault> {
+    let file = FileId::from_raw(file_number_of(case.member("file")?, "file")?);
+    if !crates_have_source_roots(db) || !db.files().has_file_root(file) {
+        return Err(Fault::Condition);
+    }
+    let answer = relevant_crates(alloc, db, file)?;
+    Ok(places(alloc, crates, answer.as_slice())?)
+}
+
+// The crate that comes first, and all in the order of the graph.
+fn reaching(alloc: Global, db: &InputDb, crates: &[Crate], krate: Crate) -> Result<Value, Fault> {
+    if !db.has_crate(krate) {
+        return Err(Fault::Condition);
+    }
+    let answer = krate.transitive_rev_deps(alloc, db)?;
+    let first = place_answer(crates, answer.first());
+    let mut all = Vec::new(alloc);
+    for krate in crates {
+        if answer.contains(krate) {
+            all.push(place_answer(crates, Some(krate)))?;
+        }
+    }
+    let all = Value::Array(all);
+    Ok(json!(in alloc; { "first": first, "all": all })?)
+}
+
+fn channel(alloc: Global, db: &InputDb, krate: Crate) -> Result<Value, Fault> {
+    if !db.has_crate(krate) {
+        return Err(Fault::Condition);
+    }
+    let channel = toolchain_channel(db, krate);
+    optional_answer(alloc, channel.map(ReleaseChannel::as_str))
+}
+
+// The places of crates in the graph.
+fn places(alloc: Global, crates: &[Crate], answer: &[Crate]) -> Result<Value, AllocError> {
+    let mut places = Vec::new(alloc);
+    for krate in answer {
+        places.push(place_answer(crates, Some(krate)))?;
+    }
+    Ok(Value::Array(places))
+}
+
+fn place_answer(crates: &[Crate], krate: Option<&Crate>) -> Value {
+    match krate.and_then(|krate| crates.iter().position(|other| other == krate)) {
+        Some(place) => Value::from(place),
+        None => Value::Null,
+    }
+}
