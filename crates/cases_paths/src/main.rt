@@ -1,9 +1,10 @@
 //! Cases of paths: absolute paths, paths of the virtual file system, atoms of conditional compilation,
-//! tables of files, and sets of files.
+//! tables of files, sets of files, and entries of loaders.
 #![tactic(auto)]
 
 mod cfgs;
 mod files;
+mod loader;
 mod marks;
 mod paths;
 mod sets;
@@ -14,7 +15,7 @@ use serde_json::Value;
 use std::io;
 use std::process::ExitCode;
 
-/// The calls of base_text, vfs_core and vfs_sets.
+/// The calls of base_text, vfs_core, vfs_sets and vfs_loader.
 struct PathFamily;
 
 impl<R: AllocGlobal> Family<R> for PathFamily {
@@ -24,6 +25,7 @@ impl<R: AllocGlobal> Family<R> for PathFamily {
             "vfs_paths.jsonl" => vfs_paths::answer(rt.alloc(), case),
             "cfgs.jsonl" => cfgs::answer(rt.alloc(), case),
             "files.jsonl" => files::answer(rt.alloc(), case),
+            "loader.jsonl" => loader::answer(rt.alloc(), case),
             "sets.jsonl" => sets::answer(rt.alloc(), case),
             _ => Err(Fault::Kind),
         }
