@@ -25,7 +25,7 @@ use Rattle.pm_reading.specs.Nodes.{by_package, known_place, last_place, link_of,
 use Rattle.pm_reading.specs.Reading.{Reading, ◌>>=◌, take_each}
 use Rattle.pm_reading.specs.declared.nodes.Link.{Link}
 use Rattle.pm_reading.proofs.ReadingLemmas.{ok_from_bind, one_value}
-use Rattle.pm_members.proofs.UpdateLemmas.{changed-same}
+use Rattle.pm_packages.proofs.UpdateLemmas.{changed-same}
 use Rattle.pm_cargo.specs.Shuffle.{by_node, with_sorted_entries}
 
 by_node_total : IsTotalOrder by_node

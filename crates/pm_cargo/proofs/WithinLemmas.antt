@@ -13,7 +13,7 @@ use Rattle.pm_reading.specs.Presence.{HoldsIds, HoldsItsIds}
 use Rattle.pm_members.specs.Closure.{closure}
 use Rattle.pm_members.specs.Members.{member_graph, member_row, package_ids, with_all_member_deps, with_member_deps}
 use Rattle.pm_members.proofs.ClosureLemmas.{closure_below}
-use Rattle.pm_members.proofs.UpdateLemmas.{changed-each, length-changed}
+use Rattle.pm_packages.proofs.UpdateLemmas.{changed-each, length-changed}
 
 module _ (packages : List PackageData) (targets : List TargetData) where
   length-members : length (with_all_member_deps packages) ≡ length packages

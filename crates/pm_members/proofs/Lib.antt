@@ -2,5 +2,4 @@ pub mod ListLemmas
 pub mod ClosureLemmas
 pub mod GraphLemmas
 pub mod EntryLemmas
-pub mod UpdateLemmas
 pub mod MemberLemmas

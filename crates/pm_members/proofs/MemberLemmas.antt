@@ -19,7 +19,7 @@ use Rattle.pm_members.specs.declared.members.ClosureList.{ClosureList}
 use Rattle.pm_members.proofs.ClosureLemmas.{closure_in, same_closure}
 use Rattle.pm_members.proofs.EntryLemmas.{Contains-take_last, Contains-take_more, slice_get-set_other, slice_get-set_same}
 use Rattle.pm_members.proofs.ListLemmas.{filter_in}
-use Rattle.pm_members.proofs.UpdateLemmas.{changed_upto, changed_upto-more, changed_upto-next, length-changed_upto}
+use Rattle.pm_packages.proofs.UpdateLemmas.{changed_upto, changed_upto-more, changed_upto-next, length-changed_upto}
 
 -- ---- a list that is shared
 

@@ -1,10 +1,10 @@
 -- The nodes to which one comes over one or more edges of a graph: a relation, and the same as a list.
-use Rattle.std.specs.Prelude.{◌≡◌, ℕ, suc, ◌<◌, ◌^◌, Bool, List, [], ◌∷◌, ◌++◌, map, filter, length, Vec}
+use Rattle.std.specs.Prelude.{◌↔◌, ℕ, suc, Bool, List, [], ◌∷◌, ◌++◌, map, filter, length}
 use Rattle.std.specs.List.{list_any, range_with_len}
-use Rattle.std.specs.declared.alloc.Global.{Global}
 use Rattle.graph_base.specs.EdgeList.{Edge, reach_over}
-use Rattle.graph_base.specs.Edges.{HasEdge, IsInRange, row}
+use Rattle.graph_base.specs.Edges.{HasEdge, row}
 use Rattle.graph_base.specs.Reach.{Reaches}
+use Rattle.reversed_graph.specs.Reversed.{IsGraph, IsReversed}
 
 -- an edge leads from a node to one that reaches the other
 abbrev pub LeadsTo : List (List ℕ) → ℕ → ℕ → Type 0
@@ -23,21 +23,8 @@ leads_to g a b = list_any (λ c. reach_over (edges_from 0 g) c b) (row g a)
 unfoldable pub closure : List (List ℕ) → ℕ → List ℕ
 closure g a = filter (leads_to g a) (range_with_len 0 (length g))
 
--- the rows of a graph that the code keeps as lists of targets
-abbrev pub rows_of : List (Vec ℕ Global) → List (List ℕ)
-rows_of rows = map (λ r. r.items) rows
-
--- the edges of one graph lead back where the other's lead on
-abbrev pub IsReversed : List (List ℕ) → List (List ℕ) → Type 0
-IsReversed back g = (a b : ℕ) → HasEdge back a b → HasEdge g b a
-
--- rows are a graph: no more than can be counted, each edge to a node
-pub record IsGraph (rows : List (List ℕ)) : Type 0 where
-  pub short : length rows < 2 ^ 32
-  pub in_range : IsInRange rows
-
--- rows are a graph, with rows that lead back
+-- rows are a graph, and others lead its edges back
 pub record IsGraphBothWays (rows back : List (List ℕ)) : Type 0 where
   pub graph : IsGraph rows
-  pub long : length back ≡ length rows
   pub leads_back : IsReversed back rows
+  pub reaches_back : (a b : ℕ) → Reaches back b a ↔ Reaches rows a b

@@ -1,15 +1,16 @@
 //! For each node of a graph, all to which it comes over one or more edges. Nodes that reach each other
 //! share one list.
 
-ghost use Rattle.std.specs.Prelude.{◌≡◌, ◌⊎◌, ℕ, ◌<◌, ◌^◌, List, [], length, flat_map, map, replicate, slice_get, IfOk, OnOk, Some, None};
-ghost use Rattle.std.specs.List.{All, Contains, range_with_len};
-ghost use Rattle.std.specs.List.Sorted.{IsStrictlyIncreasing};
-ghost use Rattle.graph_base.specs.Edges.{HasEdge, IsInRange, row};
+ghost use Rattle.std.specs.Prelude.{◌≡◌, ◌<◌, ◌^◌, length, flat_map, IfOk, OnOk};
+ghost use Rattle.std.specs.List.{All};
+ghost use Rattle.graph_base.specs.Edges.{IsInRange, row};
 ghost use Rattle.graph_base.specs.Reach.{Reaches};
 ghost use Rattle.graph_base.specs.Trail.{empty_trail, trail_after_clear};
-ghost use Rattle.pm_members.specs.Closure.{IsGraph, IsReversed, closure, rows_of};
+ghost use Rattle.pm_members.specs.Closure.{closure};
+ghost use Rattle.reversed_graph.specs.Reversed.{IsGraph, rows_of};
 
 use graph_base::{Graph as _, Trail, search_into};
+use reversed_graph::Reversed;
 use std::alloc::{AllocError, Global};
 use std::marker::Model;
 
@@ -22,7 +23,7 @@ struct Rows {
 /// Contracts see a graph as its rows.
 impl Model for Rows {
     ghost use Rattle.std.specs.Prelude.{ℕ, List};
-    ghost use Rattle.pm_members.specs.Closure.{IsGraph, rows_of};
+    ghost use Rattle.reversed_graph.specs.Reversed.{IsGraph, rows_of};
 
     ghost Value = { List (List ℕ) };
 
@@ -90,61 +91,12 @@ fn closure_of(
     Ok(nodes)
 }
 
-// Lists of targets with none in them, so many of them.
-fn empty_rows(alloc: Global, count: usize) -> Result<Vec<Vec<u32>>, AllocError>
-    ensures { IfOk result (λ rows. rows_of rows.items ≡ replicate count []) }
-{
-    let mut rows = Vec::with_capacity(alloc, count)?;
-    for _ in 0..count {
-        rows.push(Vec::new(alloc))?;
-    }
-    Ok(rows)
-}
-
-// Leads an edge back from each of some targets to their source.
-fn lead_back(back: &mut [Vec<u32>], source: u32, targets: &[u32]) -> Result<(), AllocError>
-    requires { All (λ target. target < length back.old) targets.now }
-    ensures { OnOk result ((a b : ℕ) → HasEdge (rows_of back.new) a b
-        → HasEdge (rows_of back.old) a b ⊎ ((b ≡ source) × Contains targets.now a)) }
-{
-    for target in targets {
-        back[*target as usize].push(source)?;
-    }
-    Ok(())
-}
-
-// Leads each edge of a graph back.
-fn lead_all_back(back: &mut [Vec<u32>], rows: &[Vec<u32>]) -> Result<(), AllocError>
-    requires length { length back.old ≡ length rows.now }
-    requires in_range { IsInRange (rows_of rows.now) }
-    requires short { length rows.now < 2 ^ 32 }
-    ensures { OnOk result ((a b : ℕ) → HasEdge (rows_of back.new) a b
-        → HasEdge (rows_of back.old) a b ⊎ HasEdge (rows_of rows.now) b a) }
-{
-    for (source, targets) in rows.iter().enumerate() {
-        lead_back(back, source as u32, targets.as_slice())?;
-    }
-    Ok(())
-}
-
-// The graph whose edges lead back.
-fn reversed(alloc: Global, rows: &[Vec<u32>]) -> Result<Vec<Vec<u32>>, AllocError>
-    requires in_range { IsInRange (rows_of rows.now) }
-    requires short { length rows.now < 2 ^ 32 }
-    ensures length { IfOk result (λ back. length back.items ≡ length rows.now) }
-    ensures back { IfOk result (λ back. IsReversed (rows_of back.items) (rows_of rows.now)) }
-{
-    let mut back = empty_rows(alloc, rows.len())?;
-    lead_all_back(back.as_mut_slice(), rows)?;
-    Ok(back)
-}
-
 /// A graph whose edges can be followed both ways.
 #[derive(Drop)]
 pub(crate) struct Graph {
     rows: Rows,
     // The same edges, from their targets to their sources.
-    back: Rows,
+    back: Reversed,
 }
 
 /// Contracts see a graph as its rows.
@@ -166,11 +118,9 @@ impl Graph {
         requires in_range { IsInRange (rows_of rows.items) }
         ensures { IfOk result (λ graph. graph ≡ rows_of rows.items) }
     {
-        let back = reversed(alloc, rows.as_slice())?;
-        Ok(Graph {
-            rows: Rows::new(rows),
-            back: Rows::new(back),
-        })
+        let rows = Rows::new(rows);
+        let back = Reversed::of(alloc, &rows)?;
+        Ok(Graph { rows, back })
     }
 
     /// How many nodes there are.

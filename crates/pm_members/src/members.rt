@@ -2,11 +2,11 @@
 
 ghost use Rattle.std.specs.Prelude.{◌≡◌, ◌+◌, ◌<◌, ◌^◌, length, replicate, IfOk, None, OnOk};
 ghost use Rattle.std.specs.List.{All};
-ghost use Rattle.pm_members.specs.Closure.{rows_of};
 ghost use Rattle.pm_members.specs.Members.{is_member_at, member_graph, member_row, package_ids, with_all_member_deps};
 ghost use Rattle.pm_members.specs.SharedLists.{AreClosures, SharesList, closure_list};
 ghost use Rattle.graph_base.specs.Edges.{IsInRange};
 ghost use Rattle.graph_base.specs.Trail.{empty_trail};
+ghost use Rattle.reversed_graph.specs.Reversed.{rows_of};
 
 use crate::closure::Graph;
 use base_text::{Items, Shared, TryClone};

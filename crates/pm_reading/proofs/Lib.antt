@@ -11,5 +11,4 @@ pub mod PlaceLemmas
 pub mod ReadingLemmas
 pub mod SearchLemmas
 pub mod TakingLemmas
-pub mod UpdateLemmas
 pub mod WithinLemmas

@@ -2,19 +2,14 @@
 use Rattle.std.proofs.Common.{◌≡◌, ◌≢◌, ℕ, ◌+◌, ◌<◌, ◌==◌, List, [], ◌∷◌, ◌++◌, true, false, cond, length, get_or, set, sym, ap, ◌∙◌, arith, append_assoc, take, drop}
 use Rattle.std.specs.List.{flat_map}
 use Rattle.std.proofs.lemmas.Bool.{eq-eqb, ne_eqb}
-use Rattle.std.proofs.lemmas.List.{append-nil, drop_all, take_all}
+use Rattle.std.proofs.lemmas.List.{append-nil}
 use Rattle.std.proofs.lemmas.Grind.{flat_map-append}
 use Rattle.base_text.specs.Arena.{number_of}
 use Rattle.pm_packages.specs.declared.package.PackageData.{PackageData}
 use Rattle.pm_packages.specs.declared.package.PackageDependency.{PackageDependency}
 use Rattle.pm_reading.specs.Links.{package_with_link, package_with_links, with_link, with_links}
 use Rattle.pm_reading.specs.declared.nodes.Link.{Link}
-use Rattle.pm_reading.proofs.UpdateLemmas.{changed-none, changed-one, changed-twice}
-
--- what is written through a slice of a whole list is the list
-pub same_slice : {X : Type 0} (len : ℕ) (new items : List X) → length new ≡ length items → length new ≡ len → take len (new ++ drop (length new) items) ≡ new
-same_slice len new items long same =
-    ap (λ rest. take len (new ++ rest)) (drop_all (length new) items (omega (arith, long))) ∙ ap (take len) (append-nil new) ∙ take_all len new (omega (arith, same))
+use Rattle.pm_packages.proofs.UpdateLemmas.{changed-none, changed-one, changed-twice}
 
 -- no links give nothing
 pub with_links-none : (packages : List PackageData) → with_links [] packages ≡ packages

@@ -1,6 +1,6 @@
 use Rattle.std.proofs.Common.{◌≡◌, flat_map, take}
 use Rattle.graph_base.specs.Edges.{row}
-use Rattle.pm_members.specs.Closure.{rows_of}
+use Rattle.reversed_graph.specs.Reversed.{rows_of}
 use Rattle.pm_members.proofs.closure.all_targets.Given as goal
 
 abbrev pub invariant-loop-node : goal.invariant-loop-node

@@ -3,7 +3,7 @@ use Rattle.std.specs.List.{flat_map}
 use Rattle.std.proofs.lemmas.List.Filters.{dedup_is}
 use Rattle.graph_base.specs.Edges.{row}
 use Rattle.graph_base.proofs.ClearLemmas.{cleared_trail, nodes_marked}
-use Rattle.pm_members.specs.Closure.{rows_of}
+use Rattle.reversed_graph.specs.Reversed.{rows_of}
 use Rattle.pm_members.proofs.GraphLemmas.{closure_found}
 use Rattle.pm_members.proofs.closure.closure_of.Goals as goal
 

@@ -3,7 +3,7 @@ use Rattle.std.proofs.lemmas.List.{get_or_default}
 use Rattle.std.proofs.lemmas.Option.{get_or_from_slice_get}
 use Rattle.pm_members.specs.Members.{member_graph, with_all_member_deps, with_member_deps}
 use Rattle.pm_members.proofs.MemberLemmas.{with_member_deps-member, with_member_deps-more, with_member_deps-passed}
-use Rattle.pm_members.proofs.UpdateLemmas.{changed_upto-all}
+use Rattle.pm_packages.proofs.UpdateLemmas.{changed_upto-all}
 use Rattle.pm_members.proofs.members.give_lists.Goals.{then-packages-place+in_ok-packages+in-Some-1, then-packages-place+in_ok-packages+in-None-1, else-packages-place}
 use Rattle.pm_members.proofs.members.give_lists.Goals as goal
 

@@ -1,6 +1,6 @@
 use Rattle.std.proofs.Common.{◌≡◌}
 use Rattle.pm_members.specs.Members.{member_graph, with_member_deps}
-use Rattle.pm_members.proofs.UpdateLemmas.{changed_upto}
+use Rattle.pm_packages.proofs.UpdateLemmas.{changed_upto}
 use Rattle.pm_members.proofs.members.give_lists.Given as goal
 
 abbrev pub invariant-loop-place : goal.invariant-loop-place

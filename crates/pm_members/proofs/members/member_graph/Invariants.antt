@@ -1,5 +1,5 @@
 use Rattle.std.proofs.Common.{◌≡◌, map, take}
-use Rattle.pm_members.specs.Closure.{rows_of}
+use Rattle.reversed_graph.specs.Reversed.{rows_of}
 use Rattle.pm_members.specs.Members.{member_row}
 use Rattle.pm_members.proofs.members.member_graph.Given as goal
 

@@ -2,7 +2,7 @@ use Rattle.std.proofs.Common.{◌≡◌, Ok, ap, arith, length, sym, ◌∙◌}
 use Rattle.std.proofs.lemmas.Result.{err_from_is_err_and}
 use Rattle.pm_reading.specs.Links.{with_links}
 use Rattle.pm_reading.specs.Nodes.{links_of, nodes_of}
-use Rattle.pm_reading.proofs.LinkLemmas.{same_slice}
+use Rattle.pm_packages.proofs.UpdateLemmas.{same_slice}
 use Rattle.pm_reading.proofs.LinkedLemmas.{packages-linked, packages-no_links}
 use Rattle.pm_reading.proofs.ReadingLemmas.{refuses_same}
 use Rattle.pm_reading.proofs.WithinLemmas.{links-within}

@@ -1,5 +1,6 @@
--- Lists whose items are each changed by a function of their place.
+-- Lists whose items are each changed by a function of their place, or written as a whole.
 use Rattle.std.proofs.Common.{◌≡◌, ◌≢◌, ℕ, ◌+◌, ◌<◌, ◌≤◌, zero, suc, List, [], ◌∷◌, ◌++◌, length, map, get_or, set, take, drop, refl, sym, ap, ◌∙◌, arith}
+use Rattle.std.proofs.lemmas.List.{append-nil, drop_all, take_all}
 use Rattle.std.proofs.lemmas.List.Elements.{All-cons, All-head, All-nil, All-tail}
 use Rattle.std.specs.List.{All, enumerate_from}
 
@@ -41,7 +42,7 @@ module _ {X : Type 0} (f : ℕ × X → X) where
   changed_upto-all n (suc i) (y ∷ xs) all = ap (λ l. f (n, y) ∷ l) (changed_upto-all (n + 1) i xs (omega arith))
 
   -- where no item changes
-  changed-none : (n : ℕ) (xs : List X) → ((k : ℕ) (y : X) → n ≤ k → f (k, y) ≡ y) → map f (enumerate_from n xs) ≡ xs
+  pub changed-none : (n : ℕ) (xs : List X) → ((k : ℕ) (y : X) → n ≤ k → f (k, y) ≡ y) → map f (enumerate_from n xs) ≡ xs
   changed-none n [] same = refl
   changed-none n (y ∷ xs) same =
       let rest : map f (enumerate_from (n + 1) xs) ≡ xs = changed-none (n + 1) xs (λ k y l. same k y (omega arith)) in
@@ -88,3 +89,8 @@ module _ {X : Type 0} (f : ℕ × X → X) where
   changed-each P Q makes n [] all = All-nil Q
   changed-each P Q makes n (x ∷ xs) all =
       All-cons Q (f (n, x)) (map f (enumerate_from (n + 1) xs)) (makes n x (All-head P x xs all)) (changed-each P Q makes (n + 1) xs (All-tail P x xs all))
+
+-- what is written through a slice of a whole list is the list
+pub same_slice : {X : Type 0} (len : ℕ) (new items : List X) → length new ≡ length items → length new ≡ len → take len (new ++ drop (length new) items) ≡ new
+same_slice len new items long same =
+    ap (λ rest. take len (new ++ rest)) (drop_all (length new) items (omega (arith, long))) ∙ ap (take len) (append-nil new) ∙ take_all len new (omega (arith, same))
