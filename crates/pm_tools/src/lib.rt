@@ -12,5 +12,6 @@ mod relative_roots;
 
 pub use cargo_config_file::CargoConfigFile;
 pub use config_env::cargo_config_env;
+pub use pm_sysroot::{Ask, RustLibSrcWorkspace, Sysroot};
 pub use project_json_from_command::ProjectJsonFromCommand;
 pub use project_manifest::{BadManifest, ProjectManifest};
