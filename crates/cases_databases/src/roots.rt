@@ -32,7 +32,11 @@ fn change(alloc: Global, db: &mut InputDb, case: Case<'_>) -> Result<Vec<Crate>,
         None => Vec::new(alloc),
     };
     if case.find("list").is_some() {
-        store_one(alloc, db, krate_of(crates.as_slice(), case, "list")?)?;
+        let place = place_of(case, "list")?;
+        let Some(krate) = crates.get(place) else {
+            return Err(Fault::Condition);
+        };
+        store_one(alloc, db, *krate)?;
     }
     Ok(crates)
 }
@@ -42,19 +46,30 @@ fn ask(alloc: Global, db: &InputDb, crates: &[Crate], case: Case<'_>) -> Result<
         "crates_have_source_roots" => Ok(Value::from(crates_have_source_roots(db))),
         "source_root_crates" => in_root(alloc, db, crates, case),
         "relevant_crates" => beside(alloc, db, crates, case),
-        "transitive_rev_deps" => reaching(alloc, db, crates, krate_of(crates, case, "of")?),
-        "toolchain_channel" => channel(alloc, db, krate_of(crates, case, "of")?),
+        _ => ask_of_crate(alloc, db, crates, case),
+    }
+}
+
+fn ask_of_crate(
+    alloc: Global,
+    db: &InputDb,
+    crates: &[Crate],
+    case: Case<'_>,
+) -> Result<Value, Fault> {
+    let place = place_of(case, "of")?;
+    let Some(krate) = crates.get(place) else {
+        return Err(Fault::Condition);
+    };
+    match case.text("call")? {
+        "transitive_rev_deps" => reaching(alloc, db, crates, *krate),
+        "toolchain_channel" => channel(alloc, db, *krate),
         _ => Err(Fault::Call),
     }
 }
 
-// The crate at the place that a case gives.
-fn krate_of(crates: &[Crate], case: Case<'_>, key: &'static str) -> Result<Crate, Fault> {
-    let place = number_of(case.member(key)?, key)?;
-    crates
-        .get(place as usize)
-        .copied()
-        .ok_or(Fault::Member(key))
+// The place that a case gives.
+fn place_of(case: Case<'_>, key: &'static str) -> Result<usize, Fault> {
+    Ok(number_of(case.member(key)?, key)? as usize)
 }
 
 // The crates of a source root.
