@@ -1,0 +1,5 @@
+pub mod Asked
+pub mod BuildTarget
+pub mod Config
+pub mod Queries
+pub mod Questions

@@ -1,0 +1,29 @@
+//! The version of a toolchain.
+
+ghost use Rattle.pm_sysroot.specs.Ask.{means_of};
+ghost use Rattle.toolchain_info.specs.Asked.{Answers};
+ghost use Rattle.toolchain_info.specs.Queries.{version_answer};
+
+use crate::asking::answer_to;
+use crate::query_config::QueryConfig;
+use crate::query_error::QueryError;
+use crate::questions::version_questions;
+use base_text::{Runner, Version};
+use pm_sysroot::Ask;
+use std::alloc::Global;
+use toolchain_answers::version_behind;
+use trees::Tree;
+
+/// The version that `cargo --version` prints where there is a manifest, and else `rustc --version`. None where
+/// what it prints is no version.
+pub fn get<R: Runner, T: Tree>(
+    alloc: Global,
+    config: QueryConfig<'_>,
+    ask: &Ask<'_, R, T>,
+) -> Result<Option<Version>, QueryError>
+    ensures { Answers result (version_answer config.entry (means_of R.answers T.files ask.now)) }
+{
+    let questions = version_questions(alloc, config, ask)?;
+    let text = answer_to(alloc, &questions, ask.runner)?;
+    Ok(version_behind(alloc, config.front(), text.as_str())?)
+}
