@@ -1,4 +1,5 @@
 pub mod Artifact
+pub mod Build
 pub mod Errors
 pub mod Library
 pub mod Output

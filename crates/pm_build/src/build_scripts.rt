@@ -3,19 +3,25 @@
 ghost use Rattle.std.specs.Prelude.{◌≡◌, None, option_copied};
 ghost use Rattle.std.specs.FinMap as map;
 ghost use Rattle.base_text.specs.Arena.{number_of};
+ghost use Rattle.pm_build.specs.Build.{build_of};
 ghost use Rattle.pm_build.specs.Outputs.{outputs_of};
 ghost use Rattle.pm_build.specs.Reading.{Gives};
+ghost use Rattle.pm_sysroot.specs.Ask.{means_of};
 
 use crate::build_error::BuildError;
 use crate::output::BuildScriptOutput;
 use crate::outputs::OutputsBuilder;
 use crate::packages::KnownPackages;
-use base_text::{ArenaMap, Output, Text, TryClone};
+use base_text::{ArenaMap, Output, Runner, Text, TryClone, Version};
+use pm_build_question::build_question;
 use pm_cargo::CargoWorkspace;
-use pm_config::Progress;
+use pm_config::{CargoConfig, Progress};
+use pm_fetch::line_text;
 use pm_packages::{Package, PackageTag};
+use pm_sysroot::{Ask, Sysroot};
 use std::alloc::{AllocError, Global};
 use std::marker::Model;
+use trees::Tree;
 
 /// What a build gives the packages of a workspace, and why it failed, if it did.
 #[derive(Debug, PartialEq, Eq, Drop)]
@@ -72,6 +78,27 @@ impl WorkspaceBuildScripts {
         builder.push_errors(output.err.as_str())?;
         let (outputs, error) = builder.finish(alloc, output.ok)?;
         Ok(WorkspaceBuildScripts { outputs, error })
+    }
+
+    /// What a build of the workspace gives its packages: the build question is asked, and its answer is
+    /// read. `progress` takes the lines of [`of_output`](WorkspaceBuildScripts::of_output).
+    pub fn run_for_workspace<R: Runner, T: Tree, P: Progress>(
+        alloc: Global,
+        config: &CargoConfig,
+        workspace: &CargoWorkspace,
+        sysroot: &Sysroot,
+        toolchain: Option<&Version>,
+        ask: &Ask<'_, R, T>,
+        progress: &mut P,
+    ) -> Result<WorkspaceBuildScripts, BuildError>
+        ensures { Gives result (build_of config.now workspace.now sysroot.now
+            (option_copied toolchain.entry) (means_of R.answers T.files ask.now)) }
+    {
+        let line = build_question(alloc, config, workspace, sysroot, toolchain, ask)?;
+        match ask.runner.ask(alloc, &line)? {
+            Some(output) => WorkspaceBuildScripts::of_output(alloc, workspace, &output, progress),
+            None => Err(BuildError::Io(line_text(alloc, &line)?)),
+        }
     }
 
     /// Why the build failed.

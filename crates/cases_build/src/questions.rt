@@ -1,0 +1,45 @@
+//! The question by which a workspace is built.
+
+use crate::config::{command_of, config_of, version_of};
+use crate::given::Given;
+use crate::lines::{absolute, line_answer};
+use crate::workspace::workspace_of;
+use cases::{Case, Fault};
+use pm_build_question::{build_question, configured_question};
+use pm_cargo::CargoWorkspace;
+use serde_json::Value;
+use std::alloc::Global;
+
+/// What a call that makes a question gives.
+pub fn answer(alloc: Global, case: Case<'_>) -> Result<Value, Fault> {
+    let given = Given::of_case(alloc, case)?;
+    match case.text("call")? {
+        "build_question" => of_workspace(alloc, case, &given, &workspace_of(alloc, case)?),
+        "configured_question" => of_command(alloc, case, &given),
+        _ => Err(Fault::Call),
+    }
+}
+
+fn of_workspace(
+    alloc: Global,
+    case: Case<'_>,
+    given: &Given,
+    workspace: &CargoWorkspace,
+) -> Result<Value, Fault> {
+    let config = config_of(alloc, case)?;
+    let version = version_of(alloc, case)?;
+    let sysroot = &given.sysroot;
+    let version = version.as_ref();
+    let line = build_question(alloc, &config, workspace, sysroot, version, &given.ask())?;
+    line_answer(alloc, &line)
+}
+
+// The configured command in a directory, or null where there is none.
+fn of_command(alloc: Global, case: Case<'_>, given: &Given) -> Result<Value, Fault> {
+    let command = command_of(alloc, case)?;
+    let dir = absolute(alloc, case.text("dir")?, "dir")?;
+    match &configured_question(alloc, &command, dir.as_path(), &given.ask())? {
+        Some(line) => line_answer(alloc, line),
+        None => Ok(Value::Null),
+    }
+}
