@@ -1,0 +1,20 @@
+use Rattle.std.proofs.Common.{[], refl, ◌∙◌, arith}
+use Rattle.std.proofs.lemmas.Grind.{common_steps}
+use Rattle.pm_rows.specs.KeptEdges.{none}
+use Rattle.pm_rows.proofs.keeping.keep_edges.Goals as goal
+
+pub loop-edge-init : goal.loop-edge-init
+loop-edge-init c = record {
+  keeps = λ w shared rows numbers are. record { kept = []; are_kept = none; crates_are = are };
+  all = refl;
+  limit = refl;
+  count = refl;
+}
+
+pub loop-edge-preserved : goal.loop-edge-preserved
+loop-edge-preserved c = record {
+  keeps = λ w shared rows numbers are. c.in_ok-keep_edge.ensures.keeps w shared rows c.loop-edge.yielded numbers (c.loop-edge.invariant.keeps w shared rows numbers are);
+  all = grind (arith, common_steps);
+  limit = c.in_ok-keep_edge.ensures.limit ∙ c.loop-edge.invariant.limit;
+  count = c.in_ok-keep_edge.ensures.count ∙ c.loop-edge.invariant.count;
+}

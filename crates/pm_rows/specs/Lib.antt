@@ -1,0 +1,8 @@
+pub mod Columns
+pub mod Gathered
+pub mod KeptEdges
+pub mod Lowering
+pub mod Ranks
+pub mod Refusal
+pub mod Rows
+pub mod WantedEdges
