@@ -31,11 +31,11 @@ abbrev pub target_words : Option (List ℕ) → List (List ℕ)
 target_words target = option_words (codes "--target") target
 
 -- which platform the compiler runs on
-abbrev pub host_questions : QueryConfig → Means → Questions
+unfoldable pub host_questions : QueryConfig → Means → Questions
 host_questions config means = alone (question (sysroot_of config) rustc (dir_of config) (codes "-vV" ∷ []) means)
 
 -- which version a tool is of
-abbrev pub version_questions : QueryConfig → Means → Questions
+unfoldable pub version_questions : QueryConfig → Means → Questions
 version_questions config means =
     alone (question (sysroot_of config) (tool_of config) (dir_of config) (codes "--version" ∷ []) means)
 
@@ -50,12 +50,15 @@ cargo_cfg_words target =
 abbrev pub rustc_cfg_words : Option (List ℕ) → List (List ℕ)
 rustc_cfg_words target = (codes "--print" ∷ codes "cfg" ∷ codes "-O" ∷ []) ++ target_words target
 
+-- a question that may have the options of a nightly
+unfoldable pub with_channel : CommandLine → CommandLine
+with_channel line = with_variable (codes "__CARGO_TEST_CHANNEL_OVERRIDE_DO_NOT_USE_THIS") (codes "nightly") line
+
 -- which atoms hold for a platform, or for that of the configuration; cargo takes the options of a nightly for this question
-abbrev pub cfg_questions : QueryConfig → Option (List ℕ) → Means → Questions
+unfoldable pub cfg_questions : QueryConfig → Option (List ℕ) → Means → Questions
 cfg_questions config target means =
     in_turn config
-    (with_variable (codes "__CARGO_TEST_CHANNEL_OVERRIDE_DO_NOT_USE_THIS") (codes "nightly")
-    (question (sysroot_of config) cargo (dir_of config) (cargo_cfg_words target) means))
+    (with_channel (question (sysroot_of config) cargo (dir_of config) (cargo_cfg_words target) means))
     (question (sysroot_of config) rustc (dir_of config) (rustc_cfg_words target) means)
 
 -- the words that ask cargo for the specification of a platform; the version is that of the toolchain
@@ -76,7 +79,7 @@ abbrev pub with_bootstrap : CommandLine → CommandLine
 with_bootstrap line = with_variable (codes "RUSTC_BOOTSTRAP") (codes "1") line
 
 -- what the specification of a platform is, or of that of the configuration
-abbrev pub spec_questions : QueryConfig → Option (List ℕ) → Option Parts → Means → Questions
+unfoldable pub spec_questions : QueryConfig → Option (List ℕ) → Option Parts → Means → Questions
 spec_questions config target version means =
     in_turn config
     (with_bootstrap (question (sysroot_of config) cargo (dir_of config) (cargo_spec_words target version) means))

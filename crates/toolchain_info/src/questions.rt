@@ -34,6 +34,7 @@ impl Questions {
 }
 
 /// Which platform the compiler runs on.
+#[tactic(auto, unfolding(crate::specs::Questions::host_questions))]
 pub(crate) fn host_questions<R: Runner, T: Tree>(
     alloc: Global,
     config: QueryConfig<'_>,
@@ -50,6 +51,7 @@ pub(crate) fn host_questions<R: Runner, T: Tree>(
 }
 
 /// Which version a tool is of.
+#[tactic(auto, unfolding(crate::specs::Questions::version_questions))]
 pub(crate) fn version_questions<R: Runner, T: Tree>(
     alloc: Global,
     config: QueryConfig<'_>,
@@ -66,6 +68,7 @@ pub(crate) fn version_questions<R: Runner, T: Tree>(
 }
 
 /// Which atoms hold for a platform.
+#[tactic(auto, unfolding(crate::specs::Questions::cfg_questions))]
 pub(crate) fn cfg_questions<R: Runner, T: Tree>(
     alloc: Global,
     config: QueryConfig<'_>,
@@ -84,6 +87,7 @@ pub(crate) fn cfg_questions<R: Runner, T: Tree>(
 }
 
 // The question for the atoms that `cargo` is asked where there is a manifest.
+#[tactic(auto, unfolding(crate::specs::Questions::cfg_questions))]
 fn cargo_cfg_question<R: Runner, T: Tree>(
     alloc: Global,
     config: QueryConfig<'_>,
@@ -98,16 +102,20 @@ fn cargo_cfg_question<R: Runner, T: Tree>(
     };
     let words = cargo_cfg_words(alloc, target)?;
     let line = sysroot.question(alloc, Tool::Cargo, config.dir(), words, ask)?;
-    let line = set_variable(
-        alloc,
-        line,
-        "__CARGO_TEST_CHANNEL_OVERRIDE_DO_NOT_USE_THIS",
-        "nightly",
-    )?;
-    Ok(Some(line))
+    Ok(Some(with_channel(alloc, line)?))
+}
+
+// The question, which may have the options of a nightly.
+#[tactic(auto, unfolding(crate::specs::Questions::with_channel))]
+fn with_channel(alloc: Global, line: CommandLine) -> Result<CommandLine, AllocError>
+    ensures { IfOk result (λ set. set ≡ spec.with_channel line) }
+{
+    let name = "__CARGO_TEST_CHANNEL_OVERRIDE_DO_NOT_USE_THIS";
+    set_variable(alloc, line, name, "nightly")
 }
 
 /// What the specification of a platform is.
+#[tactic(auto, unfolding(crate::specs::Questions::spec_questions))]
 pub(crate) fn spec_questions<R: Runner, T: Tree>(
     alloc: Global,
     config: QueryConfig<'_>,
@@ -129,6 +137,7 @@ pub(crate) fn spec_questions<R: Runner, T: Tree>(
 }
 
 // The question for the specification that `cargo` is asked where there is a manifest.
+#[tactic(auto, unfolding(crate::specs::Questions::spec_questions))]
 fn cargo_spec_question<R: Runner, T: Tree>(
     alloc: Global,
     config: QueryConfig<'_>,
