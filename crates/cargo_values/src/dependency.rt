@@ -43,7 +43,7 @@ impl TryClone for Dependency {
     }
 }
 
-#[tactic(auto, unfolding(crate::specs::Dependency::dependency_at, json_fields::specs::Fields::required, json_fields::specs::Fields::optional, json_fields::specs::Fields::defaulted))]
+#[tactic(auto, unfolding(crate::specs::Dependency::dependency_at))]
 impl ReadJson for Dependency {
     ghost use Rattle.cargo_values.specs.Dependency.{dependency_at};
 
