@@ -1,11 +1,10 @@
 //! Documents by tables that lead back to themselves: what is written of what was read, or the first place that
 //! does not fit.
 
+use cargo_diagnostics::{Diagnostic, DiagnosticSpan};
 use cases::{Case, Fault, missed_answer};
 use json_fields::{Json, ReadError, of_text};
-use json_fields_tests::diagnostic::Diagnostic;
 use json_fields_tests::project::Project;
-use json_fields_tests::span::Span;
 use serde_json::Value;
 use std::alloc::Global;
 
@@ -14,7 +13,7 @@ pub fn answer(alloc: Global, case: Case<'_>) -> Result<Value, Fault> {
     match case.text("call")? {
         "Project" => round_trip::<Project>(alloc, case.text("text")?),
         "Diagnostic" => round_trip::<Diagnostic>(alloc, case.text("text")?),
-        "Span" => round_trip::<Span>(alloc, case.text("text")?),
+        "Span" => round_trip::<DiagnosticSpan>(alloc, case.text("text")?),
         _ => Err(Fault::Call),
     }
 }

@@ -1,10 +1,4 @@
 pub mod Release
 pub mod ReleaseLaws
-pub mod Level
-pub mod LevelLaws
-pub mod Span
-pub mod SpanLaws
-pub mod Diagnostic
-pub mod DiagnosticLaws
 pub mod Project
 pub mod ProjectLaws
