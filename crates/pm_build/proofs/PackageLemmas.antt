@@ -3,11 +3,9 @@ use Rattle.std.proofs.Common.{◌≡◌, ℕ, suc, ◌+◌, ◌<◌, Bool, true,
 use Rattle.std.proofs.Math.Seq.{take-suc}
 use Rattle.std.proofs.lemmas.Bool.Decides.{Decides-like, same_from_decides}
 use Rattle.std.proofs.lemmas.List.{length-take, take_all}
-use Rattle.std.proofs.lemmas.List.FromFn.{get_or-range_with_len, length-range_with_len}
 use Rattle.std.proofs.lemmas.Map.Text.{is_eq-slice_cmp}
 use Rattle.std.proofs.lemmas.Slice.Eq.{bytes_eq-Decides}
 use Rattle.std.specs.BTreeMap.{insert_entry, is_at}
-use Rattle.std.specs.List.{range_with_len}
 use Rattle.std.specs.Map.{lookup}
 use Rattle.std.specs.Option.{option_map, option_or}
 use Rattle.std.specs.Ordering.{is_eq, match_ordering}
@@ -69,12 +67,6 @@ module _ {X : Type 0} (p : X → Bool) where
   last_place-more (y ∷ xs) x =
       ap (λ o. option_or (option_map suc o) (cond (p y) (Some 0) None)) (last_place-more xs x)
       ∙ last_more (p x) (length xs) (last_place p xs) (cond (p y) (Some 0) None)
-
--- the number that comes at a turn of the numbers below a count
-pub number_at : (count k id : ℕ) → k < length (range_with_len 0 count) → id ≡ get_or (range_with_len 0 count) k id → (k < count) × (id ≡ k)
-number_at count k id within is =
-    let below : k < count = omega (arith, within, length-range_with_len 0 count) in
-    (below, omega (arith, is, get_or-range_with_len 0 count k id below))
 
 number_cond : (b : Bool) (id : Idx PackageTag) (o : Option (Idx PackageTag)) → option_map number_of (cond b (Some id) o) ≡ cond b (Some (number_of id)) (option_map number_of o)
 number_cond true id o = refl

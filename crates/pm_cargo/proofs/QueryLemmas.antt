@@ -3,16 +3,25 @@ use Rattle.std.proofs.Common.{◌≡◌, ◌+◌, ◌<◌, ℕ, zero, suc, List,
 use Rattle.std.proofs.Math.Bool.{or-false}
 use Rattle.std.specs.Prelude.{codes}
 use Rattle.std.specs.Borrow.{Bor}
-use Rattle.std.specs.List.{find, flat_map, list_any}
+use Rattle.std.specs.List.{find, flat_map, list_any, range_with_len}
 use Rattle.std.specs.Map.{keys_of}
 use Rattle.std.specs.Option.{is_some}
 use Rattle.std.specs.declared.alloc.Global.{Global}
 use Rattle.std.proofs.lemmas.Bool.{true≢false}
 use Rattle.std.proofs.lemmas.Grind.{flat_map-append}
 use Rattle.std.proofs.lemmas.List.{take_more}
+use Rattle.std.proofs.lemmas.List.FromFn.{get_or-range_with_len, length-range_with_len}
 use Rattle.base_text.specs.Paths.{components, components_with_tail}
 use Rattle.base_text.proofs.Parents.{root_components}
 use Rattle.pm_cargo.specs.Queries.{manifests_or_root}
+
+-- ---- numbers
+
+-- the number that comes at a turn of the numbers below a count
+pub number_of_turn : (count k id : ℕ) → k < length (range_with_len 0 count) → id ≡ get_or (range_with_len 0 count) k id → (k < count) × (id ≡ k)
+number_of_turn count k id within is =
+    let below : k < count = omega (arith, within, length-range_with_len 0 count) in
+    (below, omega (arith, is, get_or-range_with_len 0 count k id below))
 
 -- ---- the manifest of the root
 

@@ -10,7 +10,7 @@ use Rattle.pm_rows.specs.Refusal.{IfBadName}
 use Rattle.pm_rows.specs.declared.lower_error.LowerError.{LowerError}
 use Rattle.pm_rows.specs.declared.lower_error.LowerError.TheVariants.{BadCrateName, TooMany, OutOfMemory}
 use Rattle.pm_rows.specs.Rows.{Owner, Row, library, library_at}
-use Rattle.pm_rows.specs.Gathered.{to_dependencies, to_dependency, to_own_library}
+use Rattle.pm_rows.specs.Gathering.{to_dependencies, to_dependency, to_own_library}
 use Rattle.pm_rows.specs.WantedEdges.{Edge, bad_name_of, bad_names_of, edge, is_delayed, is_for, same, to_lib, to_library, to_owner, to_package, uses_library}
 use Rattle.base_text.specs.Arena.{number_of}
 use Rattle.pm_packages.specs.declared.package.PackageDependency.{PackageDependency}

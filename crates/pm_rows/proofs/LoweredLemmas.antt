@@ -14,7 +14,7 @@ use Rattle.crate_values.specs.declared.crate_data.Dependency.{Dependency}
 use Rattle.crate_values.specs.declared.workspace_data.CrateWorkspaceData.{CrateWorkspaceData}
 use Rattle.pm_cargo.specs.Workspace.{Workspace}
 use Rattle.graph_base.specs.EdgeList as graph
-use Rattle.pm_rows.specs.Gathered.{AreLowered, AreNumbered}
+use Rattle.pm_rows.specs.Gathering.{AreLowered, AreNumbered}
 use Rattle.pm_rows.specs.KeptEdges.{ClosesCycle, IsWithin, deps_of, ends}
 use Rattle.pm_rows.specs.Lowering.{Crate, HasDep, LacksCyclesAlone, crate_of, crate_seen, dep_seen}
 use Rattle.pm_rows.specs.Rows.{Row}

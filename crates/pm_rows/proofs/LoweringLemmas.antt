@@ -8,7 +8,7 @@ use Rattle.outside.specs.declared.limits.Limit.TheVariants.{Bytes, Paths, Packag
 use Rattle.crate_values.specs.declared.workspace_data.CrateWorkspaceData.{CrateWorkspaceData}
 use Rattle.crate_graph.specs.Graph.{Graph}
 use Rattle.pm_cargo.specs.Workspace.{Workspace}
-use Rattle.pm_rows.specs.Gathered.{AddsRows, AreLowered, wanted}
+use Rattle.pm_rows.specs.Gathering.{AddsRows, AreLowered, edges_between}
 use Rattle.pm_rows.specs.KeptEdges.{IsWithin, kept_edges}
 use Rattle.pm_loader.specs.Loader.{Files}
 use Rattle.pm_rows.specs.Lowering.{HasCrates, LacksCyclesAlone, crate_of, crate_seen, crates_of, lowering, named_crates}
@@ -29,7 +29,7 @@ module _ (files : Files) (w : Workspace) (shared : CrateWorkspaceData) where
   names_are : bad_names (parts files w) ≡ bad_names_of_owners (owners files w)
   names_are = append-nil (bad_names_of_owners (owners files w))
 
-  crates_are : crates_of shared (parts files w) ≡ map (crate_of w shared (kept_edges (wanted (owners files w)))) (rows_of (owners files w))
+  crates_are : crates_of shared (parts files w) ≡ map (crate_of w shared (kept_edges (edges_between (owners files w)))) (rows_of (owners files w))
   unfolding crates_of
   crates_are =
       append-nil (map (crate_of w shared (kept_edges (wanted_edges (parts files w)))) (rows_of (owners files w)))
@@ -81,18 +81,18 @@ module _ (files : Files) (w : Workspace) (shared : CrateWorkspaceData) where
         let few : length start.crates ≤ start.limit = omega (arith, ap length empty) in
         omega (arith, adds.within few, start_limit, count_made)
 
-    pub edges_within : (edges : List Edge) (given : List Owner) → given ≡ made → edges ≡ wanted given → All (IsWithin (length new.crates)) edges
+    pub edges_within : (edges : List Edge) (given : List Owner) → given ≡ made → edges ≡ edges_between given → All (IsWithin (length new.crates)) edges
     edges_within edges given same are =
         let all = wanted_within (owners files w) (are_numbered files w) in
-        subst (λ es. All (IsWithin (length new.crates)) es) (ap wanted (sym owners_made ∙ sym same) ∙ sym are) (subst (λ n. All (IsWithin n) (wanted (owners files w))) (sym count_made) all)
+        subst (λ es. All (IsWithin (length new.crates)) es) (ap edges_between (sym owners_made ∙ sym same) ∙ sym are) (subst (λ n. All (IsWithin n) (edges_between (owners files w))) (sym count_made) all)
 
   -- the graph once the edges stand in it too
   module _ (limit : ℕ) (graph : Graph) (within : length (rows_of (owners files w)) ≤ limit) (good : bad_names_of_owners (owners files w) ≡ [])
-      (limit_is : graph.limit ≡ limit) (low : AreLowered w shared (rows_of (owners files w)) (wanted (owners files w)) graph.crates) where
+      (limit_is : graph.limit ≡ limit) (low : AreLowered w shared (rows_of (owners files w)) (edges_between (owners files w)) graph.crates) where
     pub has_crates : HasCrates limit graph (lowering files w shared limit)
     has_crates =
         let all = wanted_within (owners files w) (are_numbered files w) in
-        let kept = kept_are_folded (length (rows_of (owners files w))) (wanted (owners files w)) low.kept all low.are_kept in
+        let kept = kept_are_folded (length (rows_of (owners files w))) (edges_between (owners files w)) low.kept all low.are_kept in
         let crates : map crate_seen graph.crates ≡ crates_of shared (parts files w) = low.crates_are ∙ ap (λ es. map (crate_of w shared es) (rows_of (owners files w))) kept ∙ sym crates_are in
         record {
           crates_are = lowering_within limit within ∙ ap (λ names. named_crates shared (parts files w) (slice_get names 0)) good ∙ ap Ok (sym crates);
@@ -101,4 +101,4 @@ module _ (files : Files) (w : Workspace) (shared : CrateWorkspaceData) where
 
     pub lacks_alone : LacksCyclesAlone (wanted_edges (parts files w)) graph.crates
     lacks_alone = subst (λ es. LacksCyclesAlone es graph.crates) (sym (wanted_are_gathered files w))
-        (lacks_cycles_alone w shared (rows_of (owners files w)) (wanted (owners files w)) graph.crates (are_numbered files w) (wanted_within (owners files w) (are_numbered files w)) low)
+        (lacks_cycles_alone w shared (rows_of (owners files w)) (edges_between (owners files w)) graph.crates (are_numbered files w) (wanted_within (owners files w) (are_numbered files w)) low)

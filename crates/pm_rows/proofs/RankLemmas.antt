@@ -13,8 +13,8 @@ use Rattle.pm_packages.specs.declared.target.TargetTag.{TargetTag}
 use Rattle.pm_cargo.specs.Workspace.{Workspace}
 use Rattle.pm_loader.specs.Loader.{Files}
 use Rattle.pm_rows.specs.Ranks.{AreInOrder, IsBefore, less, then_less}
-use Rattle.pm_rows.specs.Rows.{Owner, Row, cargo, library, live_target, live_targets, numbered, owner, owners, owners_from, parts}
-use Rattle.pm_rows.specs.WantedEdges.{Edge, RankedEdge, by_place, first_edges, is_delayed, is_for, last, later_edges, ranked, ranked_edges, same, to_library, to_owner, to_package, uses_library, wanted_of_part}
+use Rattle.pm_rows.specs.Rows.{Owner, Row, cargo, library, live_target, live_targets, rows_from, owner, owners, owners_from, parts}
+use Rattle.pm_rows.specs.WantedEdges.{Edge, RankedEdge, by_place, first_edges, is_delayed, is_for, last, later_edges, with_rank, ranked_edges, same, to_library, to_owner, to_package, uses_library, wanted_of_part}
 
 before_key : (prefix : List ℕ) (a b : ℕ) (xs ys : List ℕ) → a < b → IsBefore (prefix ++ a ∷ xs) (prefix ++ b ∷ ys)
 before_key [] a b xs ys h = less h
@@ -50,9 +50,9 @@ later prefix m n xs h all = All-weaker (λ w. HasKey prefix n w.rank) (λ w. Has
 
 -- ---- keys of what is ranked
 
-ranked_all : (P : List ℕ → Type 0) (rank : List ℕ) (es : List Edge) → P rank → All (λ w. P w.rank) (ranked rank es)
+ranked_all : (P : List ℕ → Type 0) (rank : List ℕ) (es : List Edge) → P rank → All (λ w. P w.rank) (with_rank rank es)
 ranked_all P rank [] h = All-nil (λ w. P w.rank)
-ranked_all P rank (e ∷ es) h = All-cons (λ w. P w.rank) (record { rank = rank; edge = e }) (ranked rank es) h (ranked_all P rank es h)
+ranked_all P rank (e ∷ es) h = All-cons (λ w. P w.rank) (record { rank = rank; edge = e }) (with_rank rank es) h (ranked_all P rank es h)
 
 flat_all : {A : Type 0} (P : RankedEdge → Type 0) (f : A → List RankedEdge) → ((x : A) → All P (f x)) → (xs : List A) → All P (flat_map f xs)
 flat_all P f each [] = All-nil P
@@ -92,27 +92,27 @@ short_if : (b : Bool) (e : Edge) → IsShort (if b then e ∷ [] else [])
 short_if true e = tt
 short_if false e = tt
 
-short_order : (rank : List ℕ) (es : List Edge) → IsShort es → AreInOrder (ranked rank es)
+short_order : (rank : List ℕ) (es : List Edge) → IsShort es → AreInOrder (with_rank rank es)
 short_order rank [] short = tt
 short_order rank (e ∷ []) short = (All-nil (λ y. IsBefore rank y.rank), tt)
 short_order rank (e ∷ f ∷ es) short = absurd short
 
 module _ (prefix tail : List ℕ) (f : Row → List Edge) (short : (r : Row) → IsShort (f r)) where
-  row_keys : (r : Row) → All (λ w. HasKey prefix r.place w.rank) (ranked (prefix ++ r.place ∷ tail) (f r))
+  row_keys : (r : Row) → All (λ w. HasKey prefix r.place w.rank) (with_rank (prefix ++ r.place ∷ tail) (f r))
   row_keys r = ranked_all (HasKey prefix r.place) (prefix ++ r.place ∷ tail) (f r) (record { rest = tail; is = refl })
 
-  later_rows : (m : ℕ) (rows : List Row) → All (λ s. m ≤ s.place) rows → All (λ w. HasLaterKey prefix m w.rank) (flat_map (λ (row : Row). ranked (prefix ++ row.place ∷ tail) (f row)) rows)
+  later_rows : (m : ℕ) (rows : List Row) → All (λ s. m ≤ s.place) rows → All (λ w. HasLaterKey prefix m w.rank) (flat_map (λ (row : Row). with_rank (prefix ++ row.place ∷ tail) (f row)) rows)
   later_rows m [] all = All-nil (λ w. HasLaterKey prefix m w.rank)
-  later_rows m (r ∷ rs) all = All-append (λ w. HasLaterKey prefix m w.rank) (ranked (prefix ++ r.place ∷ tail) (f r)) (flat_map (λ (row : Row). ranked (prefix ++ row.place ∷ tail) (f row)) rs)
-      (later prefix m r.place (ranked (prefix ++ r.place ∷ tail) (f r)) (All-head (λ (s : Row). m ≤ s.place) r rs all) (row_keys r))
+  later_rows m (r ∷ rs) all = All-append (λ w. HasLaterKey prefix m w.rank) (with_rank (prefix ++ r.place ∷ tail) (f r)) (flat_map (λ (row : Row). with_rank (prefix ++ row.place ∷ tail) (f row)) rs)
+      (later prefix m r.place (with_rank (prefix ++ r.place ∷ tail) (f r)) (All-head (λ (s : Row). m ≤ s.place) r rs all) (row_keys r))
       (later_rows m rs (All-tail (λ (s : Row). m ≤ s.place) r rs all))
 
-  rows_order : (rows : List Row) → Ascend rows → AreInOrder (flat_map (λ (row : Row). ranked (prefix ++ row.place ∷ tail) (f row)) rows)
+  rows_order : (rows : List Row) → Ascend rows → AreInOrder (flat_map (λ (row : Row). with_rank (prefix ++ row.place ∷ tail) (f row)) rows)
   rows_order [] up = tt
   rows_order (r ∷ rs) up =
-      let others = flat_map (λ (row : Row). ranked (prefix ++ row.place ∷ tail) (f row)) rs in
-      in_order_append (ranked (prefix ++ r.place ∷ tail) (f r)) others (short_order (prefix ++ r.place ∷ tail) (f r) (short r)) (rows_order rs up.1)
-      (apart_by_key prefix r.place (r.place + 1) (ranked (prefix ++ r.place ∷ tail) (f r)) others (omega arith) (row_keys r)
+      let others = flat_map (λ (row : Row). with_rank (prefix ++ row.place ∷ tail) (f row)) rs in
+      in_order_append (with_rank (prefix ++ r.place ∷ tail) (f r)) others (short_order (prefix ++ r.place ∷ tail) (f r) (short r)) (rows_order rs up.1)
+      (apart_by_key prefix r.place (r.place + 1) (with_rank (prefix ++ r.place ∷ tail) (f r)) others (omega arith) (row_keys r)
       (later_rows (r.place + 1) rs (All-weaker (λ (s : Row). r.place < s.place) (λ (s : Row). r.place + 1 ≤ s.place) (λ s h. omega (arith, h)) rs up.0)))
 
 -- ---- the steps
@@ -132,13 +132,13 @@ short_owner delayed from d (Some to) r = short_package delayed from d to (librar
 first_keys : (q p : ℕ) (o : Owner) → All (λ w. HasKey (q ∷ 1 ∷ []) p w.rank) (first_edges q p o)
 unfolding first_edges
 first_keys q p o =
-    flat_all (λ w. HasKey (q ∷ 1 ∷ []) p w.rank) (λ (row : Row). ranked (q ∷ 1 ∷ p ∷ 1 ∷ row.place ∷ last ∷ []) (to_library (library o.rows) row))
+    flat_all (λ w. HasKey (q ∷ 1 ∷ []) p w.rank) (λ (row : Row). with_rank (q ∷ 1 ∷ p ∷ 1 ∷ row.place ∷ last ∷ []) (to_library (library o.rows) row))
     (λ row. ranked_all (HasKey (q ∷ 1 ∷ []) p) (q ∷ 1 ∷ p ∷ 1 ∷ row.place ∷ last ∷ []) (to_library (library o.rows) row) (record { rest = 1 ∷ row.place ∷ last ∷ []; is = refl })) o.rows
 
 first_step_keys : (q p : ℕ) (o : Owner) → All (λ w. HasKey (q ∷ []) 1 w.rank) (first_edges q p o)
 unfolding first_edges
 first_step_keys q p o =
-    flat_all (λ w. HasKey (q ∷ []) 1 w.rank) (λ (row : Row). ranked (q ∷ 1 ∷ p ∷ 1 ∷ row.place ∷ last ∷ []) (to_library (library o.rows) row))
+    flat_all (λ w. HasKey (q ∷ []) 1 w.rank) (λ (row : Row). with_rank (q ∷ 1 ∷ p ∷ 1 ∷ row.place ∷ last ∷ []) (to_library (library o.rows) row))
     (λ row. ranked_all (HasKey (q ∷ []) 1) (q ∷ 1 ∷ p ∷ 1 ∷ row.place ∷ last ∷ []) (to_library (library o.rows) row) (record { rest = p ∷ 1 ∷ row.place ∷ last ∷ []; is = refl })) o.rows
 
 first_order : (q p : ℕ) (o : Owner) → Ascend o.rows → AreInOrder (first_edges q p o)
@@ -147,12 +147,12 @@ first_order q p o up = rows_order (q ∷ 1 ∷ p ∷ 1 ∷ []) (last ∷ []) (to
 
 module _ (q step : ℕ) (delayed : Bool) (owners : List Owner) where
   to_dependency_ranked : ℕ → Owner → ℕ → PackageDependency → List RankedEdge
-  to_dependency_ranked p o d dep = flat_map (λ (row : Row). ranked (q ∷ step ∷ p ∷ d ∷ row.place ∷ []) (to_owner delayed o dep (slice_get owners (number_of dep.pkg)) row)) o.rows
+  to_dependency_ranked p o d dep = flat_map (λ (row : Row). with_rank (q ∷ step ∷ p ∷ d ∷ row.place ∷ []) (to_owner delayed o dep (slice_get owners (number_of dep.pkg)) row)) o.rows
 
   dependency_all : (P : List ℕ → Type 0) (p : ℕ) (o : Owner) (d : ℕ) (dep : PackageDependency) → ((t : ℕ) → P (q ∷ step ∷ p ∷ d ∷ t ∷ [])) → All (λ w. P w.rank) (to_dependency_ranked p o d dep)
   unfolding to_dependency_ranked
   dependency_all P p o d dep each =
-      flat_all (λ w. P w.rank) (λ (row : Row). ranked (q ∷ step ∷ p ∷ d ∷ row.place ∷ []) (to_owner delayed o dep (slice_get owners (number_of dep.pkg)) row))
+      flat_all (λ w. P w.rank) (λ (row : Row). with_rank (q ∷ step ∷ p ∷ d ∷ row.place ∷ []) (to_owner delayed o dep (slice_get owners (number_of dep.pkg)) row))
       (λ row. ranked_all P (q ∷ step ∷ p ∷ d ∷ row.place ∷ []) (to_owner delayed o dep (slice_get owners (number_of dep.pkg)) row) (each row.place)) o.rows
 
   edges_all : (P : List ℕ → Type 0) (p : ℕ) (o : Owner) → ((d t : ℕ) → P (q ∷ step ∷ p ∷ d ∷ t ∷ [])) → All (λ w. P w.rank) (later_edges q step delayed owners p o)
@@ -224,11 +224,11 @@ module _ (files : Files) (w : Workspace) (of : PackageData) where
         | None ↦ rest
       ]
 
-  numbered_above : (m n : ℕ) (ts : List (ℕ × TargetData × ℕ)) → All (λ t. m < t.0) ts → All (λ (r : Row). m < r.place) (numbered of n ts)
+  numbered_above : (m n : ℕ) (ts : List (ℕ × TargetData × ℕ)) → All (λ t. m < t.0) ts → All (λ (r : Row). m < r.place) (rows_from of n ts)
   numbered_above m n [] all = All-nil (λ (r : Row). m < r.place)
-  numbered_above m n (t ∷ ts) all = All-cons (λ (r : Row). m < r.place) _ (numbered of (n + 1) ts) (All-head (λ t. m < t.0) t ts all) (numbered_above m (n + 1) ts (All-tail (λ t. m < t.0) t ts all))
+  numbered_above m n (t ∷ ts) all = All-cons (λ (r : Row). m < r.place) _ (rows_from of (n + 1) ts) (All-head (λ t. m < t.0) t ts all) (numbered_above m (n + 1) ts (All-tail (λ t. m < t.0) t ts all))
 
-  numbered_ascend : (n : ℕ) (ts : List (ℕ × TargetData × ℕ)) → TargetsAscend ts → Ascend (numbered of n ts)
+  numbered_ascend : (n : ℕ) (ts : List (ℕ × TargetData × ℕ)) → TargetsAscend ts → Ascend (rows_from of n ts)
   numbered_ascend n [] up = tt
   numbered_ascend n (t ∷ ts) up = (numbered_above t.0 (n + 1) ts up.0, numbered_ascend (n + 1) ts up.1)
 

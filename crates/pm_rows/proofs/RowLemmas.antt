@@ -1,9 +1,8 @@
 -- How rows are gathered, by package and by target, while their crates come into a graph.
 use Rattle.std.proofs.Common.{◌≡◌, ℕ, ◌+◌, ◌<◌, ◌≤◌, Bool, true, false, cond, List, [], ◌∷◌, ◌++◌, map, length, filter, get_or, take, drop, Option, Some, None, slice_get, refl, sym, ap, ◌∙◌, subst, arith, append_assoc}
-use Rattle.std.specs.List.{enumerate_from, last_or, range_with_len}
+use Rattle.std.specs.List.{enumerate_from, last_or}
 use Rattle.std.specs.Option.{option_and_then, option_map, option_to_list}
 use Rattle.std.proofs.lemmas.List.{length-map, length-append, map-append, append-nil, drop_more, take_more}
-use Rattle.std.proofs.lemmas.List.FromFn.{get_or-range_with_len, length-range_with_len}
 use Rattle.std.proofs.lemmas.Option.{same_Some}
 use Rattle.std.proofs.lemmas.List.Concat.{flat_map-append}
 use Rattle.std.proofs.lemmas.List.Elements.{filter-append}
@@ -17,10 +16,10 @@ use Rattle.pm_packages.specs.declared.target.TargetData.{TargetData}
 use Rattle.pm_packages.specs.declared.target.TargetTag.{TargetTag}
 use Rattle.pm_cargo.specs.Workspace.{Workspace}
 use Rattle.pm_loader.specs.Loader.{Files}
-use Rattle.pm_rows.specs.Gathered.{AddsRows, files_of, found_target, found_targets, owner_by, owners_by}
+use Rattle.pm_rows.specs.Gathering.{AddsRows, files_of, found_target, found_targets, owner_by, owners_by}
 use Rattle.pm_rows.specs.Lowering.{crate_of, crate_seen}
 use Rattle.pm_rows.specs.Refusal.{IfTooMany}
-use Rattle.pm_rows.specs.Rows.{Owner, Row, is_lib, library, live_target, live_targets, numbered, owner, owners_from, root_file, row_at, rows_of}
+use Rattle.pm_rows.specs.Rows.{Owner, Row, is_lib, library, live_target, live_targets, rows_from, owner, owners_from, root_file, row_at, rows_of}
 use Rattle.pm_rows.specs.declared.lower_error.LowerError.{LowerError}
 use Rattle.pm_rows.specs.declared.lower_error.LowerError.TheVariants.{BadCrateName, TooMany, OutOfMemory}
 
@@ -40,12 +39,6 @@ map_more f xs i x within is =
 -- the next item of what is left
 pub drop_next : {A : Type 0} (xs : List A) (i : ℕ) (x : A) → i < length xs → x ≡ get_or xs i x → drop i xs ≡ x ∷ drop (i + 1) xs
 drop_next xs i x within is = drop_more xs i x within ∙ ap (λ y. y ∷ drop (i + 1) xs) (sym is)
-
--- the number that comes at a turn of the numbers below a count
-pub turn_number : (count k id : ℕ) → k < length (range_with_len 0 count) → id ≡ get_or (range_with_len 0 count) k id → (k < count) × (id ≡ k)
-turn_number count k id within is =
-    let below : k < count = omega (arith, within, length-range_with_len 0 count) in
-    (below, omega (arith, is, get_or-range_with_len 0 count k id below))
 
 -- what an answer says of the option that it was made of
 pub some_found : {A B : Type 0} (f : A → B) (o : Option A) (b : B) → Some b ≡ option_map f o → (a : A) × (o ≡ Some a) × (b ≡ f a)
@@ -80,7 +73,7 @@ module _ (w : Workspace) (shared : CrateWorkspaceData) where
 module _ (w : Workspace) (shared : CrateWorkspaceData) (of : PackageData) (all : List (Option ℕ)) where
   -- the rows of a package as far as its targets are looked at: those at a place and behind it are left
   pub record Gathers (place : ℕ) (rest : List (Option ℕ)) (old new : Graph) (rows : List Row) (lib : Option Row) : Type 0 where
-    pub rows_are : rows ++ numbered of (length new.crates) (found_targets w of place rest) ≡ (owner_by w (length old.crates) of all).rows
+    pub rows_are : rows ++ rows_from of (length new.crates) (found_targets w of place rest) ≡ (owner_by w (length old.crates) of all).rows
     pub adds : AddsRows w shared old new rows
     pub lib_is : lib ≡ library rows
 
@@ -94,7 +87,7 @@ module _ (w : Workspace) (shared : CrateWorkspaceData) (of : PackageData) (all :
   pub gathers_past : (place : ℕ) (file : Option ℕ) (rest : List (Option ℕ)) (old new : Graph) (rows : List Row) (lib : Option Row) → found_target w (slice_get of.targets place) file ≡ None
       → Gathers place (file ∷ rest) old new rows lib → Gathers (place + 1) rest old new rows lib
   gathers_past place file rest old new rows lib not_live g = record {
-    rows_are = ap (λ ts. rows ++ numbered of (length new.crates) ts) (sym (targets_more place file rest None not_live)) ∙ g.rows_are;
+    rows_are = ap (λ ts. rows ++ rows_from of (length new.crates) ts) (sym (targets_more place file rest None not_live)) ∙ g.rows_are;
     adds = g.adds;
     lib_is = g.lib_is;
   }
@@ -108,9 +101,9 @@ module _ (w : Workspace) (shared : CrateWorkspaceData) (of : PackageData) (all :
       let others = found_targets w of (place + 1) rest in
       let count : length new.crates ≡ length mid.crates + 1 = count_added w shared mid new (r ∷ []) adds in
       record {
-        rows_are = ap (λ rs. rs ++ numbered of (length new.crates) others) more_is ∙ append_assoc rows (r ∷ []) (numbered of (length new.crates) others)
-            ∙ ap (λ n. rows ++ r ∷ numbered of n others) count ∙ ap (λ x. rows ++ x ∷ numbered of (length mid.crates + 1) others) row
-            ∙ ap (λ ts. rows ++ numbered of (length mid.crates) ts) (sym (targets_more place file rest (Some t) live)) ∙ g.rows_are;
+        rows_are = ap (λ rs. rs ++ rows_from of (length new.crates) others) more_is ∙ append_assoc rows (r ∷ []) (rows_from of (length new.crates) others)
+            ∙ ap (λ n. rows ++ r ∷ rows_from of n others) count ∙ ap (λ x. rows ++ x ∷ rows_from of (length mid.crates + 1) others) row
+            ∙ ap (λ ts. rows ++ rows_from of (length mid.crates) ts) (sym (targets_more place file rest (Some t) live)) ∙ g.rows_are;
         adds = subst (AddsRows w shared old new) (sym more_is) (adds_more w shared old mid new rows (r ∷ []) g.adds adds);
         lib_is = lib_is ∙ ap (cond b (Some r)) g.lib_is ∙ sym (library_push rows r b its) ∙ ap library (sym more_is);
       }
@@ -120,8 +113,8 @@ module _ (w : Workspace) (shared : CrateWorkspaceData) (of : PackageData) (all :
   gathers_full place file rest old new rows lib t live full g =
       let others = found_targets w of (place + 1) rest in
       let r : Row = row_at of (place, t.0, t.1) (length new.crates) in
-      let same = ap (λ ts. rows ++ numbered of (length new.crates) ts) (sym (targets_more place file rest (Some t) live)) ∙ g.rows_are in
-      let long = sym (ap length same) ∙ length-append rows (r ∷ numbered of (length new.crates + 1) others) in
+      let same = ap (λ ts. rows ++ rows_from of (length new.crates) ts) (sym (targets_more place file rest (Some t) live)) ∙ g.rows_are in
+      let long = sym (ap length same) ∙ length-append rows (r ∷ rows_from of (length new.crates + 1) others) in
       omega (arith, long, count_added w shared old new rows g.adds, g.adds.limit)
 
   pub gathers_all : (place : ℕ) (old new : Graph) (rows : List Row) (lib : Option Row) → Gathers place [] old new rows lib → record { of = of; rows = rows } ≡ owner_by w (length old.crates) of all
@@ -218,7 +211,7 @@ module _ (files : Files) (w : Workspace) where
 
   owner_is_live : (n : ℕ) (of : PackageData) → owner_by w n of (files_of files w of) ≡ owner files w n of
   unfolding files_of owner
-  owner_is_live n of = ap (λ ts. record { of = of; rows = numbered of n ts }) (found_are_live of [] of.targets refl)
+  owner_is_live n of = ap (λ ts. record { of = of; rows = rows_from of n ts }) (found_are_live of [] of.targets refl)
 
   pub owners_are_live : (n : ℕ) (ps : List PackageData) → owners_by w n ps (map (files_of files w) ps) ≡ owners_from files w n ps
   owners_are_live n [] = refl

@@ -5,13 +5,13 @@ use Rattle.std.proofs.lemmas.List.{append-nil, map-append}
 use Rattle.base_text.specs.Arena.{number_of}
 use Rattle.pm_packages.specs.declared.package.PackageDependency.{PackageDependency}
 use Rattle.pm_cargo.specs.Workspace.{Workspace}
-use Rattle.pm_rows.specs.Gathered.{to_dependencies, to_dependency, to_own_library, wanted}
+use Rattle.pm_rows.specs.Gathering.{to_dependencies, to_dependency, to_own_library, edges_between}
 use Rattle.pm_loader.specs.Loader.{Files}
 use Rattle.pm_rows.specs.Rows.{Owner, Row, cargo, library, owners, parts}
-use Rattle.pm_rows.specs.WantedEdges.{Edge, RankedEdge, by_place, first_edges, last, later_edges, ranked, to_library, to_owner, wanted_edges, wanted_of_part}
+use Rattle.pm_rows.specs.WantedEdges.{Edge, RankedEdge, by_place, first_edges, last, later_edges, with_rank, to_library, to_owner, wanted_edges, wanted_of_part}
 
 -- edges behind a rank, without it
-unranked : (rank : List ℕ) (edges : List Edge) → map (λ (r : RankedEdge). r.edge) (ranked rank edges) ≡ edges
+unranked : (rank : List ℕ) (edges : List Edge) → map (λ (r : RankedEdge). r.edge) (with_rank rank edges) ≡ edges
 unranked rank [] = refl
 unranked rank (e ∷ es) = ap (λ xs. e ∷ xs) (unranked rank es)
 
@@ -26,20 +26,20 @@ map_by_place g f h each n (x ∷ xs) = map-append g (f n x) (by_place f (n + 1) 
 first_unranked : (q p : ℕ) (o : Owner) → map (λ (r : RankedEdge). r.edge) (first_edges q p o) ≡ to_own_library o
 unfolding first_edges to_own_library
 first_unranked q p o =
-    map_flat (λ (r : RankedEdge). r.edge) (λ (row : Row). ranked (q ∷ 1 ∷ p ∷ 1 ∷ row.place ∷ last ∷ []) (to_library (library o.rows) row)) (to_library (library o.rows))
+    map_flat (λ (r : RankedEdge). r.edge) (λ (row : Row). with_rank (q ∷ 1 ∷ p ∷ 1 ∷ row.place ∷ last ∷ []) (to_library (library o.rows) row)) (to_library (library o.rows))
     (λ row. unranked (q ∷ 1 ∷ p ∷ 1 ∷ row.place ∷ last ∷ []) (to_library (library o.rows) row)) o.rows
 
 later_unranked : (q step : ℕ) (delayed : Bool) (owners : List Owner) (p : ℕ) (o : Owner) → map (λ (r : RankedEdge). r.edge) (later_edges q step delayed owners p o) ≡ to_dependencies delayed owners o
 unfolding later_edges to_dependencies
 later_unranked q step delayed owners p o =
     map_by_place (λ (r : RankedEdge). r.edge)
-    (λ d (dep : PackageDependency). flat_map (λ (row : Row). ranked (q ∷ step ∷ p ∷ d ∷ row.place ∷ []) (to_owner delayed o dep (slice_get owners (number_of dep.pkg)) row)) o.rows)
+    (λ d (dep : PackageDependency). flat_map (λ (row : Row). with_rank (q ∷ step ∷ p ∷ d ∷ row.place ∷ []) (to_owner delayed o dep (slice_get owners (number_of dep.pkg)) row)) o.rows)
     (to_dependency delayed owners o)
-    (λ d dep. map_flat (λ (r : RankedEdge). r.edge) (λ (row : Row). ranked (q ∷ step ∷ p ∷ d ∷ row.place ∷ []) (to_owner delayed o dep (slice_get owners (number_of dep.pkg)) row))
+    (λ d dep. map_flat (λ (r : RankedEdge). r.edge) (λ (row : Row). with_rank (q ∷ step ∷ p ∷ d ∷ row.place ∷ []) (to_owner delayed o dep (slice_get owners (number_of dep.pkg)) row))
     (to_owner delayed o dep (slice_get owners (number_of dep.pkg)))
     (λ row. unranked (q ∷ step ∷ p ∷ d ∷ row.place ∷ []) (to_owner delayed o dep (slice_get owners (number_of dep.pkg)) row)) o.rows) 0 o.of.dependencies
 
-part_unranked : (q : ℕ) (w : Workspace) (os : List Owner) → map (λ (r : RankedEdge). r.edge) (wanted_of_part (cargo q w os)) ≡ wanted os
+part_unranked : (q : ℕ) (w : Workspace) (os : List Owner) → map (λ (r : RankedEdge). r.edge) (wanted_of_part (cargo q w os)) ≡ edges_between os
 part_unranked q w os =
     let one = by_place (first_edges q) 0 os in
     let two = by_place (later_edges q 2 false os) 0 os in
@@ -51,5 +51,5 @@ part_unranked q w os =
     ∙ ap (λ es. flat_map to_own_library os ++ flat_map (to_dependencies false os) os ++ es) (map_by_place (λ (r : RankedEdge). r.edge) (later_edges q 3 true os) (to_dependencies true os) (later_unranked q 3 true os) 0 os)
 
 -- what a workspace's rows want is what is gathered of them
-pub wanted_are_gathered : (files : Files) (w : Workspace) → wanted_edges (parts files w) ≡ wanted (owners files w)
+pub wanted_are_gathered : (files : Files) (w : Workspace) → wanted_edges (parts files w) ≡ edges_between (owners files w)
 wanted_are_gathered files w = ap (map (λ (r : RankedEdge). r.edge)) (append-nil (wanted_of_part (cargo 1 w (owners files w)))) ∙ part_unranked 1 w (owners files w)

@@ -9,10 +9,10 @@ use Rattle.pm_packages.specs.declared.package.PackageData.{PackageData}
 use Rattle.pm_packages.specs.declared.package.PackageDependency.{PackageDependency}
 use Rattle.pm_packages.specs.declared.target.TargetData.{TargetData}
 use Rattle.pm_cargo.specs.Workspace.{Workspace}
-use Rattle.pm_rows.specs.Gathered.{AreNumbered, found_targets, owner_by, owners_by, to_dependencies, to_dependency, to_own_library, wanted}
+use Rattle.pm_rows.specs.Gathering.{AreNumbered, found_targets, owner_by, owners_by, to_dependencies, to_dependency, to_own_library, edges_between}
 use Rattle.pm_rows.specs.KeptEdges.{IsWithin}
 use Rattle.pm_loader.specs.Loader.{Files}
-use Rattle.pm_rows.specs.Rows.{Owner, Row, is_lib, library, live_targets, numbered, owner, owners, owners_from, rows_of}
+use Rattle.pm_rows.specs.Rows.{Owner, Row, is_lib, library, live_targets, rows_from, owner, owners, owners_from, rows_of}
 use Rattle.pm_rows.specs.WantedEdges.{is_delayed, is_for, same, to_library, to_owner, to_package, uses_library}
 
 range_append : (a m n : ℕ) → range_with_len a (m + n) ≡ range_with_len a m ++ range_with_len (a + m) n
@@ -21,7 +21,7 @@ range_append a (suc m) n =
     ap (range_with_len a) (let e : suc m + n ≡ suc (m + n) = omega arith in e) ∙ ap (λ ns. a ∷ ns) (range_append (a + 1) m n)
     ∙ ap (λ b. a ∷ (range_with_len (a + 1) m ++ range_with_len b n)) (let e : (a + 1) + m ≡ a + suc m = omega arith in e)
 
-numbers_of : (of : PackageData) (n : ℕ) (ts : List (ℕ × TargetData × ℕ)) → map (λ r. r.number) (numbered of n ts) ≡ range_with_len n (length (numbered of n ts))
+numbers_of : (of : PackageData) (n : ℕ) (ts : List (ℕ × TargetData × ℕ)) → map (λ r. r.number) (rows_from of n ts) ≡ range_with_len n (length (rows_from of n ts))
 numbers_of of n [] = refl
 numbers_of of n (t ∷ ts) = ap (λ ns. n ∷ ns) (numbers_of of (n + 1) ts)
 
@@ -128,7 +128,7 @@ dependencies_within : (count : ℕ) (delayed : Bool) (owners : List Owner) (from
 unfolding to_dependencies
 dependencies_within count delayed owners from all below = all_flat_any (IsWithin count) (to_dependency delayed owners from) (dependency_within count delayed owners from all below) from.of.dependencies
 
-wanted_below : (count : ℕ) (owners : List Owner) → All (AreBelow count) owners → All (IsWithin count) (wanted owners)
+wanted_below : (count : ℕ) (owners : List Owner) → All (AreBelow count) owners → All (IsWithin count) (edges_between owners)
 wanted_below count owners all =
     All-append (IsWithin count) (flat_map to_own_library owners ++ flat_map (to_dependencies false owners) owners) (flat_map (to_dependencies true owners) owners)
     (All-append (IsWithin count) (flat_map to_own_library owners) (flat_map (to_dependencies false owners) owners)
@@ -137,5 +137,5 @@ wanted_below count owners all =
     (all_flat (IsWithin count) (to_dependencies true owners) (AreBelow count) (λ o below. dependencies_within count true owners o all below) owners all)
 
 -- each wanted edge is between rows
-pub wanted_within : (owners : List Owner) → AreNumbered (rows_of owners) → All (IsWithin (length (rows_of owners))) (wanted owners)
+pub wanted_within : (owners : List Owner) → AreNumbered (rows_of owners) → All (IsWithin (length (rows_of owners))) (edges_between owners)
 wanted_within owners numbers = wanted_below (length (rows_of owners)) owners (owners_below (length (rows_of owners)) owners (rows_below (rows_of owners) numbers))

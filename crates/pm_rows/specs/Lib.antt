@@ -1,5 +1,5 @@
 pub mod Columns
-pub mod Gathered
+pub mod Gathering
 pub mod KeptEdges
 pub mod Lowering
 pub mod Ranks

@@ -76,13 +76,13 @@ unfoldable pub live_targets : Files → Workspace → PackageData → List (ℕ 
 live_targets files w of ids = flat_map (λ id. option_to_list (option_map (λ t. (id.0, t.0, t.1)) (live_target files w of id.1))) ids
 
 -- the rows of some targets, numbered from n on
-abbrev pub numbered : PackageData → ℕ → List (ℕ × TargetData × ℕ) → List Row
-numbered of n [] = []
-numbered of n (t ∷ ts) = row_at of t n ∷ numbered of (n + 1) ts
+abbrev pub rows_from : PackageData → ℕ → List (ℕ × TargetData × ℕ) → List Row
+rows_from of n [] = []
+rows_from of n (t ∷ ts) = row_at of t n ∷ rows_from of (n + 1) ts
 
 -- a package with its rows, numbered from n on
 unfoldable pub owner : Files → Workspace → ℕ → PackageData → Owner
-owner files w n of = record { of = of; rows = numbered of n (live_targets files w of (enumerate_from 0 of.targets)) }
+owner files w n of = record { of = of; rows = rows_from of n (live_targets files w of (enumerate_from 0 of.targets)) }
 
 -- packages with their rows, numbered from n on
 abbrev pub owners_from : Files → Workspace → ℕ → List PackageData → List Owner

@@ -96,8 +96,8 @@ by_place f n [] = []
 by_place f n (x ∷ xs) = f n x ++ by_place f (n + 1) xs
 
 -- edges behind a rank
-abbrev pub ranked : List ℕ → List Edge → List RankedEdge
-ranked rank edges = map (λ e. record { rank = rank; edge = e }) edges
+abbrev pub with_rank : List ℕ → List Edge → List RankedEdge
+with_rank rank edges = map (λ e. record { rank = rank; edge = e }) edges
 
 -- the place behind those of the public rows of a sysroot, of which there is none
 abbrev pub last : ℕ
@@ -105,12 +105,12 @@ last = 0
 
 -- (q, 1, p, 1, t, last): row (p, t) of part q to its package's library
 unfoldable pub first_edges : ℕ → ℕ → Owner → List RankedEdge
-first_edges q p o = flat_map (λ row. ranked (q ∷ 1 ∷ p ∷ 1 ∷ row.place ∷ last ∷ []) (to_library (library o.rows) row)) o.rows
+first_edges q p o = flat_map (λ row. with_rank (q ∷ 1 ∷ p ∷ 1 ∷ row.place ∷ last ∷ []) (to_library (library o.rows) row)) o.rows
 
 -- (q, step, p, d, t): row (p, t) of part q to the library of dependency d's package
 unfoldable pub later_edges : ℕ → ℕ → Bool → List Owner → ℕ → Owner → List RankedEdge
 later_edges q step delayed owners p o =
-    by_place (λ d dep. flat_map (λ row. ranked (q ∷ step ∷ p ∷ d ∷ row.place ∷ []) (to_owner delayed o dep (slice_get owners (number_of dep.pkg)) row)) o.rows) 0 o.of.dependencies
+    by_place (λ d dep. flat_map (λ row. with_rank (q ∷ step ∷ p ∷ d ∷ row.place ∷ []) (to_owner delayed o dep (slice_get owners (number_of dep.pkg)) row)) o.rows) 0 o.of.dependencies
 
 -- all that the rows of a part want
 abbrev pub wanted_of_part : Part → List RankedEdge

@@ -4,7 +4,7 @@ ghost use Rattle.std.specs.Prelude.{◌≡◌, [], ◌∷◌, ◌++◌, true, fa
 ghost use Rattle.std.specs.Option.{option_copied};
 ghost use Rattle.base_text.specs.Arena.{number_of};
 ghost use Rattle.crate_values.specs.Names.{has_dash};
-ghost use Rattle.pm_rows.specs.Gathered.{to_dependencies, to_dependency, to_own_library, wanted};
+ghost use Rattle.pm_rows.specs.Gathering.{to_dependencies, to_dependency, to_own_library, edges_between};
 ghost use Rattle.pm_rows.specs.Lowering.{dep_seen};
 ghost use Rattle.pm_rows.specs.Refusal.{IfBadName};
 ghost use Rattle.pm_rows.specs.WantedEdges.{bad_name_of, bad_names_of, bad_names_of_owners, is_delayed, is_for, uses_library};
@@ -183,7 +183,7 @@ fn add_dependencies(
 
 /// All edges that are wanted between the rows, in order of rank.
 pub(crate) fn wanted_edges(alloc: Global, owners: &[Owner]) -> Result<Vec<WantedEdge>, LowerError>
-    ensures edges { IfOk result (λ edges. edges.items ≡ wanted owners.now) }
+    ensures edges { IfOk result (λ edges. edges.items ≡ edges_between owners.now) }
     ensures good { OnOk result (bad_names_of_owners owners.now ≡ []) }
     ensures bad { IfErr result (λ e. IfBadName e
         (λ name. slice_get (bad_names_of_owners owners.now) 0 ≡ Some name)) }

@@ -1,7 +1,7 @@
 //! The crates of all rows come into a graph, package by package.
 
 ghost use Rattle.std.specs.Prelude.{◌≡◌, ◌≤◌, ◌+◌, ◌<◌, [], ◌∷◌, length, option_map, slice_get, IfErr, IfOk, OnOk};
-ghost use Rattle.pm_rows.specs.Gathered.{AddsRows, found_target, owner_by, owners_by};
+ghost use Rattle.pm_rows.specs.Gathering.{AddsRows, found_target, owner_by, owners_by};
 ghost use Rattle.pm_rows.specs.Refusal.{IfTooMany};
 ghost use Rattle.pm_rows.specs.Rows.{row_at, rows_of};
 
@@ -23,7 +23,7 @@ pub(crate) struct Project<'a> {
 }
 
 // The row of the target at a place of its package, where its crate begins in a file.
-#[tactic(auto, unfolding(crate::specs::Gathered::found_target))]
+#[tactic(auto, unfolding(crate::specs::Gathering::found_target))]
 fn row_of<'a>(
     workspace: &'a CargoWorkspace,
     of: &'a PackageData,

@@ -4,7 +4,7 @@ ghost use Rattle.std.specs.Prelude.{◌≡◌, ◌<◌, ℕ, List, [], ◌∷◌
 ghost use Rattle.std.specs.List.{All, range_with_len};
 ghost use Rattle.crate_values.specs.declared.workspace_data.CrateWorkspaceData.{CrateWorkspaceData};
 ghost use Rattle.pm_cargo.specs.Workspace.{Workspace};
-ghost use Rattle.pm_rows.specs.Gathered.{AreLowered, AreNumbered};
+ghost use Rattle.pm_rows.specs.Gathering.{AreLowered, AreNumbered};
 ghost use Rattle.pm_rows.specs.KeptEdges.{IsWithin};
 ghost use Rattle.pm_rows.specs.Lowering.{crate_of, crate_seen};
 ghost use Rattle.pm_rows.specs.Rows.{Row};

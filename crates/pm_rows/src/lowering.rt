@@ -2,7 +2,7 @@
 
 ghost use Rattle.std.specs.Prelude.{◌≡◌, length, IfOk};
 ghost use Rattle.pm_loader.specs.Loader.{Files};
-ghost use Rattle.pm_rows.specs.Gathered.{AreFilesOf};
+ghost use Rattle.pm_rows.specs.Gathering.{AreFilesOf};
 ghost use Rattle.pm_rows.specs.Lowering.{IsLowered, LacksCyclesAlone, lowering};
 ghost use Rattle.pm_rows.specs.Rows.{parts};
 ghost use Rattle.pm_rows.specs.WantedEdges.{wanted_edges};

@@ -2,7 +2,7 @@
 //! says.
 
 ghost use Rattle.std.specs.Prelude.{◌≡◌, map, option_map, IfOk};
-ghost use Rattle.pm_rows.specs.Gathered.{files_of};
+ghost use Rattle.pm_rows.specs.Gathering.{files_of};
 ghost use Rattle.pm_rows.specs.Rows.{live_target, may_be_row, root_file};
 
 use crate::rows::is_lib;

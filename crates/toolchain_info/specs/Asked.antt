@@ -18,9 +18,9 @@ answer_to answers questions =
     (Failed (line_text questions.last))
 
 -- what is read of an answer, where there is one
-abbrev pub answered : {T : Type 0} → (List ℕ → Result T QueryError) → Result (List ℕ) QueryError → Result T QueryError
-answered reads (Ok text) = reads text
-answered reads (Err error) = Err error
+abbrev pub reading_of_answer : {T : Type 0} → (List ℕ → Result T QueryError) → Result (List ℕ) QueryError → Result T QueryError
+reading_of_answer reads (Ok text) = reads text
+reading_of_answer reads (Err error) = Err error
 
 -- a call answers exactly that, unless memory ran out
 abbrev pub Answers : {T : Type 0} → Result T QueryError → Result T QueryError → Type 0

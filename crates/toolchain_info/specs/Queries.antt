@@ -9,7 +9,7 @@ use Rattle.toolchain_answers.specs.Cfgs.{atoms_of}
 use Rattle.toolchain_answers.specs.Host.{host_of}
 use Rattle.toolchain_answers.specs.TargetSpec.{data_of, spec_of}
 use Rattle.toolchain_answers.specs.Version.{version_behind}
-use Rattle.toolchain_info.specs.Asked.{answer_to, answered}
+use Rattle.toolchain_info.specs.Asked.{answer_to, reading_of_answer}
 use Rattle.toolchain_info.specs.BuildTarget.{build_targets}
 use Rattle.toolchain_info.specs.Config.{configuration_of, front_of}
 use Rattle.toolchain_info.specs.Questions.{cfg_questions, host_questions, spec_questions, version_questions}
@@ -20,12 +20,12 @@ use Rattle.toolchain_info.specs.declared.query_error.QueryError.TheVariants.{Bad
 -- the version of the tool, where its answer has one
 abbrev pub version_answer : QueryConfig → Means → Result (Option Parts) QueryError
 version_answer config means =
-    answered (λ text. Ok (version_behind (front_of config) text)) (answer_to means.answers (version_questions config means))
+    reading_of_answer (λ text. Ok (version_behind (front_of config) text)) (answer_to means.answers (version_questions config means))
 
 -- the platform that the compiler runs on
 abbrev pub host_answer : QueryConfig → Means → Result (List ℕ) QueryError
 host_answer config means =
-    answered (λ text. ok_or (host_of text) NoHost) (answer_to means.answers (host_questions config means))
+    reading_of_answer (λ text. ok_or (host_of text) NoHost) (answer_to means.answers (host_questions config means))
 
 -- one platform
 abbrev pub one_target : Result (List ℕ) QueryError → Result (List (List ℕ)) QueryError
@@ -50,7 +50,7 @@ target_answer config target means =
 -- the machine of a platform
 abbrev pub data_answer : QueryConfig → Option (List ℕ) → Option Parts → Means → Result TargetData QueryError
 data_answer config target version means =
-    answered (λ text. ok_or (option_map data_of (spec_of text)) BadSpec) (answer_to means.answers (spec_questions config target version means))
+    reading_of_answer (λ text. ok_or (option_map data_of (spec_of text)) BadSpec) (answer_to means.answers (spec_questions config target version means))
 
 -- the atoms of an answer, which are none where there is no answer
 abbrev pub atoms_in : Result (List ℕ) QueryError → List CfgAtom

@@ -14,8 +14,8 @@ use Rattle.toolchain_info.specs.declared.query_config.QueryConfig.TheVariants.{R
 use Rattle.toolchain_info.specs.declared.questions.Questions.{Questions}
 
 -- one question
-abbrev pub alone : CommandLine → Questions
-alone line = record { first = None; last = line }
+abbrev pub one_question : CommandLine → Questions
+one_question line = record { first = None; last = line }
 
 -- a question that cargo is asked where there is a manifest
 abbrev pub for_manifest : QueryConfig → CommandLine → Option CommandLine
@@ -32,12 +32,12 @@ target_words target = option_words (codes "--target") target
 
 -- which platform the compiler runs on
 unfoldable pub host_questions : QueryConfig → Means → Questions
-host_questions config means = alone (question (sysroot_of config) rustc (dir_of config) (codes "-vV" ∷ []) means)
+host_questions config means = one_question (question (sysroot_of config) rustc (dir_of config) (codes "-vV" ∷ []) means)
 
 -- which version a tool is of
 unfoldable pub version_questions : QueryConfig → Means → Questions
 version_questions config means =
-    alone (question (sysroot_of config) (tool_of config) (dir_of config) (codes "--version" ∷ []) means)
+    one_question (question (sysroot_of config) (tool_of config) (dir_of config) (codes "--version" ∷ []) means)
 
 -- the words that ask cargo for the atoms of a platform
 abbrev pub cargo_cfg_words : Option (List ℕ) → List (List ℕ)

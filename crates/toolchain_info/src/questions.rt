@@ -26,8 +26,8 @@ pub(crate) struct Questions {
 
 impl Questions {
     // One question.
-    fn alone(last: CommandLine) -> Questions
-        ensures { result ≡ spec.alone last }
+    fn one(last: CommandLine) -> Questions
+        ensures { result ≡ spec.one_question last }
     {
         Questions { first: None, last }
     }
@@ -47,7 +47,7 @@ pub(crate) fn host_questions<R: Runner, T: Tree>(
     let line = config
         .sysroot()
         .question(alloc, Tool::Rustc, config.dir(), words, ask)?;
-    Ok(Questions::alone(line))
+    Ok(Questions::one(line))
 }
 
 /// Which version a tool is of.
@@ -64,7 +64,7 @@ pub(crate) fn version_questions<R: Runner, T: Tree>(
     let line = config
         .sysroot()
         .question(alloc, config.tool(), config.dir(), words, ask)?;
-    Ok(Questions::alone(line))
+    Ok(Questions::one(line))
 }
 
 /// Which atoms hold for a platform.

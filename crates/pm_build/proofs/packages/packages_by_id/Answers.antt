@@ -6,8 +6,9 @@ use Rattle.std.specs.List.{range_with_len}
 use Rattle.base_text.specs.Arena.{number_of}
 use Rattle.base_values.specs.ByText.{with_value}
 use Rattle.pm_reading.specs.Nodes.{place_of}
+use Rattle.pm_cargo.proofs.QueryLemmas.{number_of_turn}
 use Rattle.pm_build.specs.Packages.{place_under}
-use Rattle.pm_build.proofs.PackageLemmas.{index-all, index-more, index-none, number_at}
+use Rattle.pm_build.proofs.PackageLemmas.{index-all, index-more, index-none}
 use Rattle.pm_build.proofs.packages.packages_by_id.Goals as goal
 
 pub loop-package-init : goal.loop-package-init
@@ -18,7 +19,7 @@ index-requires c =
     let count = length c.args.workspace.now.packages in
     let road = YieldsList-at c.into_iter-package-iterator.ensures.into_iter_gives (YieldsList-from_first number_of (λ left. left) (range_with_len 0 count) c.packages-package-items.ensures) in
     let turn = YieldsList-turn road c.loop-package.yielded _ c.loop-package.yielded_by _ _ c.in-Some.package c.in-Some.is c.next.ensures.steps in
-    let at = number_at count (length c.loop-package.yielded) (number_of c.in-Some.package) turn.0 turn.1 in
+    let at = number_of_turn count (length c.loop-package.yielded) (number_of c.in-Some.package) turn.0 turn.1 in
     omega (arith, at.0, at.1)
 
 pub loop-package-preserved : goal.loop-package-preserved
@@ -28,7 +29,7 @@ loop-package-preserved c =
     let p = c.index.result.now in
     let road = YieldsList-at c.into_iter-package-iterator.ensures.into_iter_gives (YieldsList-from_first number_of (λ left. left) (range_with_len 0 (length packages)) c.packages-package-items.ensures) in
     let turn = YieldsList-turn road c.loop-package.yielded _ c.loop-package.yielded_by _ _ c.in-Some.package c.in-Some.is c.next.ensures.steps in
-    let at = number_at (length packages) k (number_of c.in-Some.package) turn.0 turn.1 in
+    let at = number_of_turn (length packages) k (number_of c.in-Some.package) turn.0 turn.1 in
     let here : p ≡ get_or packages k p = sym (get_or_from_slice_get packages (number_of c.in-Some.package) p p c.index.ensures) ∙ ap (λ n. get_or packages n p) at.1 in
     let key : string_bytes c.in_ok-id.id ≡ p.id.repr = c.in_ok-id.ensures.ok ∙ c.as_str.ensures ∙ ap (λ i. i.repr) c.get.ensures in
     let more = index-more packages c.loop-package.by_id k p c.in-Some.package at.0 here at.1 c.loop-package.invariant in

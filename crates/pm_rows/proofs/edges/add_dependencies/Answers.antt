@@ -1,6 +1,6 @@
 use Rattle.std.proofs.Common.{◌≡◌, [], ◌∷◌, true, false, sym, ap, ◌∙◌, slice_get}
 use Rattle.std.proofs.lemmas.Result.{err_from_is_err_and}
-use Rattle.pm_rows.specs.Gathered.{to_dependency}
+use Rattle.pm_rows.specs.Gathering.{to_dependency}
 use Rattle.pm_rows.specs.WantedEdges.{bad_name_of}
 use Rattle.pm_rows.proofs.EdgeLemmas.{part_more, part_all, good_more, good_all, first_bad, bad_weaker, all_dependencies, all_names}
 use Rattle.pm_rows.proofs.edges.add_dependencies.Goals as goal

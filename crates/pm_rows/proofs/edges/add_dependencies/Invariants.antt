@@ -1,6 +1,6 @@
 use Rattle.std.proofs.Common.{◌≡◌, ◌++◌, [], take, true, false}
 use Rattle.std.specs.List.{flat_map}
-use Rattle.pm_rows.specs.Gathered.{to_dependency}
+use Rattle.pm_rows.specs.Gathering.{to_dependency}
 use Rattle.pm_rows.specs.WantedEdges.{bad_name_of}
 use Rattle.pm_rows.proofs.edges.add_dependencies.Given as goal
 

@@ -1,6 +1,6 @@
 use Rattle.std.proofs.Common.{◌≡◌, ◌++◌, [], take, true, false}
 use Rattle.std.specs.List.{flat_map}
-use Rattle.pm_rows.specs.Gathered.{to_dependencies, to_own_library}
+use Rattle.pm_rows.specs.Gathering.{to_dependencies, to_own_library}
 use Rattle.pm_rows.specs.WantedEdges.{bad_names_of}
 use Rattle.pm_rows.proofs.edges.wanted_edges.Given as goal
 

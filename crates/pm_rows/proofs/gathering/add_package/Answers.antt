@@ -1,6 +1,6 @@
 use Rattle.std.proofs.Common.{◌≡◌, ◌+◌, ◌∙◌, [], ◌∷◌, ◌++◌, Some, cond, ap, drop, length, slice_get, subst, sym}
 use Rattle.std.specs.Option.{option_map}
-use Rattle.pm_rows.specs.Gathered.{AddsRows, found_target}
+use Rattle.pm_rows.specs.Gathering.{AddsRows, found_target}
 use Rattle.pm_rows.specs.Rows.{is_lib, row_at}
 use Rattle.pm_rows.proofs.RowLemmas.{Gathers, drop_next, gathers_past, gathers_row, none_found, some_found}
 use Rattle.pm_rows.proofs.gathering.add_package.Goals.{in-Some+in_ok-add_crate+in_ok-push, then-is_lib, else-is_lib, in_default}

@@ -6,7 +6,8 @@ use Rattle.std.proofs.lemmas.Option.{get_or_from_slice_get}
 use Rattle.std.proofs.lemmas.Result.{err_from_is_err_and}
 use Rattle.std.specs.List.{range_with_len}
 use Rattle.base_text.specs.Arena.{number_of}
-use Rattle.pm_rows.proofs.RowLemmas.{GathersAll, drop_next, gathers_all_packages, gathers_full_package, gathers_package, limit_weaker, turn_number}
+use Rattle.pm_cargo.proofs.QueryLemmas.{number_of_turn}
+use Rattle.pm_rows.proofs.RowLemmas.{GathersAll, drop_next, gathers_all_packages, gathers_full_package, gathers_package, limit_weaker}
 use Rattle.pm_rows.proofs.gathering.add_rows.Goals as goal
 
 pub index-of-requires : goal.index-of-requires
@@ -14,7 +15,7 @@ index-of-requires c =
     let count = length c.args.project.now.workspace.now.packages in
     let road = YieldsList-at c.into_iter-id-iterator.ensures.into_iter_gives (YieldsList-from_first number_of (λ left. left) (range_with_len 0 count) c.packages-id-items.ensures) in
     let turn = YieldsList-turn road c.loop-id.yielded _ c.loop-id.yielded_by _ _ c.in-Some.id c.in-Some.is c.next.ensures.steps in
-    let at = turn_number count (length c.loop-id.yielded) (number_of c.in-Some.id) turn.0 turn.1 in
+    let at = number_of_turn count (length c.loop-id.yielded) (number_of c.in-Some.id) turn.0 turn.1 in
     omega (arith, at.0, at.1)
 
 pub bounds-files-into_raw : goal.bounds-files-into_raw
@@ -22,7 +23,7 @@ bounds-files-into_raw c =
     let count = length c.args.project.now.workspace.now.packages in
     let road = YieldsList-at c.into_iter-id-iterator.ensures.into_iter_gives (YieldsList-from_first number_of (λ left. left) (range_with_len 0 count) c.packages-id-items.ensures) in
     let turn = YieldsList-turn road c.loop-id.yielded _ c.loop-id.yielded_by _ _ c.in-Some.id c.in-Some.is c.next.ensures.steps in
-    let at = turn_number count (length c.loop-id.yielded) (number_of c.in-Some.id) turn.0 turn.1 in
+    let at = number_of_turn count (length c.loop-id.yielded) (number_of c.in-Some.id) turn.0 turn.1 in
     omega (arith, at.0, at.1, c.into_raw.ensures, c.requires.files)
 
 pub returns-in_err-add_package-clause-full : goal.returns-in_err-add_package-clause-full
@@ -36,7 +37,7 @@ returns-in_err-add_package-clause-full c =
     let p = err_from_is_err_and c.from_residual.result c.from_residual.ensures.1 in
     let road = YieldsList-at c.into_iter-id-iterator.ensures.into_iter_gives (YieldsList-from_first number_of (λ left. left) (range_with_len 0 (length w.packages)) c.packages-id-items.ensures) in
     let turn = YieldsList-turn road c.loop-id.yielded _ c.loop-id.yielded_by _ _ c.in-Some.id c.in-Some.is c.next.ensures.steps in
-    let at = turn_number (length w.packages) k (number_of c.in-Some.id) turn.0 turn.1 in
+    let at = number_of_turn (length w.packages) k (number_of c.in-Some.id) turn.0 turn.1 in
     let here : of ≡ get_or w.packages k of = sym (get_or_from_slice_get w.packages (number_of c.in-Some.id) of of c.index-of.ensures) ∙ ap (λ n. get_or w.packages n of) at.1 in
     let there : its ≡ get_or files k its = c.as_slice-files.ensures ∙ c.index-files-into_raw.is ∙ ap (λ n. get_or files n c.index-files-into_raw.result) (c.into_raw.ensures ∙ at.1) ∙ ap (get_or files k) (sym c.as_slice-files.ensures) in
     let before : GathersAll w shared w.packages files (of ∷ drop (k + 1) w.packages) (its ∷ drop (k + 1) files) c.args.graph.now c.loop-id.graph c.loop-id.owners.items =
@@ -56,7 +57,7 @@ loop-id-preserved c =
     let its = c.as_slice-files.result.now in
     let road = YieldsList-at c.into_iter-id-iterator.ensures.into_iter_gives (YieldsList-from_first number_of (λ left. left) (range_with_len 0 (length w.packages)) c.packages-id-items.ensures) in
     let turn = YieldsList-turn road c.loop-id.yielded _ c.loop-id.yielded_by _ _ c.in-Some.id c.in-Some.is c.next.ensures.steps in
-    let at = turn_number (length w.packages) k (number_of c.in-Some.id) turn.0 turn.1 in
+    let at = number_of_turn (length w.packages) k (number_of c.in-Some.id) turn.0 turn.1 in
     let here : of ≡ get_or w.packages k of = sym (get_or_from_slice_get w.packages (number_of c.in-Some.id) of of c.index-of.ensures) ∙ ap (λ n. get_or w.packages n of) at.1 in
     let there : its ≡ get_or files k its = c.as_slice-files.ensures ∙ c.index-files-into_raw.is ∙ ap (λ n. get_or files n c.index-files-into_raw.result) (c.into_raw.ensures ∙ at.1) ∙ ap (get_or files k) (sym c.as_slice-files.ensures) in
     let before : GathersAll w shared w.packages files (of ∷ drop (k + 1) w.packages) (its ∷ drop (k + 1) files) c.args.graph.now c.loop-id.graph c.loop-id.owners.items =

@@ -1,7 +1,7 @@
 use Rattle.std.proofs.Common.{◌≡◌, ◌++◌, [], List, length, map}
 use Rattle.crate_values.specs.declared.workspace_data.CrateWorkspaceData.{CrateWorkspaceData}
 use Rattle.pm_cargo.specs.Workspace.{Workspace}
-use Rattle.pm_rows.specs.Gathered.{AreLowered, AreNumbered}
+use Rattle.pm_rows.specs.Gathering.{AreLowered, AreNumbered}
 use Rattle.pm_rows.specs.Lowering.{crate_of, crate_seen}
 use Rattle.pm_rows.specs.Rows.{Row}
 use Rattle.pm_rows.proofs.keeping.keep_edges.Given as goal

@@ -1,7 +1,7 @@
 use Rattle.std.proofs.Common.{◌≡◌, ◌∙◌, Some, ap, arith, length, slice_get, subst, sym}
 use Rattle.std.specs.List.{All}
 use Rattle.std.proofs.lemmas.Result.{err_from_is_err_and}
-use Rattle.pm_rows.specs.Gathered.{AreLowered, AreNumbered, owners_by, wanted}
+use Rattle.pm_rows.specs.Gathering.{AreLowered, AreNumbered, owners_by, edges_between}
 use Rattle.pm_rows.specs.KeptEdges.{IsWithin}
 use Rattle.pm_rows.specs.Rows.{owners, owners_from, rows_of}
 use Rattle.pm_rows.specs.WantedEdges.{bad_names_of_owners}
@@ -48,7 +48,7 @@ keep_edges-requires c =
     let numbers : AreNumbered (rows_of made) = subst (λ os. AreNumbered (rows_of os)) (sym same) (are_numbered_by w w.packages c.args.files.now) in
     let count : length (rows_of made) ≡ length c.add_rows.new.graph.crates =
     omega (arith, count_added w c.args.shared.now.value c.new-graph.result c.add_rows.new.graph (rows_of made) c.in_ok-owners.ensures.added, ap length c.new-graph.ensures.crates) in
-    let edges : c.in_ok-edges.edges.items ≡ wanted made = c.in_ok-edges.ensures.edges ∙ ap wanted c.as_slice.ensures.value in
+    let edges : c.in_ok-edges.edges.items ≡ edges_between made = c.in_ok-edges.ensures.edges ∙ ap edges_between c.as_slice.ensures.value in
     subst (λ n. All (IsWithin n) c.in_ok-edges.edges.items) count (subst (λ es. All (IsWithin (length (rows_of made))) es) (sym edges) (wanted_within made numbers))
 
 pub returns-clause-lowers : goal.returns-clause-lowers
@@ -66,7 +66,7 @@ returns-clause-lowers c live are =
     let crates = crates_made live w shared limit start c.add_rows.new.graph made c.new-graph.ensures.limit c.new-graph.ensures.crates made_are adds in
     let good = ap bad_names_of_owners (sym given) ∙ c.in_ok-edges.ensures.good in
     let limit_is = c.in_ok-keep_edges.ensures.limit ∙ adds.limit ∙ c.new-graph.ensures.limit in
-    let edges : c.in_ok-edges.edges.items ≡ wanted (owners live w) = c.in_ok-edges.ensures.edges ∙ ap wanted given in
+    let edges : c.in_ok-edges.edges.items ≡ edges_between (owners live w) = c.in_ok-edges.ensures.edges ∙ ap edges_between given in
     let low = subst (λ es. AreLowered w shared (rows_of (owners live w)) es c.keep_edges.new.graph.crates) edges
     (c.in_ok-keep_edges.ensures.keeps w shared (rows_of (owners live w)) (are_numbered live w) crates) in
     has_crates live w shared limit c.keep_edges.new.graph within good limit_is low
@@ -86,7 +86,7 @@ returns-clause-missing c live are =
     let crates = crates_made live w shared limit start c.add_rows.new.graph made c.new-graph.ensures.limit c.new-graph.ensures.crates made_are adds in
     let good = ap bad_names_of_owners (sym given) ∙ c.in_ok-edges.ensures.good in
     let limit_is = c.in_ok-keep_edges.ensures.limit ∙ adds.limit ∙ c.new-graph.ensures.limit in
-    let edges : c.in_ok-edges.edges.items ≡ wanted (owners live w) = c.in_ok-edges.ensures.edges ∙ ap wanted given in
+    let edges : c.in_ok-edges.edges.items ≡ edges_between (owners live w) = c.in_ok-edges.ensures.edges ∙ ap edges_between given in
     let low = subst (λ es. AreLowered w shared (rows_of (owners live w)) es c.keep_edges.new.graph.crates) edges
     (c.in_ok-keep_edges.ensures.keeps w shared (rows_of (owners live w)) (are_numbered live w) crates) in
     lacks_alone live w shared limit c.keep_edges.new.graph within good limit_is low

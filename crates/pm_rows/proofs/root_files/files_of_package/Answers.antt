@@ -1,7 +1,7 @@
 use Rattle.std.proofs.Common.{◌≤◌, ◌∙◌, ap, arith, length, map}
 use Rattle.std.specs.Option.{option_map}
 use Rattle.std.proofs.lemmas.List.{take_all}
-use Rattle.pm_rows.specs.Gathered.{files_of}
+use Rattle.pm_rows.specs.Gathering.{files_of}
 use Rattle.pm_rows.specs.Rows.{live_target}
 use Rattle.pm_rows.proofs.root_files.files_of_package.Goals as goal
 

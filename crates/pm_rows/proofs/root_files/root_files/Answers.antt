@@ -5,8 +5,9 @@ use Rattle.std.proofs.lemmas.List.FromFn.{length-range_with_len}
 use Rattle.std.proofs.lemmas.Option.{get_or_from_slice_get}
 use Rattle.std.specs.List.{range_with_len}
 use Rattle.base_text.specs.Arena.{number_of}
-use Rattle.pm_rows.specs.Gathered.{files_of}
-use Rattle.pm_rows.proofs.RowLemmas.{map_more, turn_number}
+use Rattle.pm_cargo.proofs.QueryLemmas.{number_of_turn}
+use Rattle.pm_rows.specs.Gathering.{files_of}
+use Rattle.pm_rows.proofs.RowLemmas.{map_more}
 use Rattle.pm_rows.proofs.root_files.root_files.Goals as goal
 
 pub index-requires : goal.index-requires
@@ -14,7 +15,7 @@ index-requires g c =
     let count = length c.args.workspace.now.packages in
     let road = YieldsList-at c.into_iter-id-iterator.ensures.into_iter_gives (YieldsList-from_first number_of (λ left. left) (range_with_len 0 count) c.packages-id-items.ensures) in
     let turn = YieldsList-turn road c.loop-id.yielded _ c.loop-id.yielded_by _ _ c.in-Some.id c.in-Some.is c.next.ensures.steps in
-    let at = turn_number count (length c.loop-id.yielded) (number_of c.in-Some.id) turn.0 turn.1 in
+    let at = number_of_turn count (length c.loop-id.yielded) (number_of c.in-Some.id) turn.0 turn.1 in
     omega (arith, at.0, at.1)
 
 pub loop-id-preserved : goal.loop-id-preserved
@@ -25,7 +26,7 @@ loop-id-preserved g c =
     let p = c.index.result.now in
     let road = YieldsList-at c.into_iter-id-iterator.ensures.into_iter_gives (YieldsList-from_first number_of (λ left. left) (range_with_len 0 (length w.packages)) c.packages-id-items.ensures) in
     let turn = YieldsList-turn road c.loop-id.yielded _ c.loop-id.yielded_by _ _ c.in-Some.id c.in-Some.is c.next.ensures.steps in
-    let at = turn_number (length w.packages) k (number_of c.in-Some.id) turn.0 turn.1 in
+    let at = number_of_turn (length w.packages) k (number_of c.in-Some.id) turn.0 turn.1 in
     let here : p ≡ get_or w.packages k p = sym (get_or_from_slice_get w.packages (number_of c.in-Some.id) p p c.index.ensures) ∙ ap (λ n. get_or w.packages n p) at.1 in
     let its : c.in_ok-files_of_package.field-0 ≡ files_of files w p = c.in_ok-files_of_package.ensures.files ∙ ap (λ fs. files_of fs w p) c.loop-id.invariant.loader in
     let count : k + 1 ≡ length (c.loop-id.yielded ++ c.in-Some.id ∷ []) = omega (arith, length-append c.loop-id.yielded (c.in-Some.id ∷ [])) in

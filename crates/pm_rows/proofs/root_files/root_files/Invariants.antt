@@ -1,5 +1,5 @@
 use Rattle.std.proofs.Common.{◌≡◌, length, map, take}
-use Rattle.pm_rows.specs.Gathered.{files_of}
+use Rattle.pm_rows.specs.Gathering.{files_of}
 use Rattle.pm_rows.proofs.root_files.root_files.Given as goal
 
 abbrev pub invariant-loop-id : goal.invariant-loop-id

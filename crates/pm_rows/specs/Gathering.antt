@@ -16,7 +16,7 @@ use Rattle.pm_cargo.specs.Workspace.{Workspace}
 use Rattle.pm_loader.specs.Loader.{Files}
 use Rattle.pm_rows.specs.KeptEdges.{AreKept}
 use Rattle.pm_rows.specs.Lowering.{crate_of, crate_seen}
-use Rattle.pm_rows.specs.Rows.{Owner, Row, library, live_target, numbered}
+use Rattle.pm_rows.specs.Rows.{Owner, Row, library, live_target, rows_from}
 use Rattle.pm_rows.specs.WantedEdges.{Edge, to_library, to_owner}
 
 -- ---- rows
@@ -41,7 +41,7 @@ found_targets w of place (file ∷ files) =
 
 -- a package with its rows, numbered from n on, by the files that their crates begin in
 abbrev pub owner_by : Workspace → ℕ → PackageData → List (Option ℕ) → Owner
-owner_by w n of files = record { of = of; rows = numbered of n (found_targets w of 0 files) }
+owner_by w n of files = record { of = of; rows = rows_from of n (found_targets w of 0 files) }
 
 -- packages with their rows, numbered from n on
 abbrev pub owners_by : Workspace → ℕ → List PackageData → List (List (Option ℕ)) → List Owner
@@ -70,8 +70,8 @@ unfoldable pub to_dependencies : Bool → List Owner → Owner → List Edge
 to_dependencies delayed owners from = flat_map (to_dependency delayed owners from) from.of.dependencies
 
 -- all edges that are wanted between some packages
-abbrev pub wanted : List Owner → List Edge
-wanted owners = flat_map to_own_library owners ++ flat_map (to_dependencies false owners) owners ++ flat_map (to_dependencies true owners) owners
+abbrev pub edges_between : List Owner → List Edge
+edges_between owners = flat_map to_own_library owners ++ flat_map (to_dependencies false owners) owners ++ flat_map (to_dependencies true owners) owners
 
 -- each row's number is its place
 abbrev pub AreNumbered : List Row → Type 0
