@@ -3,7 +3,6 @@
 
 mod environments;
 mod given;
-mod lines;
 mod questions;
 
 use cases::{Case, Family, Fault, run_files};

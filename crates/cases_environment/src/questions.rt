@@ -1,10 +1,10 @@
 //! Questions to the tools of a toolchain, and what is made of their answers.
 
-use crate::given::{Given, absolute, env_of, path_of, tool_of};
-use crate::lines::{line_answer, line_of};
+use crate::given::{given_of, tool_of};
 use base_text::{AbsPath, AbsPathBuf, Text, TryClone};
+use case_lines::{line_answer, line_of, optional_path};
+use case_tools::{Given, env_of, manifest_of};
 use cases::{Case, Fault, optional_answer, text_answer};
-use pm_packages::ManifestPath;
 use pm_sysroot::{Sysroot, serving_answer, set_variable, words_of};
 use pm_tools::CargoConfigFile;
 use pm_tools::config_question::config_question;
@@ -13,7 +13,7 @@ use std::alloc::Global;
 
 /// What a call that asks gives.
 pub fn answer(alloc: Global, case: Case<'_>) -> Result<Value, Fault> {
-    let given = Given::of_case(alloc, case)?;
+    let given = given_of(alloc, case)?;
     match case.text("call")? {
         "Sysroot" => sysroot(alloc, &given.sysroot),
         "Sysroot::tool" => tool(alloc, case, &given),
@@ -90,24 +90,17 @@ fn serving(alloc: Global, case: Case<'_>, given: &Given) -> Result<Value, Fault>
     optional_answer(alloc, answer.as_ref().map(Text::as_str))
 }
 
-// The manifest of a case, and the configuration file that it gives.
-fn manifest_of(alloc: Global, case: Case<'_>) -> Result<(ManifestPath, Option<AbsPathBuf>), Fault> {
-    let path = absolute(alloc, case.text("manifest")?, "manifest")?;
-    match ManifestPath::new(path) {
-        Ok(manifest) => Ok((manifest, path_of(alloc, case, "config_path")?)),
-        Err(_root) => Err(Fault::Condition),
-    }
-}
-
 fn question_of_config(alloc: Global, case: Case<'_>, given: &Given) -> Result<Value, Fault> {
-    let (manifest, config) = manifest_of(alloc, case)?;
+    let manifest = manifest_of(alloc, case.text("manifest")?)?;
+    let config = optional_path(alloc, case, "config_path")?;
     let config = config.as_ref().map(AbsPathBuf::as_path);
     let line = config_question(alloc, &manifest, &given.sysroot, config, &given.ask())?;
     line_answer(alloc, &line)
 }
 
 fn load(alloc: Global, case: Case<'_>, given: &Given) -> Result<Value, Fault> {
-    let (manifest, config) = manifest_of(alloc, case)?;
+    let manifest = manifest_of(alloc, case.text("manifest")?)?;
+    let config = optional_path(alloc, case, "config_path")?;
     let config = config.as_ref().map(AbsPathBuf::as_path);
     let file = CargoConfigFile::load(alloc, &manifest, &given.sysroot, config, &given.ask())?;
     optional_answer(alloc, file.as_ref().map(CargoConfigFile::as_str))

@@ -1,9 +1,9 @@
 //! Commands that ask for metadata, and what is read of their recorded answers.
 
-use crate::lines::{command_answer, output_of, texts};
 use crate::packages::refusal;
 use base_text::{RecordedRunner, Text, TryClone};
 use cargo_meta::{CargoOpt, MetadataCommand};
+use case_lines::{line_answer, output_of, texts};
 use cases::{Case, Fault, item, items_of, text_answer, text_of};
 use serde_json::{Value, json};
 use std::alloc::Global;
@@ -94,7 +94,7 @@ fn set_text(alloc: Global, command: &mut MetadataCommand, call: &[Value]) -> Res
 // The command line of a copy, and the flags of features that are set.
 fn words(alloc: Global, command: &MetadataCommand) -> Result<Value, Fault> {
     let line = command.try_clone(alloc)?.cargo_command(alloc)?;
-    let line = command_answer(alloc, &line)?;
+    let line = line_answer(alloc, &line)?;
     let (all, no_default) = (
         command.has_all_features(),
         command.has_no_default_features(),

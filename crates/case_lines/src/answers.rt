@@ -1,0 +1,46 @@
+//! What commands wrote, and a runner whose answers are recorded.
+
+use crate::lines::line_of;
+use base_text::{Output, RecordedRunner, Text};
+use cases::{Case, Fault};
+use serde_json::Value;
+use std::alloc::Global;
+
+/// Whether a command succeeded, and what it wrote: a text, or lines that are each a text or a document.
+pub fn output_of(alloc: Global, case: Case<'_>) -> Result<Output, Fault> {
+    let out = match case.optional_text("out") {
+        Some(text) => Text::of_str(alloc, text)?,
+        None => lines_of(alloc, case.list("out")?)?,
+    };
+    let err = Text::of_str(alloc, case.optional_text("err").unwrap_or(""))?;
+    let ok = case.flag("ok");
+    Ok(Output { ok, out, err })
+}
+
+// Lines, each with a newline behind it.
+fn lines_of(alloc: Global, lines: &[Value]) -> Result<Text, Fault> {
+    let mut text = String::new(alloc);
+    for line in lines {
+        push_line(alloc, &mut text, line)?;
+    }
+    Ok(Text::new(text))
+}
+
+fn push_line(alloc: Global, out: &mut String, line: &Value) -> Result<(), Fault> {
+    match line {
+        Value::String(text) => out.push_str(text.as_str())?,
+        document => out.push_str(document.to_string(alloc)?.as_str())?,
+    }
+    out.push('\n')?;
+    Ok(())
+}
+
+/// A runner that knows the answers of a list: each is a command line, and what it gives.
+pub fn runner_of(alloc: Global, answers: &[Value]) -> Result<RecordedRunner, Fault> {
+    let mut runner = RecordedRunner::new(alloc);
+    for answer in answers {
+        let answer = Case::new(answer);
+        runner.insert(line_of(alloc, answer)?, output_of(alloc, answer)?)?;
+    }
+    Ok(runner)
+}

@@ -1,0 +1,85 @@
+//! A toolchain, and what questions are asked with.
+
+use base_text::{ByText, RecordedRunner, Text};
+use case_lines::{absolute, optional_path, runner_of, variable_of, variables};
+use cases::{Case, Fault, text_of};
+use crate_values::Env;
+use pm_config::Tools;
+use pm_sysroot::{Ask, Sysroot};
+use serde_json::Value;
+use std::alloc::{AllocError, Global};
+use trees::MemoryTree;
+
+/// What questions are asked with, as a case gives it.
+pub type CaseAsk<'a> = Ask<'a, RecordedRunner, MemoryTree>;
+
+/// A toolchain, and what questions are asked with. The members of a case are `root` and `src` of the toolchain, the
+/// variables `process` and `extra`, the recorded `answers`, and the paths of `files`, which are empty.
+#[derive(Drop)]
+pub struct Given {
+    pub sysroot: Sysroot,
+    tools: Tools,
+    process_env: Env,
+    extra_env: ByText<Option<Text>>,
+    runner: RecordedRunner,
+    tree: MemoryTree,
+}
+
+impl Given {
+    pub fn of_case(alloc: Global, case: Case<'_>, tools: Tools) -> Result<Given, Fault> {
+        let root = optional_path(alloc, case, "root")?;
+        let sysroot = Sysroot::new(root, optional_path(alloc, case, "src")?);
+        let process_env = env_of(alloc, case.list("process")?)?;
+        let extra_env = variables(alloc, case.list("extra")?)?;
+        let runner = runner_of(alloc, case.list("answers")?)?;
+        let tree = tree_of(alloc, case.list("files")?)?;
+        Ok(Given {
+            sysroot,
+            tools,
+            process_env,
+            extra_env,
+            runner,
+            tree,
+        })
+    }
+
+    pub fn ask(&self) -> CaseAsk<'_> {
+        Ask {
+            runner: &self.runner,
+            tree: &self.tree,
+            tools: &self.tools,
+            process_env: &self.process_env,
+            extra_env: &self.extra_env,
+        }
+    }
+}
+
+/// The tools by their usual names.
+pub fn usual_tools(alloc: Global) -> Result<Tools, AllocError> {
+    Ok(Tools {
+        cargo: Text::of_str(alloc, "cargo")?,
+        rustc: Text::of_str(alloc, "rustc")?,
+        rustup: Text::of_str(alloc, "rustup")?,
+        myself: Text::of_str(alloc, "live")?,
+    })
+}
+
+/// The environment of some variables, each with a value.
+pub fn env_of(alloc: Global, variables: &[Value]) -> Result<Env, Fault> {
+    let mut env = Env::new(alloc);
+    for variable in variables {
+        let (name, value) = variable_of(variable)?;
+        let value = String::from_str(alloc, value.unwrap_or(""))?;
+        env.set(String::from_str(alloc, name)?, value)?;
+    }
+    Ok(env)
+}
+
+fn tree_of(alloc: Global, files: &[Value]) -> Result<MemoryTree, Fault> {
+    let mut tree = MemoryTree::new(alloc);
+    for file in files {
+        let path = absolute(alloc, text_of(file, "files")?, "files")?;
+        tree.insert(path, Text::of_str(alloc, "")?)?;
+    }
+    Ok(tree)
+}

@@ -1,0 +1,31 @@
+//! A progress that keeps its lines.
+
+use cases::text_answer;
+use pm_config::Progress;
+use serde_json::Value;
+use std::alloc::Global;
+
+/// The lines that were taken, and whether each of them was kept.
+#[derive(Drop)]
+pub struct Lines {
+    pub kept: Vec<Value>,
+    pub is_whole: bool,
+}
+
+impl Lines {
+    pub fn new(alloc: Global) -> Self {
+        Lines {
+            kept: Vec::new(alloc),
+            is_whole: true,
+        }
+    }
+}
+
+impl Progress for Lines {
+    fn line(&mut self, text: &str) {
+        match text_answer(*self.kept.allocator(), text) {
+            Ok(line) => self.is_whole &= self.kept.push(line).is_ok(),
+            Err(_) => self.is_whole = false,
+        }
+    }
+}
