@@ -1,0 +1,22 @@
+//! What a case gives: a toolchain whose tools have names of their own, so that they are not taken for the words of a
+//! question.
+
+use base_text::Text;
+use case_tools::Given;
+use cases::{Case, Fault};
+use pm_config::Tools;
+use std::alloc::{AllocError, Global};
+
+/// The toolchain of a case, and what questions are asked with.
+pub fn given_of(alloc: Global, case: Case<'_>) -> Result<Given, Fault> {
+    Given::of_case(alloc, case, tools(alloc)?)
+}
+
+fn tools(alloc: Global) -> Result<Tools, AllocError> {
+    Ok(Tools {
+        cargo: Text::of_str(alloc, "my-cargo")?,
+        rustc: Text::of_str(alloc, "my-rustc")?,
+        rustup: Text::of_str(alloc, "my-rustup")?,
+        myself: Text::of_str(alloc, "/bin/myself")?,
+    })
+}
