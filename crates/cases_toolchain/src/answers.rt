@@ -1,0 +1,62 @@
+//! What answers say.
+
+use base_text::{CfgAtom, TryClone, Version, write_cfg};
+use cases::{Case, Fault, optional_answer, text_answer};
+use crate_values::target::{Arch, TargetData};
+use serde_json::{Value, json};
+use std::alloc::Global;
+use toolchain_answers::{TargetSpec, atoms_of, host_of, spec_of, version_behind};
+
+/// What a call on a text gives.
+pub fn answer(alloc: Global, case: Case<'_>) -> Result<Value, Fault> {
+    let text = case.text("text")?;
+    match case.text("call")? {
+        "version_behind" => {
+            let version = version_behind(alloc, case.text("front")?, text)?;
+            version_answer(alloc, version.as_ref())
+        }
+        "host_of" => optional_answer(alloc, host_of(text)),
+        "atoms_of" => atoms_answer(alloc, atoms_of(alloc, text)?.as_slice()),
+        "spec_of" => match spec_of(alloc, text)? {
+            Some(spec) => specification_answer(alloc, spec),
+            None => Ok(Value::Null),
+        },
+        _ => Err(Fault::Call),
+    }
+}
+
+// The machine of a specification, where its copy equals it.
+fn specification_answer(alloc: Global, spec: TargetSpec) -> Result<Value, Fault> {
+    if spec.try_clone(alloc)? != spec {
+        return Err(Fault::Condition);
+    }
+    machine_answer(alloc, &TargetData::from(spec))
+}
+
+/// A version as its text, or null.
+pub fn version_answer(alloc: Global, version: Option<&Version>) -> Result<Value, Fault> {
+    match version {
+        Some(version) => text_answer(alloc, version.as_version().to_string(alloc)?.as_str()),
+        None => Ok(Value::Null),
+    }
+}
+
+/// Atoms as their texts.
+pub fn atoms_answer(alloc: Global, atoms: &[CfgAtom]) -> Result<Value, Fault> {
+    let mut texts = Vec::new(alloc);
+    for atom in atoms {
+        texts.push(text_answer(alloc, write_cfg(alloc, atom)?.as_str())?)?;
+    }
+    Ok(Value::Array(texts))
+}
+
+/// The kind of a machine and its layout.
+pub fn machine_answer(alloc: Global, machine: &TargetData) -> Result<Value, Fault> {
+    let arch = match machine.arch {
+        Arch::Wasm32 => "Wasm32",
+        Arch::Wasm64 => "Wasm64",
+        Arch::Other => "Other",
+    };
+    let layout = machine.data_layout.as_str();
+    Ok(json!(in alloc; [arch, layout])?)
+}
