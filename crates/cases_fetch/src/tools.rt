@@ -1,0 +1,39 @@
+//! Commands that start the tools of a toolchain.
+
+use base_text::TryClone;
+use case_lines::{line_answer, optional_path, variables};
+use case_tools::usual_tools;
+use cases::{Case, Fault};
+use pm_config::{Tool, ToolRoot};
+use serde_json::Value;
+use std::alloc::Global;
+
+/// The command that starts a tool.
+pub fn answer(alloc: Global, case: Case<'_>) -> Result<Value, Fault> {
+    let tool = match case.text("call")? {
+        "ToolRoot::command cargo" => Tool::Cargo,
+        "ToolRoot::command rustc" => Tool::Rustc,
+        "ToolRoot::command rustup" => Tool::Rustup,
+        _ => return Err(Fault::Call),
+    };
+    let root = root_of(alloc, case)?;
+    if root.try_clone(alloc)? != root {
+        return Err(Fault::Condition);
+    }
+    let envs = variables(alloc, case.list("env")?)?;
+    let line = root.command(alloc, tool, case.text("dir")?, &envs)?;
+    line_answer(alloc, &line)
+}
+
+/// The toolchain of a case, whose tools have their usual names.
+pub fn root_of(alloc: Global, case: Case<'_>) -> Result<ToolRoot, Fault> {
+    let tools = usual_tools(alloc)?;
+    let root = optional_path(alloc, case, "root")?;
+    let rustc = optional_path(alloc, case, "rustc")?;
+    Ok(ToolRoot {
+        tools,
+        root,
+        rustc,
+        toolchain_set: case.flag("toolchain_set"),
+    })
+}
