@@ -1,0 +1,6 @@
+pub mod Loading
+pub mod Located
+pub mod Project
+pub mod Order
+pub mod ProjectWorkspace
+pub mod ToRoots

@@ -1,0 +1,45 @@
+-- The roots of a project: those of its packages, those of its toolchain's libraries, and those of the compiler's crates. The rules are those of rust-analyzer's `ProjectWorkspace::to_roots`.
+use Rattle.std.specs.Prelude.{ℕ, false, IsErr, List, [], ◌∷◌, ◌++◌, Option}
+use Rattle.std.specs.FinMap.{get}
+use Rattle.std.specs.Option.{option_and_then, option_to_list}
+use Rattle.pm_build.specs.Outputs.{BuildScripts}
+use Rattle.pm_lower.specs.declared.project_workspace.ProjectWorkspace.{ProjectWorkspace}
+use Rattle.pm_lower.specs.declared.project_workspace.ProjectWorkspaceKind.{ProjectWorkspaceKind}
+use Rattle.pm_lower.specs.declared.project_workspace.ProjectWorkspaceKind.TheVariants.{Cargo}
+use Rattle.pm_roots.specs.Roots.{roots_of}
+use Rattle.pm_roots.specs.declared.package_root.PackageRoot.{PackageRoot}
+use Rattle.pm_sysroot.specs.Toolchain.{Toolchain}
+use Rattle.pm_sysroot.specs.declared.rust_lib_src.RustLibSrcWorkspace.{RustLibSrcWorkspace}
+use Rattle.pm_sysroot.specs.declared.rust_lib_src.RustLibSrcWorkspace.TheVariants.{Empty}
+
+-- the directory that the build of the package with a number wrote into, if it did
+abbrev pub out_dir_at : BuildScripts → ℕ → Option (List ℕ)
+out_dir_at scripts number = option_and_then (λ output. output.out_dir) (get scripts.outputs number)
+
+-- the roots of a kind of project, with the extra directories
+abbrev pub kind_roots : ProjectWorkspaceKind → List (List ℕ) → List PackageRoot
+kind_roots (Cargo cargo error scripts rustc) extra = roots_of cargo (out_dir_at scripts) extra
+
+-- the roots of the packages of a toolchain's libraries
+abbrev pub library_roots : RustLibSrcWorkspace → List PackageRoot
+library_roots Empty = []
+
+-- the root of the directory of the libraries' sources, which is there without a directory too
+abbrev pub source_root : Option (List ℕ) → PackageRoot
+source_root src = record { is_local = false; include = option_to_list src; exclude = [] }
+
+-- the roots of a toolchain
+abbrev pub sysroot_roots : Toolchain → List PackageRoot
+sysroot_roots sysroot = library_roots sysroot.workspace ++ source_root sysroot.src ∷ []
+
+-- the roots of a project
+abbrev pub project_roots : ProjectWorkspace → List PackageRoot
+project_roots p = kind_roots p.kind p.extra_includes ++ sysroot_roots p.sysroot
+
+-- no crates of the compiler were read beside the project
+abbrev pub KindHasNoRustc : ProjectWorkspaceKind → Type 0
+KindHasNoRustc (Cargo cargo error scripts rustc) = IsErr rustc
+
+-- the same of a project
+abbrev pub HasNoRustc : ProjectWorkspace → Type 0
+HasNoRustc p = KindHasNoRustc p.kind
