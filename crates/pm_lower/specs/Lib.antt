@@ -3,4 +3,5 @@ pub mod Located
 pub mod Project
 pub mod Order
 pub mod ProjectWorkspace
+pub mod ToCrateGraph
 pub mod ToRoots

@@ -150,8 +150,11 @@ fn copy_rustc(
     }
 }
 
-// A copy of what is known of the machine.
-fn copy_target(alloc: Global, target: &TargetLoadResult) -> Result<TargetLoadResult, AllocError>
+/// A copy of what is known of the machine.
+pub(crate) fn copy_target(
+    alloc: Global,
+    target: &TargetLoadResult,
+) -> Result<TargetLoadResult, AllocError>
     ensures { IfOk result (λ copy. copy ≡ target.now) }
 {
     match target {
