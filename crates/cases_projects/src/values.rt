@@ -63,7 +63,8 @@ fn root_answer(alloc: Global, root: &PackageRoot) -> Result<Value, Fault> {
     Ok(json!(in alloc; { "local": is_local, "include": include, "exclude": exclude })?)
 }
 
-fn paths_answer(alloc: Global, paths: &Items<AbsPathBuf>) -> Result<Value, Fault> {
+/// Paths, as a list.
+pub fn paths_answer(alloc: Global, paths: &Items<AbsPathBuf>) -> Result<Value, Fault> {
     let mut answers = Vec::new(alloc);
     for path in paths.as_slice() {
         answers.push(text_answer(alloc, path.as_str())?)?;

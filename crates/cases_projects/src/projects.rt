@@ -1,0 +1,187 @@
+//! Loads the project of a case, and asks it what the case asks.
+
+ghost use Rattle.pm_lower.specs.ToRoots.{KindHasNoRustc};
+
+use crate::given::Given;
+use crate::graphs;
+use crate::values::{paths_answer, roots_answer};
+use base_text::{CfgAtom, Items, Limit, Version, write_cfg};
+use case_tools::Lines;
+use cases::{Case, Fault, error_answer, optional_answer, text_answer};
+use crate_graph::Env;
+use crate_graph::target::{Arch, TargetLoadResult};
+use pm_cargo::CargoWorkspace;
+use pm_lower::{LoadError, ProjectWorkspace, ProjectWorkspaceKind};
+use pm_tools::ProjectManifest;
+use serde_json::{Value, json};
+use std::alloc::Global;
+
+/// What a case gives.
+pub fn answer(alloc: Global, case: Case<'_>) -> Result<Value, Fault> {
+    if case.text("call")? != "ProjectWorkspace::load" {
+        return Err(Fault::Call);
+    }
+    let given = Given::of_case(alloc, case)?;
+    loaded(alloc, case, &given)
+}
+
+// What a case asks of the project of what it gives, or why none is loaded.
+fn loaded(alloc: Global, case: Case<'_>, given: &Given) -> Result<Value, Fault> {
+    let question = case.text("ask")?;
+    let config = &given.config;
+    if config.sysroot.is_some() || config.rustc_source.is_some() {
+        return Err(Fault::Condition);
+    }
+    let ProjectManifest::CargoToml(_) = &given.manifest else {
+        return Err(Fault::Condition);
+    };
+    let ask = given.ask();
+    let mut lines = Lines::new(alloc);
+    match ProjectWorkspace::load(
+        alloc,
+        &given.manifest,
+        config,
+        &given.limits,
+        &ask,
+        &mut lines,
+    ) {
+        Ok(project) => of_project(alloc, case, question, given, &project, lines),
+        Err(error) => refusal(alloc, &error),
+    }
+}
+
+fn of_project(
+    alloc: Global,
+    case: Case<'_>,
+    question: &str,
+    given: &Given,
+    project: &ProjectWorkspace,
+    lines: Lines,
+) -> Result<Value, Fault> {
+    match question {
+        "graph" => graphs::answer(alloc, case, given, project),
+        "progress" if lines.is_whole => Ok(Value::Array(lines.kept)),
+        _ => asked(alloc, question, project),
+    }
+}
+
+// What a case asks of the project that was loaded.
+fn asked(alloc: Global, question: &str, project: &ProjectWorkspace) -> Result<Value, Fault> {
+    let ProjectWorkspaceKind::Cargo { cargo, error, .. } = &project.kind;
+    match question {
+        "summary" => summary(alloc, project),
+        "names" => names(alloc, cargo),
+        "roots" => roots(alloc, project),
+        "error" => optional_answer(alloc, error.as_ref().map(|text| text.as_str())),
+        "env" => env_answer(alloc, cargo.env()),
+        "cfgs" => cfgs_answer(alloc, &project.rustc_cfg),
+        "toolchain" => version_answer(alloc, project.toolchain.as_ref()),
+        "target" => target_answer(alloc, &project.target),
+        "buildfiles" => buildfiles(alloc, project),
+        _ => Err(Fault::Member("ask")),
+    }
+}
+
+fn version_answer(alloc: Global, version: Option<&Version>) -> Result<Value, Fault> {
+    match version {
+        Some(version) => Ok(Value::String(version.as_version().to_string(alloc)?)),
+        None => Ok(Value::Null),
+    }
+}
+
+fn buildfiles(alloc: Global, project: &ProjectWorkspace) -> Result<Value, Fault> {
+    paths_answer(alloc, &project.buildfiles(alloc)?)
+}
+
+// The roots of a project beside which no crates of the compiler were read.
+fn roots(alloc: Global, project: &ProjectWorkspace) -> Result<Value, Fault> {
+    let ProjectWorkspaceKind::Cargo { rustc: Err(_), .. } = &project.kind else {
+        return Err(Fault::Condition);
+    };
+    match project.to_roots(alloc) {
+        Ok(roots) => roots_answer(alloc, roots.as_slice()),
+        Err(_) => Err(Fault::OutOfMemory),
+    }
+}
+
+// How many packages there are, the manifest, the root, and what is known without a question.
+fn summary(alloc: Global, project: &ProjectWorkspace) -> Result<Value, Fault> {
+    let packages = project.n_packages();
+    let manifest = project.manifest_or_root().as_str();
+    let root = project.workspace_root().as_str();
+    let has_manifest = project.manifest().is_some();
+    let (is_json, set_test) = (project.is_json(), project.set_test);
+    Ok(json!(in alloc; [packages, manifest, root, has_manifest, is_json, set_test])?)
+}
+
+fn names(alloc: Global, cargo: &CargoWorkspace) -> Result<Value, Fault> {
+    let mut answers = Vec::new(alloc);
+    for id in cargo.packages() {
+        if cargo.has_package(id) {
+            answers.push(text_answer(alloc, cargo[id].name.as_str())?)?;
+        }
+    }
+    Ok(Value::Array(answers))
+}
+
+fn env_answer(alloc: Global, env: &Env) -> Result<Value, Fault> {
+    let mut answers = Vec::new(alloc);
+    for (name, value) in env.iter() {
+        answers.push(json!(in alloc; [name, value])?)?;
+    }
+    Ok(Value::Array(answers))
+}
+
+fn cfgs_answer(alloc: Global, atoms: &Items<CfgAtom>) -> Result<Value, Fault> {
+    let mut answers = Vec::new(alloc);
+    for atom in atoms.as_slice() {
+        answers.push(Value::String(write_cfg(alloc, atom)?))?;
+    }
+    Ok(Value::Array(answers))
+}
+
+fn target_answer(alloc: Global, target: &TargetLoadResult) -> Result<Value, Fault> {
+    match target {
+        Ok(machine) => {
+            let layout = machine.data_layout.as_str();
+            let arch = match machine.arch {
+                Arch::Wasm32 => "wasm32",
+                Arch::Wasm64 => "wasm64",
+                Arch::Other => "other",
+            };
+            Ok(json!(in alloc; [layout, arch])?)
+        }
+        Err(error) => text_answer(alloc, error.0.as_str()),
+    }
+}
+
+// A refusal by its name, with its text or with what there is too much of.
+fn refusal(alloc: Global, error: &LoadError) -> Result<Value, Fault> {
+    match error {
+        LoadError::CargoMetadata { stderr } => with_text(alloc, "CargoMetadata", stderr.as_str()),
+        LoadError::Io { line } => with_text(alloc, "Io", line.as_str()),
+        LoadError::Json { field } => with_text(alloc, "Json", field.as_str()),
+        LoadError::NoJson => error_answer(alloc, "NoJson"),
+        LoadError::NotAbsolute(text) => with_text(alloc, "NotAbsolute", text.as_str()),
+        LoadError::NoParent(text) => with_text(alloc, "NoParent", text.as_str()),
+        LoadError::UnknownPackage(id) => with_text(alloc, "UnknownPackage", id.as_str()),
+        LoadError::TooMany(limit) => with_text(alloc, "TooMany", limit_name(*limit)),
+        LoadError::OutOfMemory => Err(Fault::OutOfMemory),
+    }
+}
+
+/// A refusal with its text.
+pub fn with_text(alloc: Global, name: &str, text: &str) -> Result<Value, Fault> {
+    Ok(json!(in alloc; { "error": name, "text": text })?)
+}
+
+/// What there is too much of.
+pub fn limit_name(limit: Limit) -> &'static str {
+    match limit {
+        Limit::Bytes => "Bytes",
+        Limit::Paths => "Paths",
+        Limit::Packages => "Packages",
+        Limit::Targets => "Targets",
+        Limit::Crates => "Crates",
+    }
+}
