@@ -1,13 +1,15 @@
-//! A program to be timed: it reads a document of `cargo metadata` and writes it again or builds its
-//! workspace, reads a JSON project or the messages of a build, builds a graph of crates, or partitions
-//! files into sets. The words of the command line say which.
+//! A program to be timed: it reads a document of `cargo metadata` and writes it again, builds its
+//! workspace, loads its project or lowers it to a graph, reads a JSON project or the messages of a build,
+//! builds a graph of crates, or partitions files into sets. The words of the command line say which.
 #![tactic(auto)]
 
 mod documents;
 mod graphs;
 mod json_projects;
+mod lowerings;
 mod messages;
 mod partition;
+mod projects;
 mod workspaces;
 
 use crate::documents::Step;
@@ -17,7 +19,7 @@ use std::process::ExitCode;
 use std::{env, io};
 
 const USAGE: &str =
-    "usage: bench metadata STEP | bench workspace | bench json-project | bench messages | bench graphs KIND | bench partition SETS TIMES";
+    "usage: bench metadata STEP | bench workspace | bench load | bench lower | bench json-project | bench messages | bench graphs KIND | bench partition SETS TIMES";
 
 fn main(rt: HostRuntime) -> io::Result<ExitCode> {
     let mut words = env::args(&rt)?.skip(1);
@@ -25,6 +27,8 @@ fn main(rt: HostRuntime) -> io::Result<ExitCode> {
     match what.as_ref().map(|word| word.as_str()) {
         Some("metadata") => run_metadata(&rt, first),
         Some("workspace") => run_workspace(&rt),
+        Some("load") => run_load(&rt),
+        Some("lower") => run_lower(&rt),
         Some("json-project") => run_json_project(&rt),
         Some("messages") => run_messages(&rt),
         Some("graphs") => run_graphs(&rt, first),
@@ -52,6 +56,18 @@ fn run_metadata<R: Input + Print + Eprint + AllocGlobal>(
 fn run_workspace<R: Input + Print + Eprint + AllocGlobal>(rt: &R) -> io::Result<ExitCode> {
     let text = io::read_to_string(rt.alloc(), rt.reader())?;
     report(rt, workspaces::build(rt.alloc(), text.as_str()))
+}
+
+/// Loads the project of the document on standard input, and prints how many packages it has.
+fn run_load<R: Input + Print + Eprint + AllocGlobal>(rt: &R) -> io::Result<ExitCode> {
+    let text = io::read_to_string(rt.alloc(), rt.reader())?;
+    report(rt, projects::load(rt.alloc(), text))
+}
+
+/// Lowers the document on standard input to a graph, and prints how many crates that has.
+fn run_lower<R: Input + Print + Eprint + AllocGlobal>(rt: &R) -> io::Result<ExitCode> {
+    let text = io::read_to_string(rt.alloc(), rt.reader())?;
+    report(rt, lowerings::lower(rt.alloc(), text.as_str()))
 }
 
 /// Reads the JSON project on standard input, and prints how many crates it has.

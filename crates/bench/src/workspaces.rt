@@ -10,11 +10,7 @@ use std::alloc::Global;
 
 /// How many packages the workspace of a document has, once it is built.
 pub fn build(alloc: Global, text: &str) -> Result<usize> {
-    let metadata = of_text::<Metadata>(alloc, text)?;
-    let manifest = manifest(alloc)?;
-    let limits = Limits::greatest();
-    let env = Env::new(alloc);
-    let workspace = CargoWorkspace::new(alloc, metadata, manifest, env, false, &limits)?;
+    let workspace = workspace(alloc, text)?;
     let mut count = 0usize;
     for _ in workspace.packages() {
         count = count.saturating_add(1);
@@ -22,7 +18,17 @@ pub fn build(alloc: Global, text: &str) -> Result<usize> {
     Ok(count)
 }
 
-fn manifest(alloc: Global) -> Result<ManifestPath> {
+/// The workspace of a document.
+pub fn workspace(alloc: Global, text: &str) -> Result<CargoWorkspace> {
+    let metadata = of_text::<Metadata>(alloc, text)?;
+    let manifest = manifest(alloc)?;
+    let limits = Limits::greatest();
+    let env = Env::new(alloc);
+    Ok(CargoWorkspace::new(alloc, metadata, manifest, env, false, &limits)?)
+}
+
+/// The manifest of every document.
+pub fn manifest(alloc: Global) -> Result<ManifestPath> {
     match ManifestPath::new(AbsPathBuf::new(alloc, "/g/Cargo.toml")?) {
         Ok(manifest) => Ok(manifest),
         Err(_) => bail!("no manifest"),

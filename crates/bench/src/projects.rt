@@ -1,0 +1,99 @@
+//! Loads the project of one document of `cargo metadata`, from recorded answers.
+
+use crate::workspaces::manifest;
+use anyhow::{Result, bail};
+use base_text::{CommandLine, Items, Limits, Output, RecordedRunner, Text};
+use crate_graph::Env;
+use pm_config::{CargoConfig, Quiet, Tools};
+use pm_lower::ProjectWorkspace;
+use pm_sysroot::Ask;
+use pm_tools::ProjectManifest;
+use std::alloc::Global;
+use trees::MemoryTree;
+
+/// How many packages the project has whose full metadata is this document, once it is loaded.
+pub fn load(alloc: Global, document: String) -> Result<usize> {
+    let runner = runner(alloc, document)?;
+    let manifest = ProjectManifest::CargoToml(manifest(alloc)?);
+    let tools = tools(alloc)?;
+    with_tools(alloc, &manifest, &runner, &tools)
+}
+
+// Nothing is configured, no file is there, and no variable is set.
+fn with_tools(
+    alloc: Global,
+    manifest: &ProjectManifest,
+    runner: &RecordedRunner,
+    tools: &Tools,
+) -> Result<usize> {
+    let config = CargoConfig::new(alloc);
+    let tree = MemoryTree::new(alloc);
+    let process_env = Env::new(alloc);
+    count_packages(alloc, manifest, &config, runner, tools, &tree, &process_env)
+}
+
+fn count_packages(
+    alloc: Global,
+    manifest: &ProjectManifest,
+    config: &CargoConfig,
+    runner: &RecordedRunner,
+    tools: &Tools,
+    tree: &MemoryTree,
+    process_env: &Env,
+) -> Result<usize> {
+    let ProjectManifest::CargoToml(_) = manifest else {
+        bail!("no manifest of a package");
+    };
+    if config.sysroot.is_some() || config.rustc_source.is_some() {
+        bail!("sources of a toolchain are configured");
+    }
+    let ask = Ask {
+        runner,
+        tree,
+        tools,
+        process_env,
+        extra_env: &config.extra_env,
+    };
+    let limits = Limits::greatest();
+    match ProjectWorkspace::load(alloc, manifest, config, &limits, &ask, &mut Quiet) {
+        Ok(project) => Ok(project.n_packages()),
+        Err(error) => bail!("{error}"),
+    }
+}
+
+// A runner that answers the question for the full metadata of `/g/Cargo.toml`, and no other.
+fn runner(alloc: Global, document: String) -> Result<RecordedRunner> {
+    let mut words = Vec::new(alloc);
+    for word in [
+        "metadata",
+        "--format-version",
+        "1",
+        "--manifest-path",
+        "/g/Cargo.toml",
+    ] {
+        words.push(Text::of_str(alloc, word)?)?;
+    }
+    let line = CommandLine {
+        program: Text::of_str(alloc, "cargo")?,
+        words: Items::new(words),
+        dir: Text::of_str(alloc, "/g")?,
+        env: Items::empty(alloc),
+    };
+    let output = Output {
+        ok: true,
+        out: Text::new(document),
+        err: Text::of_str(alloc, "")?,
+    };
+    let mut runner = RecordedRunner::new(alloc);
+    runner.insert(line, output)?;
+    Ok(runner)
+}
+
+fn tools(alloc: Global) -> Result<Tools> {
+    Ok(Tools {
+        cargo: Text::of_str(alloc, "cargo")?,
+        rustc: Text::of_str(alloc, "rustc")?,
+        rustup: Text::of_str(alloc, "rustup")?,
+        myself: Text::of_str(alloc, "bench")?,
+    })
+}
