@@ -15,6 +15,8 @@ use Rattle.pm_json_data.specs.declared.parts.BuildData.{BuildData}
 use Rattle.pm_json_data.specs.declared.parts.CrateSource.{CrateSource}
 use Rattle.pm_json.specs.Refusals.{Reading, ◌>>=◌, under}
 use Rattle.pm_json.specs.declared.krate.Build.{Build}
+use Rattle.pm_json.specs.declared.crate_parts.CrateHead.{CrateHead}
+use Rattle.pm_json.specs.declared.crate_parts.CrateTail.{CrateTail}
 use Rattle.pm_json.specs.declared.krate.Crate.{Crate}
 use Rattle.pm_json.specs.declared.reading.Folders.{Folders}
 use Rattle.pm_json.specs.declared.workspace_json_error.WorkspaceJsonError.TheVariants.{NoParent}
@@ -57,29 +59,69 @@ folders_of base root None = folder_of_parent root (parent_text root)
 abbrev pub build_of : BuildData → Build
 build_of stated = record { label = stated.label; build_file = stated.build_file; target_kind = target_kind_from stated.target_kind }
 
--- a crate of a document
-unfoldable pub crate_of : List ℕ → Groups → CrateData → Reading Crate
-crate_of base groups stated = do
+-- what of a crate is read on the base
+unfoldable pub head_from : List ℕ → CrateData → Reading CrateHead
+head_from base stated = do
   folders ← folders_of base (absolute_from base stated.root_module) stated.source
   Ok (record {
     display_name = option_map shown_as stated.display_name;
     root_module = absolute_from base stated.root_module;
-    edition = edition_from stated.edition;
     version = option_map version_text stated.version;
-    deps = stated.deps;
-    cfg = cfgs_of groups stated.cfg_groups stated.cfg;
-    target = stated.target;
-    env = stated.env;
-    crate_attrs = stated.crate_attrs;
     proc_macro_dylib_path = option_map (absolute_from base) stated.proc_macro_dylib_path;
     is_workspace_member = is_member stated.is_workspace_member base (absolute_from base stated.root_module);
     include = folders.include;
     exclude = folders.exclude;
-    is_proc_macro = stated.is_proc_macro;
     proc_macro_cwd = option_map (absolute_from base) stated.proc_macro_cwd;
-    repository = stated.repository;
-    build = option_map build_of stated.build;
   })
+
+-- what is taken as it is stated, with the atoms of the groups and the crate's own
+abbrev pub tail_with : CrateData → List CfgAtom → CrateTail
+tail_with stated cfg = record {
+  edition = edition_from stated.edition;
+  deps = stated.deps;
+  cfg = cfg;
+  target = stated.target;
+  env = stated.env;
+  crate_attrs = stated.crate_attrs;
+  is_proc_macro = stated.is_proc_macro;
+  repository = stated.repository;
+  build = option_map build_of stated.build;
+}
+
+-- the crate of both
+abbrev pub crate_with : CrateHead → CrateTail → Crate
+crate_with head tail = record {
+  display_name = head.display_name;
+  root_module = head.root_module;
+  edition = tail.edition;
+  version = head.version;
+  deps = tail.deps;
+  cfg = tail.cfg;
+  target = tail.target;
+  env = tail.env;
+  crate_attrs = tail.crate_attrs;
+  proc_macro_dylib_path = head.proc_macro_dylib_path;
+  is_workspace_member = head.is_workspace_member;
+  include = head.include;
+  exclude = head.exclude;
+  is_proc_macro = tail.is_proc_macro;
+  proc_macro_cwd = head.proc_macro_cwd;
+  repository = tail.repository;
+  build = tail.build;
+}
+
+-- both of a crate
+abbrev pub head_of : Crate → CrateHead
+head_of c = record { display_name = c.display_name; root_module = c.root_module; version = c.version; proc_macro_dylib_path = c.proc_macro_dylib_path; is_workspace_member = c.is_workspace_member; include = c.include; exclude = c.exclude; proc_macro_cwd = c.proc_macro_cwd }
+
+abbrev pub tail_of : Crate → CrateTail
+tail_of c = record { edition = c.edition; deps = c.deps; cfg = c.cfg; target = c.target; env = c.env; crate_attrs = c.crate_attrs; is_proc_macro = c.is_proc_macro; repository = c.repository; build = c.build }
+
+-- a crate of a document
+unfoldable pub crate_of : List ℕ → Groups → CrateData → Reading Crate
+crate_of base groups stated = do
+  head ← head_from base stated
+  Ok (crate_with head (tail_with stated (cfgs_of groups stated.cfg_groups stated.cfg)))
 
 -- the crates of a document in order, of which the first that is refused refuses all
 abbrev pub crates_of : List ℕ → Groups → List CrateData → Reading (List Crate)

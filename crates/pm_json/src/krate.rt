@@ -4,6 +4,7 @@ ghost use Rattle.std.specs.Prelude.{◌≡◌, map};
 ghost use Rattle.std.specs.Iterator.{YieldsFirstBy, item_count};
 ghost use Rattle.pm_json.specs.Crates.{build_of};
 
+use crate::crate_parts::{copy_head, copy_tail, crate_of};
 use base_text::{AbsPathBuf, ByText, CfgAtom, Edition, Items, Text, TryClone};
 use crate_graph::{CrateDisplayName, TargetKind};
 use pm_json_data::{BuildData, CrateArrayIdx, Dep};
@@ -52,25 +53,8 @@ impl Crate {
 
 impl TryClone for Crate {
     fn try_clone(&self, alloc: Global) -> Result<Self, AllocError> {
-        Ok(Crate {
-            display_name: self.display_name.try_clone(alloc)?,
-            root_module: self.root_module.try_clone(alloc)?,
-            edition: self.edition,
-            version: self.version.try_clone(alloc)?,
-            deps: self.deps.try_clone(alloc)?,
-            cfg: self.cfg.try_clone(alloc)?,
-            target: self.target.try_clone(alloc)?,
-            env: self.env.try_clone(alloc)?,
-            crate_attrs: self.crate_attrs.try_clone(alloc)?,
-            proc_macro_dylib_path: self.proc_macro_dylib_path.try_clone(alloc)?,
-            is_workspace_member: self.is_workspace_member,
-            include: self.include.try_clone(alloc)?,
-            exclude: self.exclude.try_clone(alloc)?,
-            is_proc_macro: self.is_proc_macro,
-            proc_macro_cwd: self.proc_macro_cwd.try_clone(alloc)?,
-            repository: self.repository.try_clone(alloc)?,
-            build: self.build.try_clone(alloc)?,
-        })
+        let head = copy_head(alloc, self)?;
+        Ok(crate_of(head, copy_tail(alloc, self)?))
     }
 }
 

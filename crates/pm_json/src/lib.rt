@@ -1,6 +1,7 @@
 //! JSON projects: what a `rust-project.json` says of crates, read on a base directory.
 #![tactic(auto)]
 
+mod crate_parts;
 pub mod krate;
 pub mod project_json;
 pub mod queries;

@@ -51,10 +51,10 @@ impl ProjectJson {
         }
         let stated = json_data.crates;
         let crates = read_crates(alloc, base, &json_data.cfg_groups, stated)?;
-        let sysroot_src = absolute(alloc, base, json_data.sysroot_src)?;
+        let sysroot_src = absolute(alloc, base, &json_data.sysroot_src)?;
         let sysroot_project = read_sysroot(alloc, &sysroot_src, json_data.sysroot_project, limits)?;
         Ok(ProjectJson {
-            sysroot: absolute(alloc, base, json_data.sysroot)?,
+            sysroot: absolute(alloc, base, &json_data.sysroot)?,
             sysroot_src,
             sysroot_project,
             project_root: base.to_path_buf(alloc)?,

@@ -6,17 +6,17 @@ ghost use Rattle.base_text.specs.Paths.{parent_text};
 ghost use Rattle.crate_values.specs.Names.{shown_as};
 ghost use Rattle.json_fields.specs.Versions.{version_text};
 ghost use Rattle.pm_json.specs.Crates as crates;
-ghost use Rattle.pm_json.specs.Crates.{absolute_from, cfgs_of, crate_of, crates_of, folder_of_parent, group_names};
+ghost use Rattle.pm_json.specs.Crates.{absolute_from, cfgs_of, crates_of, folder_of_parent, group_names, head_from};
 ghost use Rattle.pm_json.specs.Refusals.{Gives};
 
-use crate::krate::{Build, Crate};
+use crate::crate_parts::{CrateHead, CrateTail, crate_of};
+use crate::krate::Crate;
 use crate::workspace_json_error::WorkspaceJsonError;
-use base_text::{
-    AbsPath, AbsPathBuf, ByText, CfgAtom, Edition, Items, Text, TryClone, Version, sort_all,
-};
+use base_text::{AbsPath, AbsPathBuf, ByText, CfgAtom, Items, Text, TryClone, Version, sort_all};
 use crate_graph::CrateDisplayName;
 use pm_json_data::{CrateData, CrateSource};
 use std::alloc::{AllocError, Global};
+use std::mem;
 
 // The directories that a crate's files are in, and those that are left out.
 #[derive(Drop)]
@@ -46,34 +46,41 @@ fn read_crate(
     alloc: Global,
     base: AbsPath<'_>,
     groups: &ByText<Items<CfgAtom>>,
-    stated: CrateData,
+    mut stated: CrateData,
 ) -> Result<Crate, WorkspaceJsonError>
-    ensures exact { Gives result (crate_of (abs_text base.entry) groups.now stated) }
+    ensures exact { Gives result (crates.crate_of (abs_text base.entry) groups.now stated) }
+{
+    let head = read_head(alloc, base, &stated)?;
+    let names = mem::replace(&mut stated.cfg_groups, Items::empty(alloc));
+    let own = mem::replace(&mut stated.cfg, Items::empty(alloc));
+    let cfg = all_cfgs(alloc, groups, names, own)?;
+    Ok(crate_of(head, CrateTail::new(stated, cfg)))
+}
+
+// What of a crate is read on the base.
+#[tactic(auto, unfolding(crate::specs::Crates::head_from))]
+fn read_head(
+    alloc: Global,
+    base: AbsPath<'_>,
+    stated: &CrateData,
+) -> Result<CrateHead, WorkspaceJsonError>
+    ensures exact { Gives result (head_from (abs_text base.entry) stated.now) }
 {
     let root_module = base.absolutize(alloc, stated.root_module.as_str())?;
-    let folders = read_folders(alloc, base, root_module.as_path(), stated.source)?;
+    let folders = read_folders(alloc, base, root_module.as_path(), &stated.source)?;
     let is_workspace_member = match stated.is_workspace_member {
         Some(stated) => stated,
         None => root_module.as_path().starts_with(base),
     };
-    Ok(Crate {
-        display_name: shown_name(alloc, stated.display_name)?,
+    Ok(CrateHead {
+        display_name: shown_name(alloc, &stated.display_name)?,
         root_module,
-        edition: Edition::from(stated.edition),
-        version: written_version(alloc, stated.version)?,
-        deps: stated.deps,
-        cfg: all_cfgs(alloc, groups, stated.cfg_groups, stated.cfg)?,
-        target: stated.target,
-        env: stated.env,
-        crate_attrs: stated.crate_attrs,
-        proc_macro_dylib_path: absolute(alloc, base, stated.proc_macro_dylib_path)?,
+        version: written_version(alloc, &stated.version)?,
+        proc_macro_dylib_path: absolute(alloc, base, &stated.proc_macro_dylib_path)?,
         is_workspace_member,
         include: folders.include,
         exclude: folders.exclude,
-        is_proc_macro: stated.is_proc_macro,
-        proc_macro_cwd: absolute(alloc, base, stated.proc_macro_cwd)?,
-        repository: stated.repository,
-        build: stated.build.map(Build::from),
+        proc_macro_cwd: absolute(alloc, base, &stated.proc_macro_cwd)?,
     })
 }
 
@@ -81,10 +88,10 @@ fn read_crate(
 pub(crate) fn absolute(
     alloc: Global,
     base: AbsPath<'_>,
-    path: Option<Text>,
+    path: &Option<Text>,
 ) -> Result<Option<AbsPathBuf>, AllocError>
     ensures { IfOk result (λ found. found
-        ≡ option_map (absolute_from (abs_text base.entry)) path) }
+        ≡ option_map (absolute_from (abs_text base.entry)) path.now) }
 {
     match path {
         Some(path) => Ok(Some(base.absolutize(alloc, path.as_str())?)),
@@ -111,10 +118,10 @@ fn read_folders(
     alloc: Global,
     base: AbsPath<'_>,
     root: AbsPath<'_>,
-    source: Option<CrateSource>,
+    source: &Option<CrateSource>,
 ) -> Result<Folders, WorkspaceJsonError>
     ensures exact { Gives result
-        (crates.folders_of (abs_text base.entry) (abs_text root.entry) source) }
+        (crates.folders_of (abs_text base.entry) (abs_text root.entry) source.now) }
 {
     match source {
         Some(source) => Ok(Folders {
@@ -143,8 +150,8 @@ fn folder_above(alloc: Global, root: AbsPath<'_>) -> Result<Folders, WorkspaceJs
     }
 }
 
-fn shown_name(alloc: Global, name: Option<Text>) -> Result<Option<CrateDisplayName>, AllocError>
-    ensures { IfOk result (λ shown. shown ≡ option_map shown_as name) }
+fn shown_name(alloc: Global, name: &Option<Text>) -> Result<Option<CrateDisplayName>, AllocError>
+    ensures { IfOk result (λ shown. shown ≡ option_map shown_as name.now) }
 {
     match name {
         Some(name) => Ok(Some(CrateDisplayName::from_canonical_name(alloc, name.as_str())?)),
@@ -153,8 +160,8 @@ fn shown_name(alloc: Global, name: Option<Text>) -> Result<Option<CrateDisplayNa
 }
 
 #[tactic(auto, unfolding(json_fields::specs::Versions::version_text))]
-fn written_version(alloc: Global, version: Option<Version>) -> Result<Option<Text>, AllocError>
-    ensures { IfOk result (λ written. written ≡ option_map version_text version) }
+fn written_version(alloc: Global, version: &Option<Version>) -> Result<Option<Text>, AllocError>
+    ensures { IfOk result (λ written. written ≡ option_map version_text version.now) }
 {
     match version {
         Some(version) => Ok(Some(Text::new(version.as_version().to_string(alloc)?))),

@@ -11,6 +11,7 @@ use Rattle.pm_json_data.specs.Kinds.{edition_at, edition_data}
 use Rattle.pm_json_data.specs.Parts.{build_at, build_data, source_at, source_data}
 use Rattle.pm_json_data.specs.declared.crate_data.CrateData.{CrateData}
 use Rattle.pm_json_data.specs.declared.crate_rows.CrateHead.{CrateHead}
+use Rattle.pm_json_data.specs.declared.crate_rows.CrateTail.{CrateTail}
 
 -- the first eight rows
 unfoldable pub head_from : Members → Reading CrateHead
@@ -35,8 +36,8 @@ head_from ms = do
   })
 
 -- the nine rows after them
-unfoldable pub tail_from : CrateHead → Members → Reading CrateData
-tail_from head ms = do
+unfoldable pub tail_from : Members → Reading CrateTail
+tail_from ms = do
   env ← defaulted (codes "env") [] (map_at text_at) ms
   crate_attrs ← defaulted (codes "crate_attrs") [] (list_at text_at) ms
   proc_macro_dylib_path ← optional (codes "proc_macro_dylib_path") text_at ms
@@ -47,14 +48,6 @@ tail_from head ms = do
   build ← optional (codes "build") build_at ms
   proc_macro_cwd ← optional (codes "proc_macro_cwd") text_at ms
   Ok (record {
-    display_name = head.display_name;
-    root_module = head.root_module;
-    edition = head.edition;
-    version = head.version;
-    deps = head.deps;
-    cfg_groups = head.cfg_groups;
-    cfg = head.cfg;
-    target = head.target;
     env = env;
     crate_attrs = crate_attrs;
     proc_macro_dylib_path = proc_macro_dylib_path;
@@ -66,11 +59,34 @@ tail_from head ms = do
     proc_macro_cwd = proc_macro_cwd;
   })
 
+-- the crate of its rows
+abbrev pub crate_of : CrateHead → CrateTail → CrateData
+crate_of head tail = record {
+  display_name = head.display_name;
+  root_module = head.root_module;
+  edition = head.edition;
+  version = head.version;
+  deps = head.deps;
+  cfg_groups = head.cfg_groups;
+  cfg = head.cfg;
+  target = head.target;
+  env = tail.env;
+  crate_attrs = tail.crate_attrs;
+  proc_macro_dylib_path = tail.proc_macro_dylib_path;
+  is_workspace_member = tail.is_workspace_member;
+  source = tail.source;
+  is_proc_macro = tail.is_proc_macro;
+  repository = tail.repository;
+  build = tail.build;
+  proc_macro_cwd = tail.proc_macro_cwd;
+}
+
 -- a crate as its members have it
 unfoldable pub crate_from : Members → Reading CrateData
 crate_from ms = do
   head ← head_from ms
-  tail_from head ms
+  tail ← tail_from ms
+  Ok (crate_of head tail)
 
 -- a crate as its document has it
 unfoldable pub crate_at : Data → Reading CrateData
@@ -79,6 +95,10 @@ crate_at d = members_at d >>= crate_from
 -- what the first rows of a crate have
 abbrev pub head_of : CrateData → CrateHead
 head_of c = record { display_name = c.display_name; root_module = c.root_module; edition = c.edition; version = c.version; deps = c.deps; cfg_groups = c.cfg_groups; cfg = c.cfg; target = c.target }
+
+-- what the others have
+abbrev pub tail_of : CrateData → CrateTail
+tail_of c = record { env = c.env; crate_attrs = c.crate_attrs; proc_macro_dylib_path = c.proc_macro_dylib_path; is_workspace_member = c.is_workspace_member; source = c.source; is_proc_macro = c.is_proc_macro; repository = c.repository; build = c.build; proc_macro_cwd = c.proc_macro_cwd }
 
 -- the first eight members of a crate, put among members
 unfoldable pub head_set : CrateHead → Members → Members
@@ -93,7 +113,7 @@ head_set c ms =
     (set_member (codes "display_name") (option_data string c.display_name) ms)))))))
 
 -- the nine after them
-unfoldable pub tail_set : CrateData → Members → Members
+unfoldable pub tail_set : CrateTail → Members → Members
 tail_set c ms =
     set_member (codes "proc_macro_cwd") (option_data string c.proc_macro_cwd)
     (set_member (codes "build") (option_data build_data c.build)
@@ -107,7 +127,7 @@ tail_set c ms =
 
 -- the members of a crate
 unfoldable pub crate_members : CrateData → Members
-crate_members c = tail_set c (head_set (head_of c) no_members)
+crate_members c = tail_set (tail_of c) (head_set (head_of c) no_members)
 
 -- the document of a crate
 unfoldable pub crate_data : CrateData → Data

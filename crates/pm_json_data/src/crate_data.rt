@@ -4,7 +4,7 @@ ghost use Rattle.std.specs.Prelude.{◌≡◌};
 ghost use Rattle.pm_json_data.specs.CrateData.{crate_at, crate_data, crate_data-present};
 ghost use Rattle.pm_json_data.specs.laws.CrateData.{crate-round_trips};
 
-use crate::crate_rows::{read_head, read_tail, set_head, set_tail};
+use crate::crate_rows::{copy_head, copy_tail, crate_of, read_head, read_tail, set_head, set_tail};
 use crate::dep::Dep;
 use crate::kinds::EditionData;
 use crate::parts::{BuildData, CrateSource};
@@ -42,25 +42,8 @@ pub struct CrateData {
 
 impl TryClone for CrateData {
     fn try_clone(&self, alloc: Global) -> Result<Self, AllocError> {
-        Ok(CrateData {
-            display_name: self.display_name.try_clone(alloc)?,
-            root_module: self.root_module.try_clone(alloc)?,
-            edition: self.edition,
-            version: self.version.try_clone(alloc)?,
-            deps: self.deps.try_clone(alloc)?,
-            cfg_groups: self.cfg_groups.try_clone(alloc)?,
-            cfg: self.cfg.try_clone(alloc)?,
-            target: self.target.try_clone(alloc)?,
-            env: self.env.try_clone(alloc)?,
-            crate_attrs: self.crate_attrs.try_clone(alloc)?,
-            proc_macro_dylib_path: self.proc_macro_dylib_path.try_clone(alloc)?,
-            is_workspace_member: self.is_workspace_member,
-            source: self.source.try_clone(alloc)?,
-            is_proc_macro: self.is_proc_macro,
-            repository: self.repository.try_clone(alloc)?,
-            build: self.build.try_clone(alloc)?,
-            proc_macro_cwd: self.proc_macro_cwd.try_clone(alloc)?,
-        })
+        let head = copy_head(alloc, self)?;
+        Ok(crate_of(head, copy_tail(alloc, self)?))
     }
 }
 
@@ -71,7 +54,7 @@ impl ReadJson for CrateData {
     fn read(alloc: Global, value: &Value) -> Result<CrateData, ReadError> {
         let fields = members(alloc, value)?;
         let head = read_head(alloc, fields)?;
-        read_tail(alloc, fields, head)
+        Ok(crate_of(head, read_tail(alloc, fields)?))
     }
 }
 

@@ -1,19 +1,20 @@
 //! The table of a crate in two groups of rows: the first eight, and the nine after them.
 
-ghost use Rattle.std.specs.Prelude.{◌≡◌, OnOk};
+ghost use Rattle.std.specs.Prelude.{◌≡◌, IfOk, OnOk};
 ghost use Rattle.serde_json.specs.View.{members_view};
 ghost use Rattle.json_fields.specs.Outcome.{Gives};
-ghost use Rattle.pm_json_data.specs.CrateData.{head_from, head_of, head_set, tail_from, tail_set};
+ghost use Rattle.pm_json_data.specs.CrateData.{crate_of, head_from, head_of, head_set, tail_from, tail_of, tail_set};
 
 use crate::crate_data::CrateData;
 use crate::dep::Dep;
 use crate::kinds::EditionData;
-use base_text::{CfgAtom, Items, Text, Version};
+use crate::parts::{BuildData, CrateSource};
+use base_text::{ByText, CfgAtom, Items, Text, TryClone, Version};
 use json_fields::{ReadError, defaulted, listed, mapped, optional, required, set};
 use serde_json::{Map, Value};
 use std::alloc::{AllocError, Global};
 
-// What the first eight rows of a crate give.
+/// What the first eight rows of a crate give.
 #[derive(Drop)]
 pub(crate) struct CrateHead {
     display_name: Option<Text>,
@@ -24,6 +25,78 @@ pub(crate) struct CrateHead {
     cfg_groups: Items<Text>,
     cfg: Items<CfgAtom>,
     target: Option<Text>,
+}
+
+/// What the nine rows after them give.
+#[derive(Drop)]
+pub(crate) struct CrateTail {
+    env: ByText<Text>,
+    crate_attrs: Items<Text>,
+    proc_macro_dylib_path: Option<Text>,
+    is_workspace_member: Option<bool>,
+    source: Option<CrateSource>,
+    is_proc_macro: bool,
+    repository: Option<Text>,
+    build: Option<BuildData>,
+    proc_macro_cwd: Option<Text>,
+}
+
+/// The crate of its rows.
+pub(crate) fn crate_of(head: CrateHead, tail: CrateTail) -> CrateData
+    ensures { result ≡ crate_of head tail }
+{
+    CrateData {
+        display_name: head.display_name,
+        root_module: head.root_module,
+        edition: head.edition,
+        version: head.version,
+        deps: head.deps,
+        cfg_groups: head.cfg_groups,
+        cfg: head.cfg,
+        target: head.target,
+        env: tail.env,
+        crate_attrs: tail.crate_attrs,
+        proc_macro_dylib_path: tail.proc_macro_dylib_path,
+        is_workspace_member: tail.is_workspace_member,
+        source: tail.source,
+        is_proc_macro: tail.is_proc_macro,
+        repository: tail.repository,
+        build: tail.build,
+        proc_macro_cwd: tail.proc_macro_cwd,
+    }
+}
+
+/// A copy of the first eight fields.
+pub(crate) fn copy_head(alloc: Global, from: &CrateData) -> Result<CrateHead, AllocError>
+    ensures { IfOk result (λ head. head ≡ head_of from.now) }
+{
+    Ok(CrateHead {
+        display_name: from.display_name.try_clone(alloc)?,
+        root_module: from.root_module.try_clone(alloc)?,
+        edition: from.edition,
+        version: from.version.try_clone(alloc)?,
+        deps: from.deps.try_clone(alloc)?,
+        cfg_groups: from.cfg_groups.try_clone(alloc)?,
+        cfg: from.cfg.try_clone(alloc)?,
+        target: from.target.try_clone(alloc)?,
+    })
+}
+
+/// A copy of the other nine.
+pub(crate) fn copy_tail(alloc: Global, from: &CrateData) -> Result<CrateTail, AllocError>
+    ensures { IfOk result (λ tail. tail ≡ tail_of from.now) }
+{
+    Ok(CrateTail {
+        env: from.env.try_clone(alloc)?,
+        crate_attrs: from.crate_attrs.try_clone(alloc)?,
+        proc_macro_dylib_path: from.proc_macro_dylib_path.try_clone(alloc)?,
+        is_workspace_member: from.is_workspace_member,
+        source: from.source.try_clone(alloc)?,
+        is_proc_macro: from.is_proc_macro,
+        repository: from.repository.try_clone(alloc)?,
+        build: from.build.try_clone(alloc)?,
+        proc_macro_cwd: from.proc_macro_cwd.try_clone(alloc)?,
+    })
 }
 
 #[tactic(auto, unfolding(crate::specs::CrateData::head_from, json_fields::specs::Fields::required, json_fields::specs::Fields::optional, json_fields::specs::Fields::defaulted))]
@@ -51,12 +124,8 @@ pub(crate) fn read_head(alloc: Global, fields: &Map<String, Value>) -> Result<Cr
 }
 
 #[tactic(auto, unfolding(crate::specs::CrateData::tail_from, json_fields::specs::Fields::required, json_fields::specs::Fields::optional, json_fields::specs::Fields::defaulted))]
-pub(crate) fn read_tail(
-    alloc: Global,
-    fields: &Map<String, Value>,
-    head: CrateHead,
-) -> Result<CrateData, ReadError>
-    ensures exact { Gives result (tail_from head (members_view fields.now.entries)) }
+pub(crate) fn read_tail(alloc: Global, fields: &Map<String, Value>) -> Result<CrateTail, ReadError>
+    ensures exact { Gives result (tail_from (members_view fields.now.entries)) }
 {
     let env = mapped(alloc, fields, "env")?;
     let crate_attrs = listed(alloc, fields, "crate_attrs")?;
@@ -67,15 +136,7 @@ pub(crate) fn read_tail(
     let repository = optional(alloc, fields, "repository")?;
     let build = optional(alloc, fields, "build")?;
     let proc_macro_cwd = optional(alloc, fields, "proc_macro_cwd")?;
-    Ok(CrateData {
-        display_name: head.display_name,
-        root_module: head.root_module,
-        edition: head.edition,
-        version: head.version,
-        deps: head.deps,
-        cfg_groups: head.cfg_groups,
-        cfg: head.cfg,
-        target: head.target,
+    Ok(CrateTail {
         env,
         crate_attrs,
         proc_macro_dylib_path,
@@ -115,7 +176,7 @@ pub(crate) fn set_tail(
     from: &CrateData,
 ) -> Result<(), AllocError>
     ensures { OnOk result (members_view fields.new.entries
-        ≡ tail_set from.now (members_view fields.old.entries)) }
+        ≡ tail_set (tail_of from.now) (members_view fields.old.entries)) }
 {
     set(alloc, fields, "env", &from.env)?;
     set(alloc, fields, "crate_attrs", &from.crate_attrs)?;

@@ -7,24 +7,25 @@ use Rattle.json_fields.specs.Fields.{list_at, members_at}
 use Rattle.json_fields.specs.Outcome.{◌>>=◌}
 use Rattle.json_fields.specs.Laws.Cfgs.{cfg-round_trips}
 use Rattle.json_fields.specs.Laws.Rows.{required-set_member, optional-set_member, defaulted-set_member}
-use Rattle.json_fields.specs.Laws.RoundTrips.{AreWithin, AreWritten, ReadsAs, and_then, at_last, defaulted-kept, flag-round_trips, list-round_trips, listed-kept, mapped-kept, no_members-written, optional-kept, required-kept, set_member-written, table-round_trips, text-round_trips, weaker}
+use Rattle.json_fields.specs.Laws.RoundTrips.{AreWithin, AreWritten, ReadsAs, and_then, at_last, defaulted-kept, flag-round_trips, list-round_trips, listed-kept, mapped-kept, no_members-written, optional-kept, required-kept, set_member-written, table-round_trips, text-round_trips}
 use Rattle.json_fields.specs.Laws.TextForms.{version-round_trips}
 use Rattle.json_fields.specs.RoundTrip.{IsKept, RoundTrips}
 use Rattle.json_fields.specs.Written.{list_data}
-use Rattle.pm_json_data.specs.CrateData.{crate_at, crate_data, crate_from, crate_members, head_from, head_of, head_set, tail_from, tail_set}
+use Rattle.pm_json_data.specs.CrateData.{crate_at, crate_data, crate_from, crate_members, crate_of, head_from, head_of, head_set, tail_from, tail_of, tail_set}
 use Rattle.pm_json_data.specs.Dep.{dep_at, dep_data}
 use Rattle.pm_json_data.specs.Kinds.{edition_of}
 use Rattle.pm_json_data.specs.Parts.{build_data-present, source_data-present}
 use Rattle.pm_json_data.specs.declared.crate_data.CrateData.{CrateData}
 use Rattle.pm_json_data.specs.declared.crate_rows.CrateHead.{CrateHead}
+use Rattle.pm_json_data.specs.declared.crate_rows.CrateTail.{CrateTail}
 use Rattle.pm_json_data.specs.laws.Dep.{dep-round_trips}
 use Rattle.pm_json_data.specs.laws.Kinds.{edition-round_trips}
 use Rattle.pm_json_data.specs.laws.Parts.{build-round_trips, source-round_trips}
 
 -- the first rows do not read what the others set
-head_from-tail_set : (c : CrateData) (ms : Members) → head_from (tail_set c ms) ≡ head_from ms
+head_from-tail_set : (t : CrateTail) (ms : Members) → head_from (tail_set t ms) ≡ head_from ms
 unfolding head_from tail_set
-head_from-tail_set c ms = simp (required-set_member, optional-set_member, defaulted-set_member)
+head_from-tail_set t ms = simp (required-set_member, optional-set_member, defaulted-set_member)
 
 -- how deep the members nest, or what is given for those that are missing
 abbrev depth_of : Members → ℕ
@@ -37,9 +38,9 @@ record HeadKept (ms : Members) (h : CrateHead) : Type 0 where
   pub deep : 1 ≤ members_depth ms
 
 -- the others are
-record TailKept (ms : Members) (c : CrateData) : Type 0 where
-  pub again : (ws : Members) → tail_from (head_of c) (tail_set c ws) ≡ Ok c
-  pub written : (ws : Members) → AreWritten (members_have_float ms) (depth_of ms) ws → AreWritten (members_have_float ms) (depth_of ms) (tail_set c ws)
+record TailKept (ms : Members) (t : CrateTail) : Type 0 where
+  pub again : (ws : Members) → tail_from (tail_set t ws) ≡ Ok t
+  pub written : (ws : Members) → AreWritten (members_have_float ms) (depth_of ms) ws → AreWritten (members_have_float ms) (depth_of ms) (tail_set t ws)
 
 module _ (ms : Members) (within : AreWithin (depth_of ms) ms) (exactly : AreWithin (members_depth ms) ms) (some : 1 ≤ depth_of ms) (none : 0 ≤ depth_of ms) (low : 0 ≤ members_depth ms) where
   head-kept : ReadsAs (head_from ms) (HeadKept ms)
@@ -71,9 +72,9 @@ module _ (ms : Members) (within : AreWithin (depth_of ms) ms) (exactly : AreWith
         deep = omega (arith, deps_h.nests);
       })
 
-  tail-kept : (h : CrateHead) → HeadKept ms h → ReadsAs (tail_from h ms) (λ c. HeadKept ms (head_of c) × TailKept ms c)
+  tail-kept : ReadsAs (tail_from ms) (TailKept ms)
   unfolding tail_from tail_set
-  tail-kept h head =
+  tail-kept =
       and_then (mapped-kept text-round_trips none some within (codes "env")) λ env env_h.
       and_then (listed-kept text-round_trips none some within (codes "crate_attrs")) λ crate_attrs crate_attrs_h.
       and_then (optional-kept text-round_trips none within (λ x. refl) (codes "proc_macro_dylib_path")) λ proc_macro_dylib_path proc_macro_dylib_path_h.
@@ -83,34 +84,32 @@ module _ (ms : Members) (within : AreWithin (depth_of ms) ms) (exactly : AreWith
       and_then (optional-kept text-round_trips none within (λ x. refl) (codes "repository")) λ repository repository_h.
       and_then (optional-kept build-round_trips none within build_data-present (codes "build")) λ build build_h.
       and_then (optional-kept text-round_trips none within (λ x. refl) (codes "proc_macro_cwd")) λ proc_macro_cwd proc_macro_cwd_h.
-      at_last (
-        record { again = head.again; written = head.written; deep = head.deep },
-        record {
-          again = λ ws. simp (required-set_member, optional-set_member, defaulted-set_member)
-              (rw (env_h.again, crate_attrs_h.again, proc_macro_dylib_path_h.again, is_workspace_member_h.again, source_h.again, repository_h.again, build_h.again, proc_macro_cwd_h.again));
-          written = λ ws before.
-              set_member-written (codes "proc_macro_cwd") proc_macro_cwd_h
-              (set_member-written (codes "build") build_h
-              (set_member-written (codes "repository") repository_h
-              (set_member-written (codes "is_proc_macro") is_proc_macro_h
-              (set_member-written (codes "source") source_h
-              (set_member-written (codes "is_workspace_member") is_workspace_member_h
-              (set_member-written (codes "proc_macro_dylib_path") proc_macro_dylib_path_h
-              (set_member-written (codes "crate_attrs") crate_attrs_h
-              (set_member-written (codes "env") env_h
-              before))))))));
-        },
-      )
+      at_last (record {
+        again = λ ws. simp (optional-set_member, defaulted-set_member)
+            (rw (env_h.again, crate_attrs_h.again, proc_macro_dylib_path_h.again, is_workspace_member_h.again, source_h.again, repository_h.again, build_h.again, proc_macro_cwd_h.again));
+        written = λ ws before.
+            set_member-written (codes "proc_macro_cwd") proc_macro_cwd_h
+            (set_member-written (codes "build") build_h
+            (set_member-written (codes "repository") repository_h
+            (set_member-written (codes "is_proc_macro") is_proc_macro_h
+            (set_member-written (codes "source") source_h
+            (set_member-written (codes "is_workspace_member") is_workspace_member_h
+            (set_member-written (codes "proc_macro_dylib_path") proc_macro_dylib_path_h
+            (set_member-written (codes "crate_attrs") crate_attrs_h
+            (set_member-written (codes "env") env_h
+            before))))))));
+      })
 
 -- a crate whose groups are each kept is read again
-crate_from-again : (c : CrateData) → ((ws : Members) → head_from (head_set (head_of c) ws) ≡ Ok (head_of c)) → ((ws : Members) → tail_from (head_of c) (tail_set c ws) ≡ Ok c)
+crate_from-again : (c : CrateData) → ((ws : Members) → head_from (head_set (head_of c) ws) ≡ Ok (head_of c)) → ((ws : Members) → tail_from (tail_set (tail_of c) ws) ≡ Ok (tail_of c))
     → crate_from (crate_members c) ≡ Ok c
 unfolding crate_from crate_members
 crate_from-again c head tail =
-    let read : head_from (tail_set c (head_set (head_of c) no_members)) ≡ Ok (head_of c) = head_from-tail_set c (head_set (head_of c) no_members) ∙ head no_members in
-    rw read (tail (head_set (head_of c) no_members))
+    let first : head_from (tail_set (tail_of c) (head_set (head_of c) no_members)) ≡ Ok (head_of c) = head_from-tail_set (tail_of c) (head_set (head_of c) no_members) ∙ head no_members in
+    let others : tail_from (tail_set (tail_of c) (head_set (head_of c) no_members)) ≡ Ok (tail_of c) = tail (head_set (head_of c) no_members) in
+    rw (first, others) refl
 
-crate-kept : (ms : Members) (c : CrateData) → HeadKept ms (head_of c) × TailKept ms c
+crate-kept : (ms : Members) (c : CrateData) → HeadKept ms (head_of c) × TailKept ms (tail_of c)
     → IsKept (λ d. members_at d >>= crate_from) crate_data (members_have_float ms) (max 0 (suc (members_depth ms))) c
 unfolding crate_data crate_members
 crate-kept ms c kept =
@@ -127,4 +126,5 @@ crate-round_trips = table-round_trips _ crate_data 0 λ ms.
     let none : 0 ≤ depth_of ms = omega arith in
     let low : 0 ≤ members_depth ms = omega arith in
     and_then (head-kept ms within exactly some none low) λ h head.
-    weaker (crate-kept ms) (tail-kept ms within exactly some none low h head)
+    and_then (tail-kept ms within exactly some none low) λ t tail.
+    at_last (crate-kept ms (crate_of h t) (head, tail))
