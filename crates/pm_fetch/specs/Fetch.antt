@@ -53,6 +53,15 @@ abbrev pub of_full : Result Metadata Error → CommandLine → Option Output →
 of_full light line None = Err (Io (line_text line))
 of_full light line (Some output) = of_output light output
 
+-- a call returns what the command of a line wrote, or that it was not started, unless memory ran out
+abbrev pub HasOutput : Result Output Error → CommandLine → Option Output → Type 0
+HasOutput (Ok output) line answer = answer ≡ Some output
+HasOutput (Err (CargoMetadata stderr)) line answer = ⊥
+HasOutput (Err (Io text)) line answer = (answer ≡ None) × (text ≡ line_text line)
+HasOutput (Err (Json field)) line answer = ⊥
+HasOutput (Err NoJson) line answer = ⊥
+HasOutput (Err OutOfMemory) line answer = Unit {0}
+
 -- what is fetched
 abbrev pub fetch_answer : Fetch → Bool → List (Question × Output) → FetchAnswer
 fetch_answer fetch locked answers =

@@ -5,7 +5,7 @@ ghost use Rattle.outside.specs.Runner.{answer_of};
 ghost use Rattle.cargo_meta.specs.Answer.{of_answer};
 ghost use Rattle.cargo_meta.specs.Command.{command_of};
 ghost use Rattle.base_text.specs.AbsPath.{abs_text};
-ghost use Rattle.pm_fetch.specs.Fetch.{Answers, fetch_answer, fetch_of};
+ghost use Rattle.pm_fetch.specs.Fetch.{Answers, HasOutput, fetch_answer, fetch_of};
 ghost use Rattle.pm_fetch.specs.Options.{full_options};
 ghost use Rattle.pm_fetch.specs.Questions.{locked_question};
 
@@ -13,7 +13,7 @@ use crate::answers::{alone, of_output, report};
 use crate::options::{metadata_options, with_unstable};
 use crate::question::metadata_command;
 use crate::words::{line_text, push_flag};
-use base_text::{AbsPath, CommandLine, Items, Runner, Text, TryClone};
+use base_text::{AbsPath, CommandLine, Items, Output, Runner, Text, TryClone};
 use cargo_meta::{Error, Metadata, MetadataCommand};
 use pm_config::{CargoMetadataConfig, Progress, ToolRoot};
 use pm_packages::ManifestPath;
@@ -95,33 +95,57 @@ impl FetchMetadata {
         if no_deps {
             return alone(light);
         }
-        let line = with_lockfile_kept(alloc, full, locked)?;
-        progress.line("cargo metadata: started");
-        let answer = runner.ask(alloc, &line)?;
-        if let Some(output) = &answer {
-            report(alloc, output, progress)?;
-        }
-        progress.line("cargo metadata: finished");
-        match answer {
-            None => Err(Error::Io {
-                line: line_text(alloc, &line)?,
-            }),
-            Some(output) => of_output(alloc, light, output),
-        }
+        let output = full_output(alloc, full, locked, runner, progress)?;
+        of_output(alloc, light, output)
     }
 }
 
 impl TryClone for FetchMetadata {
     fn try_clone(&self, alloc: Global) -> Result<Self, AllocError> {
-        let light = match &self.light {
-            Ok(metadata) => Ok(metadata.try_clone(alloc)?),
-            Err(error) => Err(error.try_clone(alloc)?),
-        };
         Ok(FetchMetadata {
             full: self.full.try_clone(alloc)?,
             no_deps: self.no_deps,
-            light,
+            light: copy_of(alloc, &self.light)?,
         })
+    }
+}
+
+// A copy of an answer.
+fn copy_of(
+    alloc: Global,
+    answer: &Result<Metadata, Error>,
+) -> Result<Result<Metadata, Error>, AllocError>
+    ensures { IfOk result (λ copy. copy ≡ answer.now) }
+{
+    match answer {
+        Ok(metadata) => Ok(Ok(metadata.try_clone(alloc)?)),
+        Err(error) => Ok(Err(error.try_clone(alloc)?)),
+    }
+}
+
+// What the command of the full question wrote.
+fn full_output<R: Runner, P: Progress>(
+    alloc: Global,
+    full: CommandLine,
+    locked: bool,
+    runner: &R,
+    progress: &mut P,
+) -> Result<Output, Error>
+    ensures { HasOutput result (locked_question full locked)
+        (answer_of (R.answers runner.now) (locked_question full locked)) }
+{
+    let line = with_lockfile_kept(alloc, full, locked)?;
+    progress.line("cargo metadata: started");
+    let answer = runner.ask(alloc, &line)?;
+    if let Some(output) = &answer {
+        report(alloc, output, progress)?;
+    }
+    progress.line("cargo metadata: finished");
+    match answer {
+        Some(output) => Ok(output),
+        None => Err(Error::Io {
+            line: line_text(alloc, &line)?,
+        }),
     }
 }
 
