@@ -41,6 +41,44 @@ pub struct Package {
     pub rust_version: Option<Version>,
 }
 
+// A package of these four. Its other fields are empty, none, or their defaults.
+pub(crate) fn new_package(
+    alloc: Global,
+    name: PackageName,
+    version: Version,
+    id: PackageId,
+    path: Text,
+) -> Package
+    ensures { result ≡ new_package name version id path }
+{
+    Package {
+        name,
+        version,
+        authors: Items::empty(alloc),
+        id,
+        source: None,
+        description: None,
+        dependencies: Items::empty(alloc),
+        license: None,
+        license_file: None,
+        targets: Items::empty(alloc),
+        features: ByText::empty(alloc),
+        manifest_path: path,
+        categories: Items::empty(alloc),
+        keywords: Items::empty(alloc),
+        readme: None,
+        repository: None,
+        homepage: None,
+        documentation: None,
+        edition: Edition::E2015,
+        metadata: AnyValue::null(),
+        links: None,
+        publish: None,
+        default_run: None,
+        rust_version: None,
+    }
+}
+
 impl Package {
     /// A package of these four. Its other fields are empty, none, or their defaults.
     pub fn new(
@@ -52,32 +90,7 @@ impl Package {
     ) -> Result<Package, AllocError>
         ensures { IfOk result (λ made. made ≡ new_package name version id path) }
     {
-        Ok(Package {
-            name,
-            version,
-            authors: Items::empty(alloc),
-            id,
-            source: None,
-            description: None,
-            dependencies: Items::empty(alloc),
-            license: None,
-            license_file: None,
-            targets: Items::empty(alloc),
-            features: ByText::empty(alloc),
-            manifest_path: path,
-            categories: Items::empty(alloc),
-            keywords: Items::empty(alloc),
-            readme: None,
-            repository: None,
-            homepage: None,
-            documentation: None,
-            edition: Edition::E2015,
-            metadata: AnyValue::null(),
-            links: None,
-            publish: None,
-            default_run: None,
-            rust_version: None,
-        })
+        Ok(new_package(alloc, name, version, id, path))
     }
 
     /// The path of the license file, where the manifest names one.

@@ -5,7 +5,7 @@ ghost use Rattle.serde_json.specs.View.{members_view};
 ghost use Rattle.json_fields.specs.Outcome.{Gives};
 ghost use Rattle.cargo_meta.specs.Package.{body_from, body_set, head_from, head_set, tail_from, tail_set};
 
-use crate::package::Package;
+use crate::package::{Package, new_package};
 use base_text::{Text, Version};
 use cargo_values::Edition;
 use json_fields::{
@@ -27,7 +27,7 @@ pub(crate) fn read_head(alloc: Global, fields: &Map<String, Value>) -> Result<Pa
     let dependencies = required(alloc, fields, "dependencies")?;
     let license = optional(alloc, fields, "license")?;
     let path = Text::new(String::new(alloc));
-    let package = Package::new(alloc, name, version, id, path)?;
+    let package = new_package(alloc, name, version, id, path);
     Ok(Package {
         authors,
         source,

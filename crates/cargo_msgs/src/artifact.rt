@@ -56,12 +56,12 @@ impl TryClone for Artifact {
         Ok(Artifact {
             package_id: self.package_id.try_clone(alloc)?,
             manifest_path: self.manifest_path.try_clone(alloc)?,
-            target: self.target.try_clone(alloc)?,
-            profile: self.profile.try_clone(alloc)?,
             features: self.features.try_clone(alloc)?,
             filenames: self.filenames.try_clone(alloc)?,
             executable: self.executable.try_clone(alloc)?,
             fresh: self.fresh,
+            profile: self.profile.try_clone(alloc)?,
+            target: self.target.try_clone(alloc)?,
         })
     }
 }

@@ -1,11 +1,14 @@
 //! A Cargo workspace: the packages of a document of `cargo metadata` with their targets, each under
 //! its number, and the directories that it builds in.
 
-ghost use Rattle.std.specs.Prelude.{◌≡◌, ◌↔◌, ◌<◌, IsTrue, length, option_map, slice_get, Some};
+ghost use Rattle.std.specs.Prelude.{◌≡◌, ◌↔◌, ◌<◌, IfOk, IsTrue, length, option_map, slice_get, Some};
 ghost use Rattle.std.specs.List.{range_with_len};
 ghost use Rattle.base_text.specs.AbsPath.{abs_text};
 ghost use Rattle.base_text.specs.Arena.{number_of};
 ghost use Rattle.pm_cargo.specs.ReadWorkspace.{read_workspace};
+ghost use Rattle.pm_reading.specs.Links.{linked_contents};
+ghost use Rattle.pm_reading.specs.Nodes.{nodes_of};
+ghost use Rattle.pm_reading.specs.Presence.{HoldsItsIds};
 ghost use Rattle.pm_reading.specs.Reading.{Gives};
 ghost use Rattle.pm_cargo.specs.Workspace.{IsWithin};
 
@@ -15,7 +18,7 @@ use cargo_meta::Metadata;
 use crate_graph::Env;
 use pm_members::with_all_member_deps;
 use pm_packages::{ManifestPath, Package, PackageData, Target, TargetData};
-use pm_reading::{WorkspaceError, absolute_path, linked_contents, optional_path};
+use pm_reading::{Contents, WorkspaceError, absolute_path, linked_contents, optional_path};
 use std::alloc::{AllocError, Global};
 use std::marker::Model;
 use std::ops::Index;
@@ -73,6 +76,16 @@ impl Model for CargoWorkspace {
     }) };
 }
 
+// The packages and targets of a document.
+fn contents_of(alloc: Global, meta: Metadata, limits: &Limits) -> Result<Contents, WorkspaceError>
+    ensures exact { Gives result (linked_contents meta.workspace_members limits.now meta.packages
+        (nodes_of meta.resolve)) }
+    ensures present { IfOk result HoldsItsIds }
+{
+    let members = meta.workspace_members;
+    linked_contents(alloc, members, limits, meta.packages, meta.resolve)
+}
+
 impl CargoWorkspace {
     /// The workspace of a document, or the first refusal in the order in which it is checked.
     pub fn new(
@@ -89,13 +102,7 @@ impl CargoWorkspace {
         let workspace_root = absolute_path(alloc, meta.workspace_root.as_str())?;
         let target_directory = absolute_path(alloc, meta.target_directory.as_str())?;
         let build_directory = optional_path(alloc, &meta.build_directory)?;
-        let contents = linked_contents(
-            alloc,
-            meta.workspace_members,
-            limits,
-            meta.packages,
-            meta.resolve,
-        )?;
+        let contents = contents_of(alloc, meta, limits)?;
         Ok(CargoWorkspace {
             packages: with_all_member_deps(alloc, contents.packages)?,
             targets: contents.targets,
@@ -215,14 +222,14 @@ impl Index<Target> for CargoWorkspace {
 impl TryClone for CargoWorkspace {
     fn try_clone(&self, alloc: Global) -> Result<Self, AllocError> {
         Ok(CargoWorkspace {
-            packages: self.packages.try_clone(alloc)?,
-            targets: self.targets.try_clone(alloc)?,
             workspace_root: self.workspace_root.try_clone(alloc)?,
             target_directory: self.target_directory.try_clone(alloc)?,
             build_directory: self.build_directory.try_clone(alloc)?,
             manifest_path: self.manifest_path.try_clone(alloc)?,
             env: self.env.try_clone(alloc)?,
             is_sysroot: self.is_sysroot,
+            targets: self.targets.try_clone(alloc)?,
+            packages: self.packages.try_clone(alloc)?,
         })
     }
 }
