@@ -1,5 +1,5 @@
 -- The packages and targets of a document of `cargo metadata`: taken in the order of their ids, each counted and checked before the next.
-use Rattle.std.specs.Prelude.{ℕ, ◌-◌, Bool, ◌&&◌, true, false, List, [], ◌∷◌, ◌++◌, length, map, bytes_eq, codes, nat_lt, if◌then◌else◌, Option, Some, None, Ok, Err}
+use Rattle.std.specs.Prelude.{◌≡◌, ◌<◌, ◌^◌, ℕ, ◌+◌, ◌-◌, Bool, ◌&&◌, true, false, List, [], ◌∷◌, ◌++◌, length, map, bytes_eq, codes, nat_lt, if◌then◌else◌, Option, Some, None, Ok, Err}
 use Rattle.std.specs.List.{list_any, range_with_len}
 use Rattle.std.specs.Option.{is_none, option_and_then, unwrap_or}
 use Rattle.std.specs.declared.cmp.Ordering.{Ordering}
@@ -28,6 +28,7 @@ use Rattle.pm_packages.specs.Ids.{package_id, target_id}
 use Rattle.pm_packages.specs.declared.package.PackageData.{PackageData}
 use Rattle.pm_packages.specs.declared.target.TargetData.{TargetData}
 use Rattle.pm_packages.specs.declared.target.TargetTag.{TargetTag}
+use Rattle.pm_reading.specs.declared.unresolved.PackageParts.{PackageParts}
 use Rattle.pm_reading.specs.declared.workspace_error.WorkspaceError.TheVariants.{NotAbsolute, NoParent, TooMany}
 
 -- ---- paths
@@ -146,6 +147,17 @@ take_package members limits contents p =
     if nat_lt (length contents.packages) limits.packages then (manifest_path p.manifest_path >>= λ manifest.
     take_each (take_target limits.targets (length contents.packages) manifest) contents.targets p.targets >>= λ targets.
     Ok (with_package members contents manifest p targets)) else Err (TooMany Packages)
+
+-- what is read of one more package, and all targets with its own, where none of them is refused
+pub record ArePartsOf (members : List PackageId) (limits : Limits) (contents : Contents) (p : Package) (targets : List TargetData) (parts : PackageParts) : Type 0 where
+  pub room : length contents.packages < limits.packages
+  pub manifest : manifest_path p.manifest_path ≡ Ok parts.manifest
+  pub taken : take_each (take_target limits.targets (length contents.packages) parts.manifest) contents.targets p.targets ≡ Ok targets
+  pub few : length contents.packages + 1 < 2 ^ 32
+  pub short : length targets < 2 ^ 32
+  pub id : parts.id ≡ p.id
+  pub is_member : parts.is_member ≡ is_listed members p.id
+  pub ids : parts.targets ≡ ids_between (length contents.targets) (length targets)
 
 -- the packages of a document and their targets, in the order of the packages' ids
 unfoldable pub contents_of : List PackageId → Limits → List Package → Reading Contents

@@ -1,13 +1,13 @@
 //! The packages and targets of a document, taken one after another.
 
-ghost use Rattle.std.specs.Prelude.{◌≡◌, ◌<◌, ◌^◌, [], length, IfOk, OnOk};
+ghost use Rattle.std.specs.Prelude.{◌≡◌, ◌<◌, ◌^◌, [], length, IfErr, IfOk, OnOk};
 ghost use Rattle.std.specs.List.Sorted.{IsSorted};
 ghost use Rattle.base_values.specs.Sorted.{sorted};
-ghost use Rattle.pm_reading.specs.Packages.{by_id, by_package_id, contents_of, ids_between, is_bin, is_listed, is_script, root_of, take_package, take_target};
-ghost use Rattle.pm_reading.specs.Reading.{Gives, Leaves, take_each};
+ghost use Rattle.pm_reading.specs.Packages.{ArePartsOf, by_id, by_package_id, contents_of, ids_between, is_bin, is_listed, is_script, root_of, take_package, take_target};
+ghost use Rattle.pm_reading.specs.Reading.{Gives, Leaves, Refuses, take_each};
 
 use crate::paths::{absolute_path, manifest_path};
-use crate::unresolved::unresolved_package;
+use crate::unresolved::{PackageParts, take_id, unresolved_package};
 use crate::workspace_error::WorkspaceError;
 use base_text::{AbsPathBuf, Items, Limit, Limits, TryClone, sort_all};
 use cargo_meta::PackageId;
@@ -148,6 +148,43 @@ impl ContentsBuilder {
         Ok(())
     }
 
+    // Takes the targets of a package, and gives what is read of it besides. The ids of members are sorted.
+    fn take_parts(
+        &mut self,
+        alloc: Global,
+        members: &[PackageId],
+        limits: &Limits,
+        package: &mut cargo_meta::Package,
+    ) -> Result<PackageParts, WorkspaceError>
+        requires members { IsSorted ⟦<PackageId as Ord>⟧.cmp members.now }
+        requires short { length self.old.targets < 2 ^ 32 }
+        ensures refused { IfErr result (λ e. Refuses e
+            (take_package members.now limits.now self.old «package».old)) }
+        ensures parts { IfOk result (ArePartsOf members.now limits.now self.old
+            «package».old self.new.targets) }
+        ensures packages { self.new.packages ≡ self.old.packages }
+        ensures others { OnOk result («package».new ≡ record «package».old {
+          id = «package».new.id;
+          targets = [];
+        }) }
+    {
+        if self.packages.len() >= limits.packages as usize {
+            return Err(WorkspaceError::TooMany(Limit::Packages));
+        }
+        let manifest = manifest_path(alloc, package.manifest_path.as_str())?;
+        let first = self.targets.len();
+        let targets = mem::replace(&mut package.targets, Items::empty(alloc));
+        self.push_targets(alloc, limits.targets, &manifest, targets)?;
+        let targets = ids_between(alloc, first, self.targets.len())?;
+        let is_member = is_listed(members, &package.id);
+        Ok(PackageParts {
+            id: take_id(alloc, &mut package.id)?,
+            is_member,
+            manifest,
+            targets,
+        })
+    }
+
     // Takes a package with its targets. The ids of members are sorted.
     fn push_package(
         &mut self,
@@ -163,16 +200,8 @@ impl ContentsBuilder {
         ensures packages { OnOk result (length self.new.packages < 2 ^ 32) }
         ensures targets { OnOk result (length self.new.targets < 2 ^ 32) }
     {
-        if self.packages.len() >= limits.packages as usize {
-            return Err(WorkspaceError::TooMany(Limit::Packages));
-        }
-        let manifest = manifest_path(alloc, package.manifest_path.as_str())?;
-        let first = self.targets.len();
-        let targets = mem::replace(&mut package.targets, Items::empty(alloc));
-        self.push_targets(alloc, limits.targets, &manifest, targets)?;
-        let targets = ids_between(alloc, first, self.targets.len())?;
-        let is_member = is_listed(members, &package.id);
-        let data = unresolved_package(alloc, is_member, manifest, targets, package)?;
+        let parts = self.take_parts(alloc, members, limits, &mut package)?;
+        let data = unresolved_package(alloc, parts, package);
         self.packages.push(data)?;
         Ok(())
     }

@@ -4,10 +4,12 @@ ghost use Rattle.std.specs.Prelude.{◌≡◌, IfOk};
 ghost use Rattle.pm_reading.specs.Packages.{edition_of, rustc_private, unresolved_package};
 ghost use Rattle.serde_json.specs.View as json;
 
-use base_text::{Edition, Items, Shared};
+use base_text::{Edition, Items, Shared, Text};
+use cargo_meta::PackageId;
 use pm_packages::{ManifestPath, PackageData, RustAnalyzerPackageMetaData, Target};
 use serde_json::Value;
 use std::alloc::{AllocError, Global};
+use std::mem;
 use std::rc::Rc;
 
 // The edition of a package. Those that are not out yet are read as the last one.
@@ -38,26 +40,42 @@ fn rustc_private(metadata: &Value) -> bool
     }
 }
 
-/// The package of a document, with its manifest and targets. What it resolved to comes later.
+/// What is read of a package before its fields are taken as they are.
+#[derive(Drop)]
+pub(crate) struct PackageParts {
+    pub(crate) id: Shared<PackageId>,
+    pub(crate) is_member: bool,
+    pub(crate) manifest: ManifestPath,
+    pub(crate) targets: Items<Target>,
+}
+
+/// Takes an id, which is shared from now on.
+pub(crate) fn take_id(alloc: Global, id: &mut PackageId) -> Result<Shared<PackageId>, AllocError>
+    ensures { IfOk result (λ shared. shared ≡ id.old) }
+{
+    let repr = Text::new(String::new(alloc));
+    let id = mem::replace(id, PackageId { repr });
+    Ok(Shared::new(Rc::new(alloc, id)?))
+}
+
+/// The package of a document, with what was read of it. What it resolved to comes later.
 pub(crate) fn unresolved_package(
     alloc: Global,
-    is_member: bool,
-    manifest: ManifestPath,
-    targets: Items<Target>,
+    parts: PackageParts,
     package: cargo_meta::Package,
-) -> Result<PackageData, AllocError>
-    ensures { IfOk result
-        (λ made. made ≡ unresolved_package is_member manifest targets «package») }
+) -> PackageData
+    ensures { result ≡ unresolved_package parts.is_member parts.manifest parts.targets
+        (record «package» { id = parts.id }) }
 {
-    Ok(PackageData {
-        id: Shared::new(Rc::new(alloc, package.id)?),
+    PackageData {
+        id: parts.id,
         version: package.version,
         name: package.name.into_inner(),
         repository: package.repository,
-        manifest,
-        targets,
+        manifest: parts.manifest,
+        targets: parts.targets,
         is_local: package.source.is_none(),
-        is_member,
+        is_member: parts.is_member,
         dependencies: Items::empty(alloc),
         edition: edition_of(package.edition),
         features: package.features,
@@ -73,5 +91,5 @@ pub(crate) fn unresolved_package(
             rustc_private: rustc_private(package.metadata.as_value()),
         },
         all_member_deps: None,
-    })
+    }
 }
