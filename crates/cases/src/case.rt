@@ -93,6 +93,18 @@ pub fn items_of<'a>(value: &'a Value, key: &'static str) -> Result<&'a [Value], 
     Ok(items.as_slice())
 }
 
+/// The two items of a value that is a list of them.
+pub fn pair_of<'a>(value: &'a Value, key: &'static str) -> Result<(&'a Value, &'a Value), Fault> {
+    let items = items_of(value, key)?;
+    Ok((item(items, 0, key)?, item(items, 1, key)?))
+}
+
+/// The two texts of a value that is a list of them.
+pub fn texts_of_pair<'a>(value: &'a Value, key: &'static str) -> Result<(&'a str, &'a str), Fault> {
+    let (first, second) = pair_of(value, key)?;
+    Ok((text_of(first, key)?, text_of(second, key)?))
+}
+
 pub fn text_of<'a>(value: &'a Value, key: &'static str) -> Result<&'a str, Fault> {
     value.as_str().ok_or(Fault::Member(key))
 }

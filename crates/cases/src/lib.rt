@@ -7,6 +7,6 @@ mod compare;
 
 pub use crate::case::{
     Case, Fault, error_answer, file_number_of, item, items_of, missed_answer, number_of,
-    optional_answer, text_answer, text_of,
+    optional_answer, pair_of, text_answer, text_of, texts_of_pair,
 };
 pub use crate::compare::{Family, run_files};

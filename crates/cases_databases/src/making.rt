@@ -2,7 +2,7 @@
 
 use base_text::{FileId, TryClone};
 use case_graph::graph_of;
-use cases::{Case, Fault, file_number_of, item, items_of, text_of};
+use cases::{Case, Fault, file_number_of, pair_of, text_of};
 use input_db::{FileChange, SourceRoot};
 use serde_json::Value;
 use std::alloc::Global;
@@ -36,14 +36,14 @@ fn roots_of(alloc: Global, values: &[Value]) -> Result<Vec<SourceRoot>, Fault> {
 
 // Sets a file's text, or none.
 fn change_file(alloc: Global, change: &mut FileChange, pair: &Value) -> Result<(), Fault> {
-    let pair = items_of(pair, "texts")?;
-    let id = file_number_of(item(pair, 0, "texts")?, "texts")?;
-    let text = text(alloc, item(pair, 1, "texts")?)?;
+    let (id, text) = pair_of(pair, "texts")?;
+    let id = file_number_of(id, "texts")?;
+    let text = text_or_none(alloc, text)?;
     change.change_file(FileId::from_raw(id), text)?;
     Ok(())
 }
 
-fn text(alloc: Global, value: &Value) -> Result<Option<String>, Fault> {
+fn text_or_none(alloc: Global, value: &Value) -> Result<Option<String>, Fault> {
     match value.as_str() {
         Some(text) => Ok(Some(String::from_str(alloc, text)?)),
         None => Ok(None),
@@ -75,9 +75,9 @@ fn files_of(alloc: Global, pairs: &[Value]) -> Result<FileSet, Fault> {
 }
 
 fn insert(alloc: Global, files: &mut FileSet, pair: &Value) -> Result<(), Fault> {
-    let pair = items_of(pair, "files")?;
-    let id = file_number_of(item(pair, 0, "files")?, "files")?;
-    let path = path_of(alloc, item(pair, 1, "files")?)?;
+    let (id, path) = pair_of(pair, "files")?;
+    let id = file_number_of(id, "files")?;
+    let path = path_of(alloc, path)?;
     files.insert(FileId::from_raw(id), path)?;
     Ok(())
 }

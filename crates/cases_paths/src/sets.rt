@@ -2,7 +2,7 @@
 
 use crate::vfs_paths::vfs_path;
 use base_text::{Counter, Ledger, Steps};
-use cases::{Case, Fault, file_number_of, item, items_of, text_answer, text_of};
+use cases::{Case, Fault, file_number_of, items_of, pair_of, text_answer, text_of};
 use serde_json::{Value, json};
 use std::alloc::Global;
 use vfs_core::{AnchoredPath, FileId, Vfs, VfsPath};
@@ -117,9 +117,9 @@ fn set_of(alloc: Global, files: &[Value]) -> Result<FileSet, Fault> {
 }
 
 fn insert(alloc: Global, set: &mut FileSet, pair: &Value) -> Result<(), Fault> {
-    let pair = items_of(pair, "files")?;
-    let id = file_number_of(item(pair, 0, "files")?, "files")?;
-    let path = vfs_path(alloc, text_of(item(pair, 1, "files")?, "files")?, true)?;
+    let (id, path) = pair_of(pair, "files")?;
+    let id = file_number_of(id, "files")?;
+    let path = vfs_path(alloc, text_of(path, "files")?, true)?;
     set.insert(FileId::from_raw(id), path)?;
     Ok(())
 }

@@ -1,7 +1,7 @@
 //! What a tree in memory answers about a path.
 
 use base_text::{AbsPath, AbsPathBuf, Items, PathError, Text, TryClone};
-use cases::{Case, Fault, item, items_of, optional_answer, text_answer, text_of};
+use cases::{Case, Fault, optional_answer, text_answer, texts_of_pair};
 use serde_json::Value;
 use std::alloc::Global;
 use trees::{MemoryTree, Tree};
@@ -23,12 +23,16 @@ pub fn answer(alloc: Global, case: Case<'_>) -> Result<Value, Fault> {
 fn tree_of_case(alloc: Global, case: Case<'_>) -> Result<MemoryTree, Fault> {
     let mut tree = MemoryTree::new(alloc);
     for file in case.list("files")? {
-        let parts = items_of(file, "files")?;
-        let path = path_of(alloc, text_of(item(parts, 0, "files")?, "files")?)?;
-        let text = Text::of_str(alloc, text_of(item(parts, 1, "files")?, "files")?)?;
-        tree.insert(path, text)?;
+        insert(alloc, &mut tree, file)?;
     }
     Ok(tree)
+}
+
+fn insert(alloc: Global, tree: &mut MemoryTree, file: &Value) -> Result<(), Fault> {
+    let (path, text) = texts_of_pair(file, "files")?;
+    let path = path_of(alloc, path)?;
+    tree.insert(path, Text::of_str(alloc, text)?)?;
+    Ok(())
 }
 
 fn path_of(alloc: Global, text: &str) -> Result<AbsPathBuf, Fault> {
