@@ -1,8 +1,10 @@
 -- A project is loaded step by step: each step is that of the definition, where the code's values are those of the definition.
-use Rattle.std.proofs.Common.{◌≡◌, ℕ, false, List, codes, Option, Some, Result, Ok, Err, refl, sym, ap, subst, ◌∙◌}
+use Rattle.std.proofs.Common.{◌≡◌, ℕ, Bool, false, List, codes, Option, Some, Result, Ok, Err, refl, sym, ap, subst, ◌∙◌}
 use Rattle.std.specs.Borrow.{Bor}
 use Rattle.std.specs.Option.{unwrap_or}
 use Rattle.base_text.specs.Paths.{parent_text}
+use Rattle.outside.specs.declared.command.Output.{Output}
+use Rattle.outside.specs.declared.command.Question.{Question}
 use Rattle.outside.specs.declared.limits.Limits.{Limits}
 use Rattle.cargo_meta.specs.declared.metadata.Metadata.{Metadata}
 use Rattle.cargo_values.specs.declared.errors.Error.{Error}
@@ -17,9 +19,10 @@ use Rattle.pm_fetch.specs.Fetch.{Fetch, fetch_answer, fetch_of}
 use Rattle.pm_lower.specs.Located.{located_manifest}
 use Rattle.pm_lower.specs.Loading.{Gives, Loading, Refuses, ◌>>=◌, of_fetch, of_reading, of_workspace_error}
 use Rattle.pm_lower.specs.Order.{IsLoadedAlike}
-use Rattle.pm_lower.specs.Project.{cargo_project, environment, fetched, located_project, metadata_config, project_of, project_with, tool_answers}
+use Rattle.pm_lower.specs.Project.{cargo_project, environment, fetched, fetched_as, kind_of, kind_with, located_project, metadata_config, project_of, project_with, tool_answers}
 use Rattle.pm_lower.specs.declared.load_error.LoadError.{LoadError}
 use Rattle.pm_lower.specs.declared.project_workspace.ProjectWorkspace.{ProjectWorkspace}
+use Rattle.pm_lower.specs.declared.project_workspace.ProjectWorkspaceKind.{ProjectWorkspaceKind}
 use Rattle.pm_lower.specs.declared.tool_answers.ToolAnswers.{ToolAnswers}
 use Rattle.pm_lower.proofs.LoadingLemmas.{gives_next, refuses_first, refuses_reading}
 use Rattle.pm_reading.specs.Reading as reading
@@ -36,40 +39,57 @@ use Rattle.pm_sysroot.specs.Toolchain.{Toolchain}
 above : (manifest dir : List ℕ) → Some dir ≡ parent_text manifest → dir ≡ directory_of manifest
 above manifest dir is = ap (λ (parent : Option (List ℕ)). unwrap_or parent (codes "/")) is
 
+-- what is fetched by a command; the directory is that of the manifest
+pub fetched_as-is : (manifest dir : List ℕ) (asked : CargoMetadataConfig) (root : ToolRoot) (no_deps : Bool) (answers : List (Question × Output)) (fetch : Fetch) → Some dir ≡ parent_text manifest
+    → fetch ≡ fetch_of manifest dir asked root no_deps answers → fetch_answer fetch false answers ≡ fetched_as manifest asked root no_deps answers
+fetched_as-is manifest dir asked root no_deps answers fetch is_dir is_fetch =
+    ap (λ (f : Fetch). fetch_answer f false answers) (is_fetch ∙ (λ i. fetch_of manifest (above manifest dir is_dir i) asked root no_deps answers))
+
 -- what is fetched; the kind of metadata has no effect
-pub fetched_is : (sysroot : Toolchain) (manifest dir : List ℕ) (config : CargoConfig) (answers : ToolAnswers) (means : Means) (kind : Bor (List ℕ))
-    (asked : CargoMetadataConfig) (root : ToolRoot) (fetch : Fetch) → asked ≡ record (metadata_config config answers) { kind = kind } → root ≡ tool_root sysroot means
-    → Some dir ≡ parent_text manifest → fetch ≡ fetch_of manifest dir asked root config.no_deps means.answers
-    → fetch_answer fetch false means.answers ≡ fetched sysroot manifest config answers means
+pub fetched-is : (sysroot : Toolchain) (manifest : List ℕ) (config : CargoConfig) (answers : ToolAnswers) (means : Means) (kind : Bor (List ℕ))
+    (asked : CargoMetadataConfig) (root : ToolRoot) → asked ≡ record (metadata_config config answers) { kind = kind } → root ≡ tool_root sysroot means
+    → fetched_as manifest asked root config.no_deps means.answers ≡ fetched sysroot manifest config answers means
 unfolding fetched
-fetched_is sysroot manifest dir config answers means kind asked root fetch is_asked is_root is_dir is_fetch =
-    ap (λ (f : Fetch). fetch_answer f false means.answers)
-    (is_fetch ∙ (λ i. fetch_of manifest (above manifest dir is_dir i) (is_asked i) (is_root i) config.no_deps means.answers))
+fetched-is sysroot manifest config answers means kind asked root is_asked is_root = λ i. fetched_as manifest (is_asked i) (is_root i) config.no_deps means.answers
 
 -- ---- a load
 
-module _ (sysroot : Toolchain) (manifest : List ℕ) (config : CargoConfig) (limits : Limits) (means : Means) where
-  module _ (answers : ToolAnswers) (metadata : Metadata) (error : Option Error) (file : Option (List ℕ)) (env : List (List ℕ × List ℕ)) (is_file : file ≡ answers.config_file)
+module _ (manifest : List ℕ) (config : CargoConfig) (limits : Limits) (means : Means) where
+  module _ (answers : ToolAnswers) (metadata : Metadata × Option Error) (file : Option (List ℕ)) (env : List (List ℕ × List ℕ)) (is_file : file ≡ answers.config_file)
       (is_env : env ≡ environment file config means) where
     env_is : env ≡ environment answers.config_file config means
     env_is = is_env ∙ ap (λ (f : Option (List ℕ)). environment f config means) is_file
 
     -- metadata that is read as no workspace
-    pub project-refused : (e : WorkspaceError) → reading.Refuses e (read_workspace metadata manifest env false limits)
-        → Refuses (of_workspace_error e) (project_with sysroot manifest config answers limits means (metadata, error))
-    unfolding project_with
-    project-refused e h =
-        refuses_first (of_workspace_error e) (of_reading (read_workspace metadata manifest (environment answers.config_file config means) false limits))
-        (λ (cargo : Workspace). Ok (project_of sysroot config answers error cargo))
-        (refuses_reading e _ (subst (λ (v : List (List ℕ × List ℕ)). reading.Refuses e (read_workspace metadata manifest v false limits)) env_is h))
+    pub kind-refused : (e : WorkspaceError) → reading.Refuses e (read_workspace metadata.0 manifest env false limits)
+        → Refuses (of_workspace_error e) (kind_with manifest config answers limits means metadata)
+    unfolding kind_with
+    kind-refused e h =
+        refuses_first (of_workspace_error e) (of_reading (read_workspace metadata.0 manifest (environment answers.config_file config means) false limits))
+        (λ (cargo : Workspace). Ok (kind_of metadata.1 cargo))
+        (refuses_reading e _ (subst (λ (v : List (List ℕ × List ℕ)). reading.Refuses e (read_workspace metadata.0 manifest v false limits)) env_is h))
 
     -- metadata that is read as a workspace
-    pub project-read : (cargo : Workspace) (project : ProjectWorkspace) → read_workspace metadata manifest env false limits ≡ Ok cargo
-        → project ≡ project_of sysroot config answers error cargo → project_with sysroot manifest config answers limits means (metadata, error) ≡ Ok project
+    pub kind-read : (cargo : Workspace) (kind : ProjectWorkspaceKind) → read_workspace metadata.0 manifest env false limits ≡ Ok cargo → kind ≡ kind_of metadata.1 cargo
+        → kind_with manifest config answers limits means metadata ≡ Ok kind
+    unfolding kind_with
+    kind-read cargo kind is made =
+        ap (λ (r : Loading Workspace). r >>= λ c. Ok (kind_of metadata.1 c))
+        (ap of_reading (ap (λ (v : List (List ℕ × List ℕ)). read_workspace metadata.0 manifest v false limits) (sym env_is) ∙ is))
+        ∙ ap Ok (sym made)
+
+module _ (sysroot : Toolchain) (manifest : List ℕ) (config : CargoConfig) (limits : Limits) (means : Means) where
+  module _ (answers : ToolAnswers) (metadata : Metadata × Option Error) where
+    -- metadata that gives no kind of project
+    pub project-refused : (e : LoadError) → Refuses e (kind_with manifest config answers limits means metadata) → Refuses e (project_with sysroot manifest config answers limits means metadata)
     unfolding project_with
-    project-read cargo project is made =
-        ap (λ (r : Loading Workspace). r >>= λ c. Ok (project_of sysroot config answers error c))
-        (ap of_reading (ap (λ (v : List (List ℕ × List ℕ)). read_workspace metadata manifest v false limits) (sym env_is) ∙ is)) ∙ ap Ok (sym made)
+    project-refused e h = refuses_first e (kind_with manifest config answers limits means metadata) (λ (kind : ProjectWorkspaceKind). Ok (project_of sysroot config answers kind)) h
+
+    -- metadata that gives one
+    pub project-read : (kind : ProjectWorkspaceKind) (project : ProjectWorkspace) → kind_with manifest config answers limits means metadata ≡ Ok kind
+        → project ≡ project_of sysroot config answers kind → project_with sysroot manifest config answers limits means metadata ≡ Ok project
+    unfolding project_with
+    project-read kind project is made = ap (λ (r : Loading ProjectWorkspaceKind). r >>= λ k. Ok (project_of sysroot config answers k)) is ∙ ap Ok (sym made)
 
   module _ (answers : ToolAnswers) (is_answers : answers ≡ tool_answers sysroot manifest config means) where
     -- no metadata is fetched
@@ -104,17 +124,17 @@ module _ (sysroot : Toolchain) (manifest : List ℕ) (config : CargoConfig) (lim
 
 -- ---- the order of metadata
 
--- what is loaded of a reading is made of what was read
-read_before : {A B : Type 0} (part : Reading A) (f : A → B) (y : B) → (of_reading part >>= λ x. Ok (f x)) ≡ Ok y → (x : A) × (part ≡ Ok x) × (f x ≡ y)
-read_before (Ok x) f y is = (x, refl, cc)
-read_before (Err e) f y is = cc
+-- what is loaded of a reading in two steps is made of what was read
+read_before : {A B C : Type 0} (part : Reading A) (f : A → B) (g : B → C) (y : C) → ((of_reading part >>= λ x. Ok (f x)) >>= λ k. Ok (g k)) ≡ Ok y → (x : A) × (part ≡ Ok x) × (g (f x) ≡ y)
+read_before (Ok x) f g y is = (x, refl, cc)
+read_before (Err e) f g y is = cc
 
 -- the law
 pub project-order : (a b : Metadata) → IsShuffle a b → IsLoadedAlike a b
-unfolding project_with
+unfolding project_with kind_with
 project-order a b shuffle sysroot manifest config answers limits means error p q is are =
     let env : List (List ℕ × List ℕ) = environment answers.config_file config means in
-    let made : Workspace → ProjectWorkspace = project_of sysroot config answers error in
-    let x = read_before (read_workspace a manifest env false limits) made p is in
-    let y = read_before (read_workspace b manifest env false limits) made q are in
-    sym x.2 ∙ ap made (shuffle-read a b shuffle manifest env false limits x.0 y.0 x.1 y.1) ∙ y.2
+    let made : ProjectWorkspaceKind → ProjectWorkspace = project_of sysroot config answers in
+    let x = read_before (read_workspace a manifest env false limits) (kind_of error) made p is in
+    let y = read_before (read_workspace b manifest env false limits) (kind_of error) made q are in
+    sym x.2 ∙ ap (λ (w : Workspace). made (kind_of error w)) (shuffle-read a b shuffle manifest env false limits x.0 y.0 x.1 y.1) ∙ y.2

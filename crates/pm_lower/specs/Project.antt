@@ -1,9 +1,11 @@
 -- A Cargo project as a load reads it: which question is asked of what, and which refusal comes first. Each step is the definition of its own call in a lower crate. The order is that of rust-analyzer's `ProjectWorkspace::load`.
-use Rattle.std.specs.Prelude.{◌≡◌, ℕ, false, List, [], ◌++◌, codes, fold, slice_get, Option, None, Result, Ok, Err}
+use Rattle.std.specs.Prelude.{◌≡◌, ℕ, Bool, false, List, [], ◌++◌, codes, fold, slice_get, Option, None, Result, Ok, Err}
 use Rattle.std.specs.Borrow.{Bor}
 use Rattle.std.specs.FinMap.{empty}
 use Rattle.std.specs.Option.{option_map}
 use Rattle.base_values.specs.Version.{Parts}
+use Rattle.outside.specs.declared.command.Output.{Output}
+use Rattle.outside.specs.declared.command.Question.{Question}
 use Rattle.outside.specs.declared.limits.Limits.{Limits}
 use Rattle.cargo_meta.specs.declared.metadata.Metadata.{Metadata}
 use Rattle.cargo_values.specs.Errors.{error_text}
@@ -14,10 +16,12 @@ use Rattle.pm_cargo.specs.ReadWorkspace.{read_workspace}
 use Rattle.pm_cargo.specs.Workspace.{Workspace}
 use Rattle.pm_config.specs.declared.config.CargoConfig.{CargoConfig}
 use Rattle.pm_config.specs.declared.metadata_config.CargoMetadataConfig.{CargoMetadataConfig}
+use Rattle.pm_config.specs.declared.tool_root.ToolRoot.{ToolRoot}
 use Rattle.pm_fetch.specs.Fetch.{FetchAnswer, fetch_answer, fetch_of}
 use Rattle.pm_lower.specs.Located.{located_manifest}
 use Rattle.pm_lower.specs.Loading.{Loading, ◌>>=◌, of_fetch, of_reading}
 use Rattle.pm_lower.specs.declared.project_workspace.ProjectWorkspace.{ProjectWorkspace}
+use Rattle.pm_lower.specs.declared.project_workspace.ProjectWorkspaceKind.{ProjectWorkspaceKind}
 use Rattle.pm_lower.specs.declared.project_workspace.ProjectWorkspaceKind.TheVariants as of
 use Rattle.pm_lower.specs.declared.tool_answers.ToolAnswers.{ToolAnswers}
 use Rattle.pm_roots.specs.Roots.{directory_of}
@@ -99,11 +103,13 @@ metadata_config config answers = record {
   toolchain_version = answers.toolchain;
 }
 
--- the metadata of the manifest's workspace, which is asked for in the manifest's directory; the lockfile may change
+-- the metadata of the manifest's workspace, asked for in the manifest's directory by this command; the lockfile may change
+abbrev pub fetched_as : List ℕ → CargoMetadataConfig → ToolRoot → Bool → List (Question × Output) → FetchAnswer
+fetched_as manifest asked root no_deps answers = fetch_answer (fetch_of manifest (directory_of manifest) asked root no_deps answers) false answers
+
+-- the metadata of the manifest's workspace
 unfoldable pub fetched : Toolchain → List ℕ → CargoConfig → ToolAnswers → Means → FetchAnswer
-fetched sysroot manifest config answers means =
-    let root = tool_root sysroot means in
-    fetch_answer (fetch_of manifest (directory_of manifest) (metadata_config config answers) root config.no_deps means.answers) false means.answers
+fetched sysroot manifest config answers means = fetched_as manifest (metadata_config config answers) (tool_root sysroot means) config.no_deps means.answers
 
 -- ---- the project
 
@@ -111,10 +117,20 @@ fetched sysroot manifest config answers means =
 unfoldable pub environment : Option (List ℕ) → CargoConfig → Means → Environment
 environment file config means = fold (λ env variable. with_variable variable.0 variable.1 env) (config_env file means) config.extra_env
 
--- the project of a workspace, with why the light metadata stood in, where it did; nothing is built yet
-abbrev pub project_of : Toolchain → CargoConfig → ToolAnswers → Option Error → Workspace → ProjectWorkspace
-project_of sysroot config answers error cargo = record {
-  kind = of.Cargo cargo (option_map error_text error) (record { outputs = empty; error = None }) (Err None);
+-- a workspace as a kind of project, with why the light metadata stood in, where it did; nothing is built yet
+abbrev pub kind_of : Option Error → Workspace → ProjectWorkspaceKind
+kind_of error cargo = of.Cargo cargo (option_map error_text error) (record { outputs = empty; error = None }) (Err None)
+
+-- the workspace of metadata, as a kind of project
+unfoldable pub kind_with : List ℕ → CargoConfig → ToolAnswers → Limits → Means → Metadata × Option Error → Loading ProjectWorkspaceKind
+kind_with manifest config answers limits means metadata =
+    of_reading (read_workspace metadata.0 manifest (environment answers.config_file config means) false limits) >>= λ cargo.
+    Ok (kind_of metadata.1 cargo)
+
+-- the project of a workspace
+abbrev pub project_of : Toolchain → CargoConfig → ToolAnswers → ProjectWorkspaceKind → ProjectWorkspace
+project_of sysroot config answers kind = record {
+  kind = kind;
   sysroot = sysroot;
   rustc_cfg = answers.rustc_cfg;
   toolchain = answers.toolchain;
@@ -127,8 +143,8 @@ project_of sysroot config answers error cargo = record {
 -- the project of metadata
 unfoldable pub project_with : Toolchain → List ℕ → CargoConfig → ToolAnswers → Limits → Means → Metadata × Option Error → Loading ProjectWorkspace
 project_with sysroot manifest config answers limits means metadata =
-    of_reading (read_workspace metadata.0 manifest (environment answers.config_file config means) false limits) >>= λ cargo.
-    Ok (project_of sysroot config answers metadata.1 cargo)
+    kind_with manifest config answers limits means metadata >>= λ kind.
+    Ok (project_of sysroot config answers kind)
 
 -- the project of a located manifest
 unfoldable pub located_project : Toolchain → List ℕ → CargoConfig → Limits → Means → Loading ProjectWorkspace

@@ -5,7 +5,7 @@ ghost use Rattle.std.specs.Option.{option_map};
 ghost use Rattle.cargo_values.specs.Errors.{error_text};
 ghost use Rattle.pm_lower.specs.Loading.{Gives, of_fetch};
 ghost use Rattle.pm_lower.specs.Project as spec;
-ghost use Rattle.pm_lower.specs.Project.{IsCargoToml, IsPlain, fetched, read_project};
+ghost use Rattle.pm_lower.specs.Project.{IsCargoToml, IsPlain, fetched, fetched_as, read_project};
 ghost use Rattle.pm_sysroot.specs.Ask.{means_of};
 ghost use Rattle.pm_tools.specs.Manifest.{manifest_path};
 
@@ -13,12 +13,12 @@ use crate::load_error::LoadError;
 use crate::located::located_manifest;
 use crate::project_workspace::{ProjectWorkspace, ProjectWorkspaceKind};
 use crate::tool_answers::{ToolAnswers, ask_tools};
-use base_text::{Limits, Runner, Text, TryClone};
+use base_text::{AbsPathBuf, Items, Limits, Runner, Text, TryClone};
 use cargo_meta::{Error as MetadataError, Metadata};
 use crate_graph::Env;
 use pm_build::WorkspaceBuildScripts;
 use pm_cargo::{CargoWorkspace, ManifestPath};
-use pm_config::{CargoConfig, CargoMetadataConfig, Progress};
+use pm_config::{CargoConfig, CargoMetadataConfig, CfgOverrides, Progress, ToolRoot};
 use pm_fetch::FetchMetadata;
 use pm_sysroot::{Ask, Sysroot};
 use pm_tools::{CargoConfigFile, ProjectManifest, cargo_config_env};
@@ -46,6 +46,24 @@ fn metadata_config(
     })
 }
 
+// The metadata of the workspace of a manifest, asked for in its directory.
+fn fetch_as<R: Runner, P: Progress>(
+    alloc: Global,
+    manifest: &ManifestPath,
+    asked: &CargoMetadataConfig,
+    root: &ToolRoot,
+    no_deps: bool,
+    runner: &R,
+    progress: &mut P,
+) -> Result<(Metadata, Option<MetadataError>), LoadError>
+    ensures { Gives result (of_fetch (fetched_as manifest.now asked.now root.now no_deps
+        (R.answers runner.now))) }
+{
+    let dir = manifest.parent();
+    let fetch = FetchMetadata::new(alloc, manifest, dir, asked, root, no_deps, runner)?;
+    Ok(fetch.exec(alloc, false, runner, progress)?)
+}
+
 // The metadata of the workspace of a manifest, and beside it the error of the full question where the
 // light answer stands in for it.
 #[tactic(auto, unfolding(crate::specs::Project::fetched))]
@@ -63,17 +81,10 @@ fn fetch<R: Runner, T: Tree, P: Progress>(
 {
     let asked = metadata_config(alloc, config, answers)?;
     let root = sysroot.tool_root(alloc, ask)?;
-    let dir = manifest.parent();
-    let fetch = FetchMetadata::new(
-        alloc,
-        manifest,
-        dir,
-        &asked,
-        &root,
-        config.no_deps,
-        ask.runner,
-    )?;
-    Ok(fetch.exec(alloc, false, ask.runner, progress)?)
+    let no_deps = config.no_deps;
+    fetch_as(
+        alloc, manifest, &asked, &root, no_deps, ask.runner, progress,
+    )
 }
 
 // The environment of the workspace: that of the printed configuration, and then what is configured.
@@ -106,33 +117,82 @@ fn printed(alloc: Global, error: Option<MetadataError>) -> Result<Option<Text>, 
     }
 }
 
-// The project of a workspace. Nothing is built yet.
-fn project_of(
-    alloc: Global,
-    sysroot: Sysroot,
-    config: &CargoConfig,
-    answers: ToolAnswers,
-    error: Option<MetadataError>,
-    cargo: CargoWorkspace,
-) -> Result<ProjectWorkspace, AllocError>
-    ensures { IfOk result (λ project. project
-        ≡ spec.project_of sysroot config.now answers error cargo) }
+// What a project keeps of its configuration.
+#[derive(Drop)]
+struct Settings {
+    cfg_overrides: CfgOverrides,
+    extra_includes: Items<AbsPathBuf>,
+    set_test: bool,
+}
+
+fn settings_of(alloc: Global, config: &CargoConfig) -> Result<Settings, AllocError>
+    ensures { IfOk result (λ settings. settings ≡ record {
+      cfg_overrides = config.now.cfg_overrides;
+      extra_includes = config.now.extra_includes;
+      set_test = config.now.set_test;
+    }) }
 {
-    Ok(ProjectWorkspace {
-        kind: ProjectWorkspaceKind::Cargo {
-            cargo,
-            error: printed(alloc, error)?,
-            build_scripts: WorkspaceBuildScripts::new(alloc),
-            rustc: Err(None),
-        },
-        sysroot,
-        rustc_cfg: answers.rustc_cfg,
-        toolchain: answers.toolchain,
-        target: answers.target,
+    Ok(Settings {
         cfg_overrides: config.cfg_overrides.try_clone(alloc)?,
         extra_includes: config.extra_includes.try_clone(alloc)?,
         set_test: config.set_test,
     })
+}
+
+// The workspace of metadata, as a kind of project. Nothing is built yet.
+#[tactic(auto, unfolding(crate::specs::Project::kind_with))]
+fn kind_with<R: Runner, T: Tree>(
+    alloc: Global,
+    manifest: ManifestPath,
+    config: &CargoConfig,
+    answers: &ToolAnswers,
+    limits: &Limits,
+    fetched: (Metadata, Option<MetadataError>),
+    ask: &Ask<'_, R, T>,
+) -> Result<ProjectWorkspaceKind, LoadError>
+    ensures { Gives result (spec.kind_with manifest config.now answers.now limits.now
+        (means_of R.answers T.files ask.now) fetched) }
+{
+    let (metadata, error) = fetched;
+    let env = environment(alloc, answers.config_file.as_ref(), config, ask)?;
+    let error = printed(alloc, error)?;
+    let cargo = CargoWorkspace::new(alloc, metadata, manifest, env, false, limits)?;
+    Ok(ProjectWorkspaceKind::Cargo {
+        cargo,
+        error,
+        build_scripts: WorkspaceBuildScripts::new(alloc),
+        rustc: Err(None),
+    })
+}
+
+// The project of a workspace.
+fn project_of(
+    sysroot: Sysroot,
+    settings: Settings,
+    answers: ToolAnswers,
+    kind: ProjectWorkspaceKind,
+) -> ProjectWorkspace
+    ensures { result ≡ record {
+      kind = kind;
+      sysroot = sysroot;
+      rustc_cfg = answers.rustc_cfg;
+      toolchain = answers.toolchain;
+      target = answers.target;
+      cfg_overrides = settings.cfg_overrides;
+      extra_includes = settings.extra_includes;
+      set_test = settings.set_test;
+    } }
+{
+    ProjectWorkspace {
+        kind,
+        sysroot,
+        rustc_cfg: answers.rustc_cfg,
+        toolchain: answers.toolchain,
+        target: answers.target,
+        cfg_overrides: settings.cfg_overrides,
+        extra_includes: settings.extra_includes,
+        set_test: settings.set_test,
+    }
 }
 
 // The project of metadata.
@@ -150,10 +210,9 @@ fn project_with<R: Runner, T: Tree>(
     ensures { Gives result (spec.project_with sysroot manifest config.now answers limits.now
         (means_of R.answers T.files ask.now) fetched) }
 {
-    let (metadata, error) = fetched;
-    let env = environment(alloc, answers.config_file.as_ref(), config, ask)?;
-    let cargo = CargoWorkspace::new(alloc, metadata, manifest, env, false, limits)?;
-    Ok(project_of(alloc, sysroot, config, answers, error, cargo)?)
+    let settings = settings_of(alloc, config)?;
+    let kind = kind_with(alloc, manifest, config, &answers, limits, fetched, ask)?;
+    Ok(project_of(sysroot, settings, answers, kind))
 }
 
 // The project of a manifest that was located.
