@@ -26,21 +26,22 @@ pub struct Given {
 }
 
 impl Given {
-    pub fn of_case(alloc: Global, case: Case<'_>, tools: Tools) -> Result<Given, Fault> {
+    pub fn of_case(alloc: Global, case: Case<'_>, tools: Tools) -> Result<Box<Given>, Fault> {
         let root = optional_path(alloc, case, "root")?;
         let sysroot = Sysroot::new(root, optional_path(alloc, case, "src")?);
         let process_env = env_of(alloc, case.list("process")?)?;
         let extra_env = variables(alloc, case.list("extra")?)?;
         let runner = runner_of(alloc, case.list("answers")?)?;
         let tree = tree_of(alloc, case.list("files")?)?;
-        Ok(Given {
+        let given = Given {
             sysroot,
             tools,
             process_env,
             extra_env,
             runner,
             tree,
-        })
+        };
+        Ok(Box::new(alloc, given)?)
     }
 
     pub fn ask(&self) -> CaseAsk<'_> {

@@ -12,7 +12,7 @@ use std::alloc::{AllocError, Global};
 
 /// Applies changes, and gives what the database has after each.
 pub fn apply_all(alloc: Global, changes: &[Value]) -> Result<Value, Fault> {
-    let mut db = InputDb::new(alloc, Nonce::invalid());
+    let mut db = Box::new(alloc, InputDb::new(alloc, Nonce::invalid()))?;
     let mut answers = Vec::new(alloc);
     for change in changes {
         answers.push(apply(alloc, &mut db, change)?)?;

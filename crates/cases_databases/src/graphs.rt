@@ -22,7 +22,7 @@ pub fn answer(alloc: Global, case: Case<'_>) -> Result<Value, Fault> {
 
 // Sets graphs, and gives what the database has after each.
 fn set_all(alloc: Global, graphs: &[Value]) -> Result<Value, Fault> {
-    let mut db = InputDb::new(alloc, Nonce::invalid());
+    let mut db = Box::new(alloc, InputDb::new(alloc, Nonce::invalid()))?;
     let mut given = Vec::new(alloc);
     let mut answers = Vec::new(alloc);
     for graph in graphs {
@@ -77,7 +77,7 @@ fn note(given: &mut Vec<Crate>, crates: &[Crate]) -> Result<(), AllocError> {
 fn list_one(alloc: Global, case: Case<'_>) -> Result<Value, Fault> {
     let graph = graph_of(alloc, case.member("graph")?)?;
     let place = case.number("list")?;
-    let mut db = InputDb::new(alloc, Nonce::invalid());
+    let mut db = Box::new(alloc, InputDb::new(alloc, Nonce::invalid()))?;
     list_in(alloc, &mut db, graph, place)
 }
 

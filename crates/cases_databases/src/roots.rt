@@ -15,7 +15,7 @@ use std::alloc::{AllocError, Global};
 
 /// What a call gives of a database that a change was made to. Crates are named by their places in the graph.
 pub fn answer(alloc: Global, case: Case<'_>) -> Result<Value, Fault> {
-    let mut db = InputDb::new(alloc, Nonce::invalid());
+    let mut db = Box::new(alloc, InputDb::new(alloc, Nonce::invalid()))?;
     let crates = change(alloc, &mut db, case)?;
     ask(alloc, &db, crates.as_slice(), case)
 }

@@ -10,7 +10,7 @@ use std::alloc::Global;
 
 /// Makes settings, and gives the texts of a copy of the files before the last one, and what the database has then.
 pub fn set_all(alloc: Global, settings: &[Value]) -> Result<Value, Fault> {
-    let mut db = InputDb::new(alloc, Nonce::invalid());
+    let mut db = Box::new(alloc, InputDb::new(alloc, Nonce::invalid()))?;
     set_in(alloc, &mut db, settings)
 }
 

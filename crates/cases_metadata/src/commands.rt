@@ -11,8 +11,14 @@ use std::alloc::Global;
 /// What a call on a command gives.
 pub fn answer(alloc: Global, case: Case<'_>) -> Result<Value, Fault> {
     match case.text("call")? {
-        "MetadataCommand::cargo_command" => words(alloc, &command(alloc, case)?),
-        "MetadataCommand::exec" => exec(alloc, &command(alloc, case)?, case.find("answer")),
+        "MetadataCommand::cargo_command" => {
+            let command = command(alloc, case)?;
+            words(alloc, &command)
+        }
+        "MetadataCommand::exec" => {
+            let command = command(alloc, case)?;
+            exec(alloc, &command, case.find("answer"))
+        }
         "MetadataCommand::parse" => parse(alloc, case.text("text")?),
         _ => Err(Fault::Call),
     }
@@ -26,8 +32,8 @@ fn parse(alloc: Global, text: &str) -> Result<Value, Fault> {
 }
 
 // The command after the calls of a case, in their order.
-fn command(alloc: Global, case: Case<'_>) -> Result<MetadataCommand, Fault> {
-    let mut command = MetadataCommand::new(alloc);
+fn command(alloc: Global, case: Case<'_>) -> Result<Box<MetadataCommand>, Fault> {
+    let mut command = Box::new(alloc, MetadataCommand::new(alloc))?;
     for call in case.list("set")? {
         set(alloc, &mut command, items_of(call, "set")?)?;
     }
@@ -76,14 +82,14 @@ fn set_words(alloc: Global, command: &mut MetadataCommand, call: &[Value]) -> Re
 }
 
 fn set_text(alloc: Global, command: &mut MetadataCommand, call: &[Value]) -> Result<(), Fault> {
-    let text = Text::of_str(alloc, text_of(item(call, 1, "set")?, "set")?)?;
+    let text = word_at(alloc, call, 1)?;
     match text_of(item(call, 0, "set")?, "set")? {
         "cargo_path" => drop(command.cargo_path(text)),
         "manifest_path" => drop(command.manifest_path(text)),
         "current_dir" => drop(command.current_dir(text)),
         "env_remove" => drop(command.env_remove(text)?),
         "env" => {
-            let value = Text::of_str(alloc, text_of(item(call, 2, "set")?, "set")?)?;
+            let value = word_at(alloc, call, 2)?;
             drop(command.env(text, value)?);
         }
         _ => return Err(Fault::Member("set")),
@@ -91,9 +97,14 @@ fn set_text(alloc: Global, command: &mut MetadataCommand, call: &[Value]) -> Res
     Ok(())
 }
 
+fn word_at(alloc: Global, call: &[Value], place: usize) -> Result<Text, Fault> {
+    Ok(Text::of_str(alloc, text_of(item(call, place, "set")?, "set")?)?)
+}
+
 // The command line of a copy, and the flags of features that are set.
 fn words(alloc: Global, command: &MetadataCommand) -> Result<Value, Fault> {
-    let line = command.try_clone(alloc)?.cargo_command(alloc)?;
+    let copy = Box::new(alloc, command.try_clone(alloc)?)?;
+    let line = copy.cargo_command(alloc)?;
     let line = line_answer(alloc, &line)?;
     let (all, no_default) = (
         command.has_all_features(),

@@ -3,7 +3,7 @@
 use crate::packages::refusal;
 use base_text::{Text, TryClone};
 use cargo_meta::{Error, Metadata, MetadataCommand, Package, PackageId};
-use cases::{Case, Fault, item, items_of, optional_answer, text_answer, text_of};
+use cases::{Case, Fault, optional_answer, text_answer, text_of, texts_of_pair};
 use serde_json::{Value, json};
 use std::alloc::Global;
 use std::fs;
@@ -35,14 +35,13 @@ fn text_of_file<R: Files + AllocGlobal>(
     };
     let mut text = text;
     for pair in case.list("replace")? {
-        text = replace(rt.alloc(), text.as_str(), items_of(pair, "replace")?)?;
+        text = replace(rt.alloc(), text.as_str(), pair)?;
     }
     Ok(text)
 }
 
-fn replace(alloc: Global, text: &str, pair: &[Value]) -> Result<String, Fault> {
-    let old = text_of(item(pair, 0, "replace")?, "replace")?;
-    let new = text_of(item(pair, 1, "replace")?, "replace")?;
+fn replace(alloc: Global, text: &str, pair: &Value) -> Result<String, Fault> {
+    let (old, new) = texts_of_pair(pair, "replace")?;
     match text.split_once(old) {
         Some((front, rest)) => Ok(format!(in alloc; "{front}{new}{rest}")?),
         None => Err(Fault::Member("replace")),

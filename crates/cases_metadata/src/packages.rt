@@ -41,10 +41,14 @@ fn of_manifest(alloc: Global, manifest: &str) -> Result<Package, AllocError> {
 fn package(alloc: Global, case: Case<'_>) -> Result<Value, Fault> {
     let license_file = text(alloc, case.optional_text("license_file"))?;
     let readme = text(alloc, case.optional_text("readme"))?;
-    let mut package = of_manifest(alloc, case.text("manifest")?)?;
+    let mut package = Box::new(alloc, of_manifest(alloc, case.text("manifest")?)?)?;
+    set_files(&mut package, license_file, readme);
+    package_answer(alloc, &package)
+}
+
+fn set_files(package: &mut Package, license_file: Option<Text>, readme: Option<Text>) {
     package.license_file = license_file;
     package.readme = readme;
-    package_answer(alloc, &package)
 }
 
 fn text(alloc: Global, text: Option<&str>) -> Result<Option<Text>, AllocError> {

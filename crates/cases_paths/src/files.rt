@@ -22,7 +22,7 @@ pub fn answer(alloc: Global, case: Case<'_>) -> Result<Value, Fault> {
 // What each step answers.
 fn steps(alloc: Global, case: Case<'_>) -> Result<Value, Fault> {
     let limit = file_number_of(case.member("limit")?, "limit")?;
-    let mut vfs = Vfs::new(alloc, limit);
+    let mut vfs = Box::new(alloc, Vfs::new(alloc, limit))?;
     let mut answers = Vec::new(alloc);
     for step in case.list("steps")? {
         answers.push(answer_of(alloc, &mut vfs, items_of(step, "steps")?)?)?;

@@ -71,8 +71,8 @@ fn partition(alloc: Global, case: Case<'_>) -> Result<Value, Fault> {
 }
 
 // A table of empty files.
-fn table(alloc: Global, case: Case<'_>) -> Result<Vfs, Fault> {
-    let mut vfs = Vfs::new(alloc, 100);
+fn table(alloc: Global, case: Case<'_>) -> Result<Box<Vfs>, Fault> {
+    let mut vfs = Box::new(alloc, Vfs::new(alloc, 100))?;
     for file in case.list("files")? {
         let path = vfs_path(alloc, text_of(file, "files")?, true)?;
         let set = vfs.set_file_contents(path, Some(Vec::new(alloc)));

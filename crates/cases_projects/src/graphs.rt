@@ -2,29 +2,31 @@
 
 ghost use Rattle.pm_lower.specs.ToRoots.{KindHasNoRustc};
 
-use crate::given::Given;
 use crate::projects::{limit_name, with_text};
 use crate::values::path_of;
-use base_text::FileId;
+use base_text::{FileId, Limits, RecordedRunner};
 use cases::{Case, Fault, text_of};
 use crate_graph::{CrateBuilder, CrateGraphBuilder};
 use pm_lower::{LowerError, MapLoader, ProjectWorkspace, ProjectWorkspaceKind};
+use pm_sysroot::Ask;
 use serde_json::{Value, json};
 use std::alloc::Global;
+use trees::MemoryTree;
 
 /// The crates of a project in order, each by the place of its root file among the live ones, with its dependencies; or
 /// why there is no graph.
 pub fn answer(
     alloc: Global,
     case: Case<'_>,
-    given: &Given,
+    limits: &Limits,
+    ask: &Ask<'_, RecordedRunner, MemoryTree>,
     project: &ProjectWorkspace,
 ) -> Result<Value, Fault> {
     let ProjectWorkspaceKind::Cargo { rustc: Err(_), .. } = &project.kind else {
         return Err(Fault::Condition);
     };
     let mut loader = loader_of(alloc, case.list("live")?)?;
-    match project.to_crate_graph(alloc, &mut loader, &given.limits, &given.ask()) {
+    match project.to_crate_graph(alloc, &mut loader, limits, ask) {
         Ok((graph, _)) => crates(alloc, &graph),
         Err(error) => refusal(alloc, &error),
     }

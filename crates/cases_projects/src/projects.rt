@@ -2,50 +2,73 @@
 
 ghost use Rattle.pm_lower.specs.ToRoots.{KindHasNoRustc};
 
-use crate::given::Given;
+use crate::given::{Given, configure};
 use crate::graphs;
-use crate::values::{paths_answer, roots_answer};
-use base_text::{CfgAtom, Items, Limit, Version, write_cfg};
+use crate::values::{manifest_of, paths_answer, roots_answer};
+use base_text::{CfgAtom, Items, Limit, RecordedRunner, Version, write_cfg};
 use case_tools::Lines;
 use cases::{Case, Fault, error_answer, optional_answer, text_answer};
 use crate_graph::Env;
 use crate_graph::target::{Arch, TargetLoadResult};
 use pm_cargo::CargoWorkspace;
+use pm_config::CargoConfig;
 use pm_lower::{LoadError, ProjectWorkspace, ProjectWorkspaceKind};
+use pm_sysroot::Ask;
 use pm_tools::ProjectManifest;
 use serde_json::{Value, json};
 use std::alloc::Global;
+use trees::MemoryTree;
 
 /// What a case gives.
 pub fn answer(alloc: Global, case: Case<'_>) -> Result<Value, Fault> {
     if case.text("call")? != "ProjectWorkspace::load" {
         return Err(Fault::Call);
     }
-    let given = Given::of_case(alloc, case)?;
-    loaded(alloc, case, &given)
+    let manifest = ProjectManifest::CargoToml(manifest_of(alloc, case.text("manifest")?)?);
+    with_manifest(alloc, case, &manifest)
 }
 
-// What a case asks of the project of what it gives, or why none is loaded.
-fn loaded(alloc: Global, case: Case<'_>, given: &Given) -> Result<Value, Fault> {
-    let question = case.text("ask")?;
-    let config = &given.config;
+fn with_manifest(
+    alloc: Global,
+    case: Case<'_>,
+    manifest: &ProjectManifest,
+) -> Result<Value, Fault> {
+    let mut config = Box::new(alloc, CargoConfig::new(alloc))?;
+    configure(alloc, case, &mut config)?;
+    with_config(alloc, case, manifest, &config)
+}
+
+fn with_config(
+    alloc: Global,
+    case: Case<'_>,
+    manifest: &ProjectManifest,
+    config: &CargoConfig,
+) -> Result<Value, Fault> {
+    let given = Box::new(alloc, Given::of_case(alloc, case)?)?;
+    load(alloc, case, manifest, config, &given)
+}
+
+// What a case asks of the project that is loaded, or why none is.
+fn load(
+    alloc: Global,
+    case: Case<'_>,
+    manifest: &ProjectManifest,
+    config: &CargoConfig,
+    given: &Given,
+) -> Result<Value, Fault> {
     if config.sysroot.is_some() || config.rustc_source.is_some() {
         return Err(Fault::Condition);
     }
-    let ProjectManifest::CargoToml(_) = &given.manifest else {
+    let ProjectManifest::CargoToml(_) = manifest else {
         return Err(Fault::Condition);
     };
-    let ask = given.ask();
+    let ask = given.ask(config);
     let mut lines = Lines::new(alloc);
-    match ProjectWorkspace::load(
-        alloc,
-        &given.manifest,
-        config,
-        &given.limits,
-        &ask,
-        &mut lines,
-    ) {
-        Ok(project) => of_project(alloc, case, question, given, &project, lines),
+    match ProjectWorkspace::load(alloc, manifest, config, &given.limits, &ask, &mut lines) {
+        Ok(project) => {
+            let project = Box::new(alloc, project)?;
+            of_project(alloc, case, given, &ask, &project, lines)
+        }
         Err(error) => refusal(alloc, &error),
     }
 }
@@ -53,15 +76,15 @@ fn loaded(alloc: Global, case: Case<'_>, given: &Given) -> Result<Value, Fault> 
 fn of_project(
     alloc: Global,
     case: Case<'_>,
-    question: &str,
     given: &Given,
+    ask: &Ask<'_, RecordedRunner, MemoryTree>,
     project: &ProjectWorkspace,
     lines: Lines,
 ) -> Result<Value, Fault> {
-    match question {
-        "graph" => graphs::answer(alloc, case, given, project),
+    match case.text("ask")? {
+        "graph" => graphs::answer(alloc, case, &given.limits, ask, project),
         "progress" if lines.is_whole => Ok(Value::Array(lines.kept)),
-        _ => asked(alloc, question, project),
+        question => asked(alloc, question, project),
     }
 }
 

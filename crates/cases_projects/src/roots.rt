@@ -2,7 +2,7 @@
 
 use crate::values::{path_of, paths_of, roots_answer, workspace_of};
 use base_text::{AbsPathBuf, ArenaMap, TryClone};
-use cases::{Case, Fault, item, items_of, number_of, text_of};
+use cases::{Case, Fault, number_of, pair_of, text_of};
 use pm_cargo::{Package, PackageTag};
 use pm_roots::cargo_roots;
 use serde_json::Value;
@@ -25,10 +25,14 @@ pub fn answer(alloc: Global, case: Case<'_>) -> Result<Value, Fault> {
 fn out_dirs_of(alloc: Global, case: Case<'_>) -> Result<ArenaMap<PackageTag, AbsPathBuf>, Fault> {
     let mut out_dirs = ArenaMap::new(alloc);
     for value in case.list("out_dirs")? {
-        let pair = items_of(value, "out_dirs")?;
-        let id = Package::from_raw(number_of(item(pair, 0, "out_dirs")?, "out_dirs")?);
-        let dir = path_of(alloc, text_of(item(pair, 1, "out_dirs")?, "out_dirs")?)?;
+        let (id, dir) = out_dir_of(alloc, value)?;
         drop(out_dirs.insert(id, dir)?);
     }
     Ok(out_dirs)
+}
+
+fn out_dir_of(alloc: Global, value: &Value) -> Result<(Package, AbsPathBuf), Fault> {
+    let (id, dir) = pair_of(value, "out_dirs")?;
+    let id = Package::from_raw(number_of(id, "out_dirs")?);
+    Ok((id, path_of(alloc, text_of(dir, "out_dirs")?)?))
 }

@@ -35,16 +35,16 @@ pub fn manifest_of(alloc: Global, text: &str) -> Result<ManifestPath, Fault> {
 }
 
 /// The workspace of a case's document.
-pub fn workspace_of(alloc: Global, case: Case<'_>) -> Result<CargoWorkspace, Fault> {
-    let document = case.member("document")?;
-    let meta = Metadata::of_value(alloc, document)
-        .ok()
-        .ok_or(Fault::Member("document"))?;
+pub fn workspace_of(alloc: Global, case: Case<'_>) -> Result<Box<CargoWorkspace>, Fault> {
     let manifest = manifest_of(alloc, case.text("manifest")?)?;
     let limits = Limits::greatest();
-    CargoWorkspace::new(alloc, meta, manifest, Env::new(alloc), false, &limits)
-        .ok()
-        .ok_or(Fault::Member("document"))
+    let Ok(meta) = Metadata::of_value(alloc, case.member("document")?) else {
+        return Err(Fault::Member("document"));
+    };
+    match CargoWorkspace::new(alloc, meta, manifest, Env::new(alloc), false, &limits) {
+        Ok(workspace) => Ok(Box::new(alloc, workspace)?),
+        Err(_) => Err(Fault::Member("document")),
+    }
 }
 
 /// The roots, each whether it is local, with what it includes and excludes.
