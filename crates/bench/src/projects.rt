@@ -6,7 +6,7 @@ use base_text::{CommandLine, Items, Limits, Output, RecordedRunner, Text};
 use crate_graph::Env;
 use pm_config::{CargoConfig, Quiet, Tools};
 use pm_lower::ProjectWorkspace;
-use pm_sysroot::Ask;
+use pm_sysroot::{Ask, words_of};
 use pm_tools::ProjectManifest;
 use std::alloc::Global;
 use trees::MemoryTree;
@@ -63,30 +63,36 @@ fn count_packages(
 
 // A runner that answers the question for the full metadata of `/g/Cargo.toml`, and no other.
 fn runner(alloc: Global, document: String) -> Result<RecordedRunner> {
-    let mut words = Vec::new(alloc);
-    for word in [
-        "metadata",
-        "--format-version",
-        "1",
-        "--manifest-path",
-        "/g/Cargo.toml",
-    ] {
-        words.push(Text::of_str(alloc, word)?)?;
-    }
-    let line = CommandLine {
+    let mut runner = RecordedRunner::new(alloc);
+    runner.insert(question(alloc)?, answer(alloc, document)?)?;
+    Ok(runner)
+}
+
+fn question(alloc: Global) -> Result<CommandLine> {
+    let words = words_of(
+        alloc,
+        &[
+            "metadata",
+            "--format-version",
+            "1",
+            "--manifest-path",
+            "/g/Cargo.toml",
+        ],
+    )?;
+    Ok(CommandLine {
         program: Text::of_str(alloc, "cargo")?,
         words: Items::new(words),
         dir: Text::of_str(alloc, "/g")?,
         env: Items::empty(alloc),
-    };
-    let output = Output {
+    })
+}
+
+fn answer(alloc: Global, document: String) -> Result<Output> {
+    Ok(Output {
         ok: true,
-        out: Text::new(document),
         err: Text::of_str(alloc, "")?,
-    };
-    let mut runner = RecordedRunner::new(alloc);
-    runner.insert(line, output)?;
-    Ok(runner)
+        out: Text::new(document),
+    })
 }
 
 fn tools(alloc: Global) -> Result<Tools> {
