@@ -8,13 +8,17 @@ use pm_config::{CargoConfig, TargetDirectoryConfig};
 use std::alloc::Global;
 
 /// The configuration of a case. What the case leaves out is not configured.
-pub fn config_of(alloc: Global, case: Case<'_>) -> Result<CargoConfig, Fault> {
-    let mut config = CargoConfig::new(alloc);
-    config.all_targets = case.flag("all_targets");
-    config.wrap_rustc_in_build_scripts = case.flag("wrap");
+pub fn config_of(alloc: Global, case: Case<'_>) -> Result<Box<CargoConfig>, Fault> {
+    let mut config = Box::new(alloc, CargoConfig::new(alloc))?;
+    set_flags(case, &mut config);
     set_words(alloc, case, &mut config)?;
     set_places(alloc, case, &mut config)?;
     Ok(config)
+}
+
+fn set_flags(case: Case<'_>, config: &mut CargoConfig) {
+    config.all_targets = case.flag("all_targets");
+    config.wrap_rustc_in_build_scripts = case.flag("wrap");
 }
 
 fn set_words(alloc: Global, case: Case<'_>, config: &mut CargoConfig) -> Result<(), Fault> {

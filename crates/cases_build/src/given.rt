@@ -8,7 +8,7 @@ use pm_config::Tools;
 use std::alloc::{AllocError, Global};
 
 /// The toolchain of a case, and what questions are asked with.
-pub fn given_of(alloc: Global, case: Case<'_>) -> Result<Given, Fault> {
+pub fn given_of(alloc: Global, case: Case<'_>) -> Result<Box<Given>, Fault> {
     Given::of_case(alloc, case, tools(alloc)?)
 }
 

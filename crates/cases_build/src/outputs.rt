@@ -18,7 +18,8 @@ pub fn answer(alloc: Global, case: Case<'_>) -> Result<Value, Fault> {
     if case.text("call")? != "WorkspaceBuildScripts::of_output" {
         return Err(Fault::Call);
     }
-    read(alloc, &workspace_of(alloc, case)?, &output_of(alloc, case)?)
+    let workspace = workspace_of(alloc, case)?;
+    read(alloc, &workspace, &output_of(alloc, case)?)
 }
 
 fn read(alloc: Global, workspace: &CargoWorkspace, output: &Output) -> Result<Value, Fault> {

@@ -15,7 +15,10 @@ use std::alloc::Global;
 pub fn answer(alloc: Global, case: Case<'_>) -> Result<Value, Fault> {
     let given = given_of(alloc, case)?;
     match case.text("call")? {
-        "build_question" => of_workspace(alloc, case, &given, &workspace_of(alloc, case)?),
+        "build_question" => {
+            let workspace = workspace_of(alloc, case)?;
+            of_workspace(alloc, case, &given, &workspace)
+        }
         "configured_question" => of_command(alloc, case, &given),
         _ => Err(Fault::Call),
     }

@@ -10,13 +10,13 @@ use serde_json::{Map, Value, json};
 use std::alloc::Global;
 
 /// The workspace of a case. Its manifest is `/w/Cargo.toml`, unless another is given.
-pub fn workspace_of(alloc: Global, case: Case<'_>) -> Result<CargoWorkspace, Fault> {
+pub fn workspace_of(alloc: Global, case: Case<'_>) -> Result<Box<CargoWorkspace>, Fault> {
     let manifest = case.optional_text("manifest").unwrap_or("/w/Cargo.toml");
     let manifest = manifest_of(alloc, manifest)?;
     let meta = metadata_of(alloc, case)?;
     let limits = Limits::greatest();
     match CargoWorkspace::new(alloc, meta, manifest, Env::new(alloc), false, &limits) {
-        Ok(workspace) => Ok(workspace),
+        Ok(workspace) => Ok(Box::new(alloc, workspace)?),
         Err(_) => Err(Fault::Condition),
     }
 }
@@ -48,11 +48,14 @@ fn document_of(alloc: Global, case: Case<'_>) -> Result<Value, Fault> {
 fn ids_of(alloc: Global, packages: &[Value]) -> Result<Value, Fault> {
     let mut ids = Vec::new(alloc);
     for package in packages {
-        let package = items_of(package, "packages")?;
-        let id = text_of(item(package, 0, "packages")?, "packages")?;
-        ids.push(Value::try_from_str(alloc, id)?)?;
+        ids.push(Value::try_from_str(alloc, id_of(package)?)?)?;
     }
     Ok(Value::Array(ids))
+}
+
+fn id_of(package: &Value) -> Result<&str, Fault> {
+    let package = items_of(package, "packages")?;
+    text_of(item(package, 0, "packages")?, "packages")
 }
 
 fn push_packages(alloc: Global, all: &mut Vec<Value>, packages: &[Value]) -> Result<(), Fault> {

@@ -5,7 +5,7 @@ use base_text::{
 };
 use case_lines::{optional_path, texts, variables};
 use case_tools::{features_of, optional_version, version_of};
-use cases::{Case, Fault, item, items_of, optional_answer, text_answer, text_of};
+use cases::{Case, Fault, items_of, optional_answer, pair_of, text_of};
 use pm_config::{
     CargoConfig, CargoFeatures, CargoMetadataConfig, CfgOverrides, InvocationStrategy,
     LockfileUsage, TargetDirectoryConfig, lockfile_usage, needs_json_flag,
@@ -54,17 +54,24 @@ fn target_dir(alloc: Global, case: Case<'_>) -> Result<Value, Fault> {
 
 // The atoms after the overrides of a case, as they are written.
 fn apply(alloc: Global, case: Case<'_>) -> Result<Value, Fault> {
-    let overrides = overrides_of(alloc, case)?;
+    let overrides = overrides_of(alloc, case)?.try_clone(alloc)?;
+    let mut options = options_of(alloc, case.list("options")?)?;
+    overrides.apply(&mut options, case.text("name")?)?;
+    options_answer(alloc, &options)
+}
+
+fn options_of(alloc: Global, atoms: &[Value]) -> Result<CfgOptions, Fault> {
     let mut options = CfgOptions::new(alloc);
-    for atom in case.list("options")? {
+    for atom in atoms {
         options.insert_atom(atom_of(alloc, atom)?)?;
     }
-    overrides
-        .try_clone(alloc)?
-        .apply(&mut options, case.text("name")?)?;
+    Ok(options)
+}
+
+fn options_answer(alloc: Global, options: &CfgOptions) -> Result<Value, Fault> {
     let mut atoms = Vec::new(alloc);
     for atom in options.iter() {
-        atoms.push(text_answer(alloc, write_cfg(alloc, atom)?.as_str())?)?;
+        atoms.push(Value::String(write_cfg(alloc, atom)?))?;
     }
     Ok(Value::Array(atoms))
 }
@@ -73,13 +80,19 @@ fn apply(alloc: Global, case: Case<'_>) -> Result<Value, Fault> {
 fn overrides_of(alloc: Global, case: Case<'_>) -> Result<CfgOverrides, Fault> {
     let mut selective = ByText::empty(alloc);
     for entry in case.list("selective")? {
-        let entry = items_of(entry, "selective")?;
-        let name = String::from_str(alloc, text_of(item(entry, 0, "selective")?, "selective")?)?;
-        let diff = diff_of(alloc, items_of(item(entry, 1, "selective")?, "selective")?)?;
-        drop(selective.insert(name, diff)?);
+        insert_diff(alloc, &mut selective, entry)?;
     }
     let global = diff_of(alloc, case.list("global")?)?;
     Ok(CfgOverrides { global, selective })
+}
+
+// Puts the change of a name in.
+fn insert_diff(alloc: Global, diffs: &mut ByText<CfgDiff>, entry: &Value) -> Result<(), Fault> {
+    let (name, atoms) = pair_of(entry, "selective")?;
+    let diff = diff_of(alloc, items_of(atoms, "selective")?)?;
+    let name = String::from_str(alloc, text_of(name, "selective")?)?;
+    drop(diffs.insert(name, diff)?);
+    Ok(())
 }
 
 // A change: an atom behind `!` is disabled, another is enabled.
@@ -138,15 +151,27 @@ fn copies_are_equal(alloc: Global) -> Result<bool, Fault> {
 }
 
 /// The configuration of a metadata question.
-pub fn metadata_config(alloc: Global, case: Case<'_>) -> Result<CargoMetadataConfig, Fault> {
-    Ok(CargoMetadataConfig {
-        features: features_of(alloc, case)?,
-        targets: texts(alloc, case.list("targets")?)?,
-        extra_args: texts(alloc, case.list("extra_args")?)?,
-        metadata_extra_args: texts(alloc, case.list("metadata_extra_args")?)?,
-        config_path: optional_path(alloc, case, "config_path")?,
-        extra_env: variables(alloc, case.list("env")?)?,
-        kind: "workspace",
-        toolchain_version: optional_version(alloc, case)?,
-    })
+pub fn metadata_config(alloc: Global, case: Case<'_>) -> Result<Box<CargoMetadataConfig>, Fault> {
+    let mut config = Box::new(alloc, CargoMetadataConfig::new(alloc))?;
+    set_words(alloc, case, &mut config)?;
+    set_rest(alloc, case, &mut config)?;
+    Ok(config)
+}
+
+// Sets what a metadata question depends on besides its words.
+fn set_rest(alloc: Global, case: Case<'_>, config: &mut CargoMetadataConfig) -> Result<(), Fault> {
+    config.features = features_of(alloc, case)?;
+    config.config_path = optional_path(alloc, case, "config_path")?;
+    config.extra_env = variables(alloc, case.list("env")?)?;
+    config.kind = "workspace";
+    config.toolchain_version = optional_version(alloc, case)?;
+    Ok(())
+}
+
+// Sets the words of a metadata question.
+fn set_words(alloc: Global, case: Case<'_>, config: &mut CargoMetadataConfig) -> Result<(), Fault> {
+    config.targets = texts(alloc, case.list("targets")?)?;
+    config.extra_args = texts(alloc, case.list("extra_args")?)?;
+    config.metadata_extra_args = texts(alloc, case.list("metadata_extra_args")?)?;
+    Ok(())
 }

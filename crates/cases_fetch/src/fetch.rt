@@ -7,7 +7,7 @@ use cargo_meta::{Error, Metadata};
 use case_lines::{absolute, line_answer, runner_of};
 use case_tools::{Lines, manifest_of};
 use cases::{Case, Fault, text_answer};
-use pm_config::Quiet;
+use pm_config::{Progress, Quiet};
 use pm_fetch::FetchMetadata;
 use serde_json::{Value, json};
 use std::alloc::Global;
@@ -28,28 +28,29 @@ fn fetch_of(
     alloc: Global,
     case: Case<'_>,
     runner: &RecordedRunner,
-) -> Result<FetchMetadata, Fault> {
+) -> Result<Box<FetchMetadata>, Fault> {
     let manifest = manifest_of(alloc, case.text("manifest")?)?;
     let dir = absolute(alloc, case.text("dir")?, "dir")?;
     let root = root_of(alloc, case)?;
     let config = metadata_config(alloc, case)?;
     let no_deps = case.flag("no_deps");
     let dir = dir.as_path();
-    Ok(FetchMetadata::new(alloc, &manifest, dir, &config, &root, no_deps, runner)?)
+    let fetch = FetchMetadata::new(alloc, &manifest, dir, &config, &root, no_deps, runner)?;
+    Ok(Box::new(alloc, fetch)?)
 }
 
 // What is fetched, and the lines of progress; a copy fetches quietly what its original does.
 fn exec(
     alloc: Global,
     case: Case<'_>,
-    fetch: FetchMetadata,
+    fetch: Box<FetchMetadata>,
     runner: &RecordedRunner,
 ) -> Result<Value, Fault> {
     let locked = case.flag("locked");
-    let copy = fetch.try_clone(alloc)?;
-    let quietly = fetched_answer(alloc, copy.exec(alloc, locked, runner, &mut Quiet))?;
+    let copy = Box::new(alloc, fetch.try_clone(alloc)?)?;
+    let quietly = fetched(alloc, copy, locked, runner, &mut Quiet)?;
     let mut lines = Lines::new(alloc);
-    let fetched = fetched_answer(alloc, fetch.exec(alloc, locked, runner, &mut lines))?;
+    let fetched = fetched(alloc, fetch, locked, runner, &mut lines)?;
     if quietly != fetched || !lines.is_whole {
         return Err(Fault::Condition);
     }
@@ -57,11 +58,14 @@ fn exec(
     Ok(json!(in alloc; { "fetched": fetched, "lines": lines })?)
 }
 
-fn fetched_answer(
+fn fetched<P: Progress>(
     alloc: Global,
-    fetched: Result<(Metadata, Option<Error>), Error>,
+    fetch: Box<FetchMetadata>,
+    locked: bool,
+    runner: &RecordedRunner,
+    progress: &mut P,
 ) -> Result<Value, Fault> {
-    match &fetched {
+    match &Box::into_inner(fetch).exec(alloc, locked, runner, progress) {
         Ok((metadata, error)) => metadata_answer(alloc, metadata, error),
         Err(error) => error_answer(alloc, error),
     }

@@ -17,7 +17,7 @@ pub fn answer(alloc: Global, case: Case<'_>) -> Result<Value, Fault> {
         _ => return Err(Fault::Call),
     };
     let root = root_of(alloc, case)?;
-    if root.try_clone(alloc)? != root {
+    if root.try_clone(alloc)? != *root {
         return Err(Fault::Condition);
     }
     let envs = variables(alloc, case.list("env")?)?;
@@ -26,14 +26,14 @@ pub fn answer(alloc: Global, case: Case<'_>) -> Result<Value, Fault> {
 }
 
 /// The toolchain of a case, whose tools have their usual names.
-pub fn root_of(alloc: Global, case: Case<'_>) -> Result<ToolRoot, Fault> {
-    let tools = usual_tools(alloc)?;
+pub fn root_of(alloc: Global, case: Case<'_>) -> Result<Box<ToolRoot>, Fault> {
     let root = optional_path(alloc, case, "root")?;
     let rustc = optional_path(alloc, case, "rustc")?;
-    Ok(ToolRoot {
-        tools,
+    let root = ToolRoot {
+        tools: usual_tools(alloc)?,
         root,
         rustc,
         toolchain_set: case.flag("toolchain_set"),
-    })
+    };
+    Ok(Box::new(alloc, root)?)
 }

@@ -1,7 +1,7 @@
 //! Environments of crates: variables with their values, in order of their names.
 
 use base_text::TryClone;
-use cases::{Case, Fault, item, items_of, optional_answer, text_of};
+use cases::{Case, Fault, optional_answer, texts_of_pair};
 use crate_graph::Env;
 use serde_json::{Value, json};
 use std::alloc::{AllocError, Global};
@@ -16,9 +16,7 @@ pub fn answer(alloc: Global, case: Case<'_>) -> Result<Value, Fault> {
 }
 
 fn pair(alloc: Global, value: &Value) -> Result<(String, String), Fault> {
-    let pair = items_of(value, "pairs")?;
-    let name = text_of(item(pair, 0, "pairs")?, "pairs")?;
-    let value = text_of(item(pair, 1, "pairs")?, "pairs")?;
+    let (name, value) = texts_of_pair(value, "pairs")?;
     let name = String::from_str(alloc, name)?;
     Ok((name, String::from_str(alloc, value)?))
 }

@@ -2,7 +2,7 @@
 
 use crate::crates::{build_answer, crate_answer, paths_answer};
 use crate::documents::refusal;
-use base_text::{AbsPathBuf, Limits, PathError, TryClone};
+use base_text::{AbsPath, AbsPathBuf, Limits, PathError, TryClone};
 use cases::{Case, Fault, error_answer, optional_answer, text_answer, text_of};
 use json_fields::TextJson;
 use pm_json::{Crate, CrateArrayIdx, ProjectJson, RunnableKind, WorkspaceJsonError};
@@ -13,18 +13,27 @@ use std::alloc::Global;
 
 /// What a project answers. It is that of the case's document on its base.
 pub fn answer(alloc: Global, case: Case<'_>) -> Result<Value, Fault> {
-    let document = match ProjectJsonData::of_value(alloc, case.member("document")?) {
-        Ok(document) => document,
-        Err(error) => return refusal(alloc, error),
-    };
     let base = path(alloc, case.text("base")?)?;
     let mut limits = Limits::greatest();
     if let Some(limit) = case.find("limit").and_then(Value::as_u64) {
         limits.crates = u32::try_from(limit).ok().ok_or(Fault::Member("limit"))?;
     }
+    match ProjectJsonData::of_value(alloc, case.member("document")?) {
+        Ok(document) => of_document(alloc, case, base.as_path(), &limits, document),
+        Err(error) => refusal(alloc, error),
+    }
+}
+
+fn of_document(
+    alloc: Global,
+    case: Case<'_>,
+    base: AbsPath<'_>,
+    limits: &Limits,
+    document: ProjectJsonData,
+) -> Result<Value, Fault> {
     let manifest = manifest(alloc, case)?;
-    match ProjectJson::new(alloc, manifest, base.as_path(), document, &limits) {
-        Ok(project) => of_project(alloc, case, project),
+    match ProjectJson::new(alloc, manifest, base, document, limits) {
+        Ok(project) => of_project(alloc, case, Box::new(alloc, project)?),
         Err(WorkspaceJsonError::TooMany(_)) => error_answer(alloc, "TooMany"),
         Err(WorkspaceJsonError::NoParent(text)) => {
             Ok(json!(in alloc; { "no_parent": text.as_str() })?)
@@ -51,8 +60,8 @@ fn manifest(alloc: Global, case: Case<'_>) -> Result<Option<ManifestPath>, Fault
     }
 }
 
-fn of_project(alloc: Global, case: Case<'_>, project: ProjectJson) -> Result<Value, Fault> {
-    if project.try_clone(alloc)? != project {
+fn of_project(alloc: Global, case: Case<'_>, project: Box<ProjectJson>) -> Result<Value, Fault> {
+    if project.try_clone(alloc)? != *project {
         return Err(Fault::Condition);
     }
     match case.text("call")? {
@@ -117,10 +126,16 @@ fn crate_members(alloc: Global, case: Case<'_>, krate: &Crate) -> Result<Value, 
     }
     let mut members = Vec::new(alloc);
     for key in case.list("members")? {
-        let member = whole.get(text_of(key, "members")?);
-        members.push(member.ok_or(Fault::Member("members"))?.clone()?)?;
+        members.push(member_of(&whole, text_of(key, "members")?)?)?;
     }
     Ok(Value::Array(members))
+}
+
+fn member_of(whole: &Value, key: &str) -> Result<Value, Fault> {
+    match whole.get(key) {
+        Some(member) => Ok(member.clone()?),
+        None => Err(Fault::Member("members")),
+    }
 }
 
 fn crate_at<'p>(case: Case<'_>, project: &'p ProjectJson) -> Result<&'p Crate, Fault> {
@@ -145,15 +160,14 @@ fn deps(alloc: Global, case: Case<'_>, project: &ProjectJson) -> Result<Value, F
 }
 
 // The project of the standard library, after which there is none left.
-fn taken(alloc: Global, case: Case<'_>, project: ProjectJson) -> Result<Value, Fault> {
-    let mut project = project;
+fn taken(alloc: Global, case: Case<'_>, mut project: Box<ProjectJson>) -> Result<Value, Fault> {
     let taken = project.take_sysroot_project();
     if project.sysroot_project.is_some() {
         return Err(Fault::Condition);
     }
     match taken {
         Some(inner) => {
-            let inner = inner.into_inner();
+            let inner = Box::new(alloc, inner.into_inner())?;
             let (paths, crates) = (paths(alloc, &inner)?, crates(alloc, case, &inner)?);
             Ok(json!(in alloc; { "paths": paths, "crates": crates })?)
         }

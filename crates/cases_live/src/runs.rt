@@ -22,7 +22,7 @@ pub fn run(
     mut input: FaultSource,
     mut out: FaultSink,
 ) -> Result<Ran, AllocError> {
-    let mut live = Live::new(alloc)?;
+    let mut live = Box::new(alloc, Live::new(alloc)?)?;
     let mut err = MemorySink::new(alloc);
     let status = live_cli(alloc, words, &mut live, &mut input, &mut out, &mut err);
     let ended = live.ended();

@@ -14,7 +14,7 @@ use vfs_core::{Vfs, VfsPath};
 pub fn answer(alloc: Global, case: Case<'_>) -> Result<Value, Fault> {
     let failing = numbers_of(alloc, case, "failing_writes")?;
     let out = FaultSink::new(alloc, failing);
-    let mut live = Live::new(alloc)?;
+    let mut live = Box::new(alloc, Live::new(alloc)?)?;
     session(alloc, case, &mut live, out)
 }
 

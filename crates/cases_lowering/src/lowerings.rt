@@ -33,11 +33,11 @@ fn lower(alloc: Global, case: Case<'_>) -> Result<Result<CrateGraphBuilder, Lowe
     Ok(lower_cargo(alloc, &workspace, &shared, &mut loader, &limits))
 }
 
-fn read(alloc: Global, case: Case<'_>) -> Result<CargoWorkspace, Fault> {
-    let meta = Metadata::of_value(alloc, case.member("document")?);
-    let meta = meta.ok().ok_or(Fault::Member("document"))?;
+fn read(alloc: Global, case: Case<'_>) -> Result<Box<CargoWorkspace>, Fault> {
     let manifest = ManifestPath::new(path_of(alloc, case.text("manifest")?)?);
     let manifest = manifest.ok().ok_or(Fault::Condition)?;
+    let meta = Metadata::of_value(alloc, case.member("document")?);
+    let meta = meta.ok().ok_or(Fault::Member("document"))?;
     let is_sysroot = case.flag("sysroot");
     let limits = Limits::greatest();
     let workspace = CargoWorkspace::new(
@@ -48,7 +48,7 @@ fn read(alloc: Global, case: Case<'_>) -> Result<CargoWorkspace, Fault> {
         is_sysroot,
         &limits,
     );
-    workspace.ok().ok_or(Fault::Condition)
+    Ok(Box::new(alloc, workspace.ok().ok_or(Fault::Condition)?)?)
 }
 
 // The files that are live, each under its place in the list.

@@ -12,7 +12,7 @@ use toolchain_info::QueryConfig;
 /// A toolchain with tools of the usual names, and where it is asked.
 #[derive(Drop)]
 pub struct PlacedGiven {
-    given: Given,
+    given: Box<Given>,
     place: Place,
 }
 

@@ -26,7 +26,7 @@ fn asked(alloc: Global, case: Case<'_>, workspace: &CargoWorkspace) -> Result<Va
     match question {
         "refusal" => Ok(Value::Null),
         "equal" => match read(alloc, case, case.member("other")?)? {
-            Ok(other) => Ok(Value::from(*workspace == other)),
+            Ok(other) => Ok(Value::from(*workspace == *other)),
             Err(error) => refusal(alloc, &error),
         },
         "copy" => Ok(Value::from(workspace.try_clone(alloc)? == *workspace)),
@@ -54,13 +54,16 @@ fn read(
     alloc: Global,
     case: Case<'_>,
     document: &Value,
-) -> Result<Result<CargoWorkspace, WorkspaceError>, Fault> {
+) -> Result<Result<Box<CargoWorkspace>, WorkspaceError>, Fault> {
+    let manifest = manifest_of(alloc, case.text("manifest")?)?;
+    let limits = limits_of(case)?;
     let Ok(meta) = Metadata::of_value(alloc, document) else {
         return Err(Fault::Member("document"));
     };
-    let manifest = manifest_of(alloc, case.text("manifest")?)?;
-    let limits = limits_of(case)?;
-    Ok(CargoWorkspace::new(alloc, meta, manifest, Env::new(alloc), false, &limits))
+    match CargoWorkspace::new(alloc, meta, manifest, Env::new(alloc), false, &limits) {
+        Ok(workspace) => Ok(Ok(Box::new(alloc, workspace)?)),
+        Err(error) => Ok(Err(error)),
+    }
 }
 
 // The limits of a case. One that is left out is the greatest.
