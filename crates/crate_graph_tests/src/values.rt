@@ -21,8 +21,8 @@ fn dependency(alloc: Global, id: u32) -> Result<DependencyBuilder, Fail> {
     Ok(dep)
 }
 
-fn crate_of(alloc: Global, dep: DependencyBuilder) -> Result<CrateData<CrateBuilderId>, Fail> {
-    Ok(CrateData {
+fn crate_of(alloc: Global, dep: DependencyBuilder) -> Result<Box<CrateData<CrateBuilderId>>, Fail> {
+    let krate = CrateData {
         root_file_id: FileId::from_raw(1),
         edition: Edition::CURRENT,
         dependencies: Items::new(vec![in alloc; dep]?),
@@ -30,7 +30,8 @@ fn crate_of(alloc: Global, dep: DependencyBuilder) -> Result<CrateData<CrateBuil
         crate_attrs: Items::empty(alloc),
         target_kind: TargetKind::Bin,
         proc_macro_cwd: AbsPathBuf::new(alloc, "/w")?,
-    })
+    };
+    Ok(Box::new(alloc, krate)?)
 }
 
 // Whether two values are hashed alike, compare as equal and are equal.
@@ -46,8 +47,8 @@ fn agree<T: Ord + Hash>(left: &T, right: &T) -> (bool, bool, bool) {
 #[test]
 fn a_copy_of_a_crate_agrees_with_it(rt: HostRuntime) -> Result<(), Fail> {
     let krate = crate_of(rt.alloc(), dependency(rt.alloc(), 0)?)?;
-    let copy = krate.try_clone(rt.alloc())?;
-    assert_eq!(rt; agree(&krate, &copy), (true, true, true));
+    let copy = Box::new(rt.alloc(), krate.try_clone(rt.alloc())?)?;
+    assert_eq!(rt; agree(&*krate, &*copy), (true, true, true));
     Ok(())
 }
 
@@ -55,7 +56,7 @@ fn a_copy_of_a_crate_agrees_with_it(rt: HostRuntime) -> Result<(), Fail> {
 fn another_number_makes_another_crate(rt: HostRuntime) -> Result<(), Fail> {
     let krate = crate_of(rt.alloc(), dependency(rt.alloc(), 0)?)?;
     let other = crate_of(rt.alloc(), dependency(rt.alloc(), 1)?)?;
-    assert_eq!(rt; agree(&krate, &other), (false, false, false));
+    assert_eq!(rt; agree(&*krate, &*other), (false, false, false));
     Ok(())
 }
 
@@ -104,13 +105,15 @@ fn a_crate_of_a_builder_shares_its_workspace(rt: HostRuntime) -> Result<(), Fail
         potential_cfg_options: None,
     };
     let krate = CrateBuilder::new(
-        crate_of(alloc, dependency(alloc, 0)?)?,
+        Box::into_inner(crate_of(alloc, dependency(alloc, 0)?)?),
         extra,
         CfgOptions::new(alloc),
         Env::new(alloc),
         shared,
     );
-    assert!(rt; krate.try_clone(alloc)? == krate);
+    let krate = Box::new(alloc, krate)?;
+    let copy = Box::new(alloc, krate.try_clone(alloc)?)?;
+    assert!(rt; *copy == *krate);
     assert!(rt; krate.ws_data().is_atleast_187());
     Ok(())
 }

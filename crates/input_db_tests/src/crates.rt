@@ -67,12 +67,12 @@ fn an_identity_with_data_comes_after_that_of_its_file_alone(rt: HostRuntime) -> 
 
 #[test]
 fn inputs_with_other_environments_differ(rt: HostRuntime) -> Result<(), Fail> {
-    let first = input(rt.alloc())?;
-    let mut other = first.try_clone(rt.alloc())?;
-    assert!(rt; other == first);
+    let first = Box::new(rt.alloc(), input(rt.alloc())?)?;
+    let mut other = Box::new(rt.alloc(), first.try_clone(rt.alloc())?)?;
+    assert!(rt; *other == *first);
     let name = String::from_str(rt.alloc(), "K")?;
     let value = String::from_str(rt.alloc(), "v")?;
     other.env.set(name, value)?;
-    assert!(rt; other != first);
+    assert!(rt; *other != *first);
     Ok(())
 }
