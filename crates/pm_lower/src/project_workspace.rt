@@ -128,10 +128,10 @@ impl TryClone for ProjectWorkspaceKind {
                 build_scripts,
                 rustc,
             } => Ok(ProjectWorkspaceKind::Cargo {
-                cargo: cargo.try_clone(alloc)?,
                 error: error.try_clone(alloc)?,
                 build_scripts: build_scripts.try_clone(alloc)?,
                 rustc: copy_rustc(alloc, rustc)?,
+                cargo: cargo.try_clone(alloc)?,
             }),
         }
     }
@@ -166,7 +166,6 @@ pub(crate) fn copy_target(
 impl TryClone for ProjectWorkspace {
     fn try_clone(&self, alloc: Global) -> Result<Self, AllocError> {
         Ok(ProjectWorkspace {
-            kind: self.kind.try_clone(alloc)?,
             sysroot: self.sysroot.try_clone(alloc)?,
             rustc_cfg: self.rustc_cfg.try_clone(alloc)?,
             toolchain: self.toolchain.try_clone(alloc)?,
@@ -174,6 +173,7 @@ impl TryClone for ProjectWorkspace {
             cfg_overrides: self.cfg_overrides.try_clone(alloc)?,
             extra_includes: self.extra_includes.try_clone(alloc)?,
             set_test: self.set_test,
+            kind: self.kind.try_clone(alloc)?,
         })
     }
 }
