@@ -110,10 +110,11 @@ crate_with head tail = record {
   build = tail.build;
 }
 
--- both of a crate
+-- what of a crate is read on the base
 abbrev pub head_of : Crate → CrateHead
 head_of c = record { display_name = c.display_name; root_module = c.root_module; version = c.version; proc_macro_dylib_path = c.proc_macro_dylib_path; is_workspace_member = c.is_workspace_member; include = c.include; exclude = c.exclude; proc_macro_cwd = c.proc_macro_cwd }
 
+-- what of a crate is taken as it is stated
 abbrev pub tail_of : Crate → CrateTail
 tail_of c = record { edition = c.edition; deps = c.deps; cfg = c.cfg; target = c.target; env = c.env; crate_attrs = c.crate_attrs; is_proc_macro = c.is_proc_macro; repository = c.repository; build = c.build }
 
