@@ -87,10 +87,25 @@ impl<V: TryClone + Drop> TryClone for ByText<V> {
     fn try_clone(&self, alloc: Global) -> Result<Self, AllocError> {
         let mut copy = ByText::empty(alloc);
         for (key, value) in self.inner.iter() {
-            drop(copy.insert(key.clone()?, value.try_clone(alloc)?)?);
+            insert_copy(alloc, &mut copy, key, value)?;
         }
         Ok(copy)
     }
+}
+
+// Puts a copy of an entry into a map, behind the others where its key is above theirs.
+fn insert_copy<V: TryClone + Drop>(
+    alloc: Global,
+    entries: &mut ByText<V>,
+    key: &String,
+    value: &V,
+) -> Result<(), AllocError>
+    ensures { IsAboveKeys (string_bytes key.now) entries.old
+        → OnOk result (entries.new ≡ entries.old ++ (string_bytes key.now, value.now) ∷ []) }
+{
+    let key = key.clone()?;
+    drop(entries.insert(key, value.try_clone(alloc)?)?);
+    Ok(())
 }
 
 impl<V: PartialEq> PartialEq for ByText<V> {

@@ -1,6 +1,7 @@
 //! Copies of slices and of maps, item by item and in their order.
 
-ghost use Rattle.std.specs.Prelude.{◌≡◌, IfOk};
+ghost use Rattle.std.specs.Prelude.{◌≡◌, IfOk, OnOk};
+ghost use Rattle.indexmap.specs.IndexMap.{insert_entry};
 
 use crate::try_clone::TryClone;
 use indexmap::IndexMap;
@@ -27,7 +28,22 @@ pub fn copy_entries<K: TryClone + Eq + Hash + Drop, V: TryClone + Drop>(
 {
     let mut copy = IndexMap::new(alloc);
     for (key, value) in entries.iter() {
-        drop(copy.insert(key.try_clone(alloc)?, value.try_clone(alloc)?)?);
+        insert_copy(alloc, &mut copy, key, value)?;
     }
     Ok(copy)
+}
+
+// Puts a copy of an entry into a map.
+fn insert_copy<K: TryClone + Eq + Hash + Drop, V: TryClone + Drop>(
+    alloc: Global,
+    entries: &mut IndexMap<K, V>,
+    key: &K,
+    value: &V,
+) -> Result<(), AllocError>
+    ensures { OnOk result (entries.new.entries
+        ≡ insert_entry K.eq entries.old.entries key.now value.now) }
+{
+    let key = key.try_clone(alloc)?;
+    drop(entries.insert(key, value.try_clone(alloc)?)?);
+    Ok(())
 }
