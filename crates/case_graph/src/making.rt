@@ -53,11 +53,11 @@ pub fn add(
 }
 
 fn parts_of(alloc: Global, krate: Case<'_>) -> Result<Parts, Fault> {
-    let name = name_of(alloc, krate.optional_text("name"))?;
-    let cfgs = cfgs_of(alloc, krate.optional_text("flag"))?;
-    let env = env_of(alloc, krate.optional_text("value"))?;
-    let directory = directory(alloc)?;
     let workspace = workspace(alloc, krate.optional_text("toolchain"))?;
+    let directory = directory(alloc)?;
+    let env = env_of(alloc, krate.optional_text("value"))?;
+    let cfgs = cfgs_of(alloc, krate.optional_text("flag"))?;
+    let name = name_of(alloc, krate.optional_text("name"))?;
     Ok(Parts {
         name,
         cfgs,
@@ -72,8 +72,9 @@ fn directory(alloc: Global) -> Result<AbsPathBuf, Fault> {
 }
 
 fn workspace(alloc: Global, version: Option<&str>) -> Result<Rc<CrateWorkspaceData>, Fault> {
-    let target = Err(TargetLoadError(Text::of_str(alloc, "no rustc")?));
+    let reason = Text::of_str(alloc, "no rustc")?;
     let toolchain = toolchain(alloc, version)?;
+    let target = Err(TargetLoadError(reason));
     let data = CrateWorkspaceData { target, toolchain };
     Ok(Rc::new(alloc, data)?)
 }
@@ -96,44 +97,55 @@ fn name_of(alloc: Global, name: Option<&str>) -> Result<Option<CrateDisplayName>
 }
 
 fn cfgs_of(alloc: Global, flag: Option<&str>) -> Result<CfgOptions, Fault> {
+    let Some(flag) = flag else {
+        return Ok(CfgOptions::new(alloc));
+    };
+    let flag = Symbol::of_str(alloc, flag)?;
     let mut cfgs = CfgOptions::new(alloc);
-    if let Some(flag) = flag {
-        let flag = Symbol::of_str(alloc, flag)?;
-        cfgs.insert_atom(CfgAtom::Flag(flag))?;
-    }
+    cfgs.insert_atom(CfgAtom::Flag(flag))?;
     Ok(cfgs)
 }
 
 fn env_of(alloc: Global, value: Option<&str>) -> Result<Env, Fault> {
+    let Some(value) = value else {
+        return Ok(Env::new(alloc));
+    };
+    let name = String::from_str(alloc, "K")?;
+    let value = String::from_str(alloc, value)?;
     let mut env = Env::new(alloc);
-    if let Some(value) = value {
-        let name = String::from_str(alloc, "K")?;
-        let value = String::from_str(alloc, value)?;
-        env.set(name, value)?;
-    }
+    env.set(name, value)?;
     Ok(env)
 }
 
 /// A graph of crates with edges, none of which may be refused.
 pub fn graph_of(alloc: Global, value: &Value) -> Result<CrateGraphBuilder, Fault> {
     let given = Case::new(value);
-    let mut graph = crates_of(alloc, given)?;
-    for edge in given.list("edges")? {
-        if depend(alloc, &mut graph, edge)?.is_err() {
-            return Err(Fault::Condition);
-        }
-    }
+    let mut graph = CrateGraphBuilder::new(alloc, limit_of(given));
+    fill(alloc, &mut graph, given)?;
     Ok(graph)
 }
 
-fn crates_of(alloc: Global, given: Case<'_>) -> Result<CrateGraphBuilder, Fault> {
-    let mut graph = CrateGraphBuilder::new(alloc, limit_of(given));
-    for krate in given.list("crates")? {
-        if add(alloc, &mut graph, Case::new(krate))?.is_err() {
+fn fill(alloc: Global, graph: &mut CrateGraphBuilder, given: Case<'_>) -> Result<(), Fault> {
+    add_all(alloc, graph, given.list("crates")?)?;
+    depend_all(alloc, graph, given.list("edges")?)
+}
+
+fn add_all(alloc: Global, graph: &mut CrateGraphBuilder, crates: &[Value]) -> Result<(), Fault> {
+    for krate in crates {
+        if add(alloc, graph, Case::new(krate))?.is_err() {
             return Err(Fault::Condition);
         }
     }
-    Ok(graph)
+    Ok(())
+}
+
+fn depend_all(alloc: Global, graph: &mut CrateGraphBuilder, edges: &[Value]) -> Result<(), Fault> {
+    for edge in edges {
+        if depend(alloc, graph, edge)?.is_err() {
+            return Err(Fault::Condition);
+        }
+    }
+    Ok(())
 }
 
 // The limit of a graph, which is 100 where a case gives none.

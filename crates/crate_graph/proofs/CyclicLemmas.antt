@@ -1,11 +1,16 @@
--- A path that is printed from its last crate to its first.
-use Rattle.std.proofs.Common.{◌≡◌, ℕ, List, [], ◌∷◌, ◌++◌, map, reverse, length, refl, sym, ap, ◌∙◌, arith, append_assoc}
-use Rattle.std.specs.Prelude.{codes}
+-- A path that is printed from its last crate to its first, and what it shows.
+use Rattle.std.proofs.Common.{◌≡◌, ℕ, List, [], ◌∷◌, ◌++◌, map, reverse, length, Result, Ok, Err, refl, sym, ap, ◌∙◌, arith, append_assoc}
+use Rattle.std.specs.Prelude.{codes, IfErr}
 use Rattle.std.specs.Borrow.{Bor}
 use Rattle.std.specs.List.{flat_map, join_by}
 use Rattle.std.proofs.lemmas.Grind.{flat_map-append}
 use Rattle.std.proofs.lemmas.List.{append-nil, map-append, reverse-append}
-use Rattle.crate_graph.specs.Cyclic.{Step, back_text, step_text}
+use Rattle.graph_base.specs.Reach.{IsPathBack, Reaches}
+use Rattle.graph_base.proofs.ReachLemmas.{path_back_reaches}
+use Rattle.crate_graph.specs.Cyclic.{Step, back_text, numbers, step_text}
+use Rattle.crate_graph.specs.Refused.{IfCyclic}
+use Rattle.crate_graph.specs.declared.cyclic.AddDepError.{AddDepError}
+use Rattle.crate_graph.specs.declared.cyclic.AddDepError.TheVariants.{Cyclic, OutOfMemory}
 
 -- a crate of a path behind its arrow
 abbrev pub arrow_text : Bor Step → List ℕ
@@ -44,3 +49,9 @@ back_text-is path before last steps left is none all =
     let whole : reverse path ≡ last ∷ map (λ (s : Bor Step). s.now) steps =
     ap reverse is ∙ reverse-append before (last ∷ []) ∙ ap (λ xs. last ∷ xs) (all ∙ ap (λ xs. map (λ (s : Bor Step). s.now) steps ++ xs) (no_more left none) ∙ append-nil (map (λ (s : Bor Step). s.now) steps)) in
     sym (ap (join_by step_text (codes " -> ")) whole ∙ ap (λ text. step_text last ++ text) (arrows steps))
+
+-- a path back shows that what it starts at reaches its end
+pub cyclic_by_path : {A : Type 0} (g : List (List ℕ)) (from to : ℕ) (r : Result A AddDepError) → IfErr r (λ e. IfCyclic e (λ path. IsPathBack g (numbers path) from to)) → IfErr r (λ e. IfCyclic e (λ path. Reaches g to from))
+cyclic_by_path g from to (Ok x) path = tt
+cyclic_by_path g from to (Err (Cyclic steps)) path = path_back_reaches g (numbers steps) from to path
+cyclic_by_path g from to (Err OutOfMemory) path = tt

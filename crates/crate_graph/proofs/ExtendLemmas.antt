@@ -4,14 +4,14 @@ use Rattle.std.specs.Prelude.{slice_get, unwrap_or}
 use Rattle.std.specs.List.{All, Contains}
 use Rattle.std.specs.Option.{option_map}
 use Rattle.std.proofs.lemmas.Bool.{cases_lt}
-use Rattle.std.proofs.lemmas.List.{get_or_past, length-map, length-replicate, length_push, take-append-drop}
+use Rattle.std.proofs.lemmas.List.{get_or_past, length-map, length-replicate, length_push, take-append-drop, take-append-le}
 use Rattle.std.proofs.lemmas.List.Elements.{Contains-get_or}
 use Rattle.std.proofs.lemmas.List.Sums.{fold-append, fold_more}
 use Rattle.graph_base.specs.Edges.{HasEdge, IsInRange}
 use Rattle.graph_base.proofs.ReachLemmas.{none_in}
 use Rattle.crate_values.specs.declared.builder.CrateBuilder.{CrateBuilder}
 use Rattle.crate_values.specs.declared.crate_data.Dependency.{Dependency}
-use Rattle.crate_graph.specs.Extend.{Id, Merge, before_merge, with_sorted_dependencies, with_new_ids, new_id_at, take_in, with_first_equal, with_crate_at}
+use Rattle.crate_graph.specs.Extend.{Id, Merge, before_merge, with_sorted_dependencies, with_new_ids, new_id_at, take_in, with_first_equal, with_crate_at, merge_of}
 use Rattle.crate_graph.specs.Graph.{edges, row_of, target_of}
 use Rattle.crate_graph.proofs.GraphLemmas.{length-edges, row-at, slice_get_some}
 
@@ -59,7 +59,19 @@ with_crate_at-new_numbers : (j : Merge) (n : ℕ) (krate : CrateBuilder) (o : Op
 with_crate_at-new_numbers j n krate (Some place) = length-set j.new_numbers n place
 with_crate_at-new_numbers j n krate None = length-set j.new_numbers n (length j.crates)
 
+with_crate_at-olds : (olds : ℕ) (j : Merge) (n : ℕ) (krate : CrateBuilder) (o : Option ℕ) → olds ≤ length j.crates → take olds (with_crate_at j n krate o).crates ≡ take olds j.crates
+with_crate_at-olds olds j n krate (Some place) fits = refl
+with_crate_at-olds olds j n krate None fits = take-append-le olds j.crates (krate ∷ []) fits
+
 module _ (eq : CrateBuilder → CrateBuilder → Bool) (olds : ℕ) (others : List CrateBuilder) where
+  -- the old crates stay
+  pub take_in-olds : (j : Merge) (n : ℕ) → olds ≤ length j.crates → take olds (take_in eq olds others j n).crates ≡ take olds j.crates
+  unfolding take_in
+  take_in-olds j n fits = elim (slice_get others n) as (λ o. take olds (unwrap_or (option_map (λ k. with_first_equal eq olds j n (with_new_ids (new_id_at j.new_numbers) k)) o) j).crates ≡ take olds j.crates) [
+    | Some krate ↦ with_crate_at-olds olds j n (with_new_ids (new_id_at j.new_numbers) krate) (position (λ old. eq old (with_new_ids (new_id_at j.new_numbers) krate)) (take olds j.crates)) fits
+    | None ↦ refl
+  ]
+
   pub take_in-longer : (j : Merge) (n : ℕ) → length j.crates ≤ length (take_in eq olds others j n).crates
   unfolding take_in
   take_in-longer j n = elim (slice_get others n) as (λ o. length j.crates ≤ length (unwrap_or (option_map (λ k. with_first_equal eq olds j n (with_new_ids (new_id_at j.new_numbers) k)) o) j).crates) [
@@ -91,3 +103,6 @@ before_merge-long olds others = length-map olds with_sorted_dependencies
 
 pub before_merge-new_numbers : (olds others : List CrateBuilder) → length (before_merge olds others).new_numbers ≡ length others
 before_merge-new_numbers olds others = length-replicate (length others) 0
+
+pub merge_of-longer : (eq : CrateBuilder → CrateBuilder → Bool) (olds others : List CrateBuilder) (order : List ℕ) → length olds ≤ length (merge_of eq olds others order).crates
+merge_of-longer eq olds others order = omega (arith, before_merge-long olds others, fold-longer eq (length olds) others (before_merge olds others) order)

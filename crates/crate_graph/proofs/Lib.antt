@@ -5,3 +5,6 @@ pub mod TakenLemmas
 pub mod NumberMapLemmas
 pub mod MergeLemmas
 pub mod PruneLemmas
+pub mod RankLemmas
+pub mod PlacesLemmas
+pub mod HashLemmas

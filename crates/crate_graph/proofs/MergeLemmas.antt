@@ -1,5 +1,5 @@
 -- What a graph is once another's crates are taken in, as to the answered numbers.
-use Rattle.std.proofs.Common.{◌≡◌, ℕ, ◌<◌, ◌≤◌, inl, inr, Bool, true, List, [], ◌∷◌, map, take, position, length, get_or, cond, eqb, fold, Option, Some, None, refl, sym, ap, ◌∙◌, subst, arith}
+use Rattle.std.proofs.Common.{◌≡◌, ℕ, ◌+◌, ◌<◌, ◌≤◌, inl, inr, Bool, true, List, [], ◌∷◌, map, take, position, length, get_or, cond, eqb, fold, Option, Some, None, refl, sym, ap, ◌∙◌, subst, arith}
 use Rattle.std.specs.BTreeMap as tree
 use Rattle.std.specs.Prelude.{slice_get, unwrap_or, IsSome, ◌↔◌}
 use Rattle.std.specs.List.{All, AllByRecursion, Contains}
@@ -16,7 +16,9 @@ use Rattle.crate_graph.specs.Extend.{AreApart, PassesLimit, HasEquals, Id, Merge
 use Rattle.crate_values.specs.Laws.{HasCleanPath}
 use Rattle.graph_base.specs.Finish.{IsFinishOrder}
 use Rattle.graph_base.proofs.FinishLemmas.{visits_unique}
+use Rattle.graph_order.specs.Order.{IsOrderOf, Ranking, with_next_nodes}
 use Rattle.crate_graph.specs.Graph.{Graph, IsWellMade, edges, row_of}
+use Rattle.crate_graph.proofs.RankLemmas.{ranked-with_more}
 use Rattle.crate_graph.proofs.ExtendLemmas.{before_merge-new_numbers, crate_edge, edge_crate, take_in-new_numbers}
 use Rattle.crate_graph.proofs.GraphLemmas.{clean_at, length-edges, slice_get_some}
 use Rattle.crate_graph.proofs.TakenLemmas.{IsTaken, renamed_same, row-with_sorted_dependencies}
@@ -124,7 +126,7 @@ room_for_all eq old other order is room passes =
     omega (arith, room, passes.past, ap (λ o. length (merge_of eq old.crates other.crates o).crates) same)
 
 -- the graph is acyclic and in range, since what is appended depends on lower numbers alone
-module _ (eq : CrateBuilder → CrateBuilder → Bool) (olds others : List CrateBuilder) (order : List ℕ) (j : Merge) (limit : ℕ) (made : IsWellMade olds limit) (taken : IsTaken eq olds others order j) where
+module _ (eq : CrateBuilder → CrateBuilder → Bool) (olds others : List CrateBuilder) (finished : List ℕ) (j : Merge) (limit : ℕ) (made : IsWellMade olds limit) (taken : IsTaken eq olds others finished j) where
   old_edge : (a b : ℕ) → a < length olds → HasEdge (edges j.crates) a b → HasEdge (edges olds) a b
   old_edge a b within e =
       let krate = slice_get_some olds a within in
@@ -148,3 +150,8 @@ module _ (eq : CrateBuilder → CrateBuilder → Bool) (olds others : List Crate
     acyclic = above (edges olds) (edges j.crates) made.acyclic made.in_range (λ a b within e. old_edge a b (omega (arith, within, length-edges olds)) e) (λ a b past e. taken.lower a b (omega (arith, past, length-edges olds)) e);
     clean = clean;
   }
+
+  pub ranked-merge_of : (order : Ranking) (more : ℕ) → IsOrderOf order (edges olds) → length olds + more ≡ length j.crates → length j.crates ≤ limit → IsOrderOf (with_next_nodes more order) (edges j.crates)
+  ranked-merge_of order more ranks long room =
+      ranked-with_more order (edges olds) (edges j.crates) more ranks (omega (arith, long, length-edges olds, length-edges j.crates)) (omega (arith, room, made.fits, length-edges j.crates)) in_range_then
+      (λ a b within e. old_edge a b (omega (arith, within, length-edges olds)) e) (λ a b past e. taken.lower a b (omega (arith, past, length-edges olds)) e)

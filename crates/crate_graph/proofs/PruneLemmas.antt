@@ -245,6 +245,9 @@ clean_from keep n (c ∷ cs) clean =
       | false ↦ later
     ]
 
+pub edges-kept : (keep : List ℕ) (crates : List CrateBuilder) → edges (kept_crates keep 0 crates) ≡ kept_rows keep 0 (edges crates)
+edges-kept keep crates = edges_from keep 0 crates
+
 pub well_made-kept : (old new : List CrateBuilder) (keep : List ℕ) (limit : ℕ) → new ≡ kept_crates keep 0 old → IsWellMade old limit → IsInRange (kept_rows keep 0 (edges old)) → IsAcyclic (kept_rows keep 0 (edges old)) → IsWellMade new limit
 well_made-kept old new keep limit is made in_range acyclic =
     let same : edges new ≡ kept_rows keep 0 (edges old) = ap edges is ∙ edges_from keep 0 old in

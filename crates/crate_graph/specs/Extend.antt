@@ -1,5 +1,5 @@
 -- A graph that takes another's crates in: each becomes the first equal one of the graph's old crates, or is appended.
-use Rattle.std.specs.Prelude.{◌≡◌, ℕ, ◌<◌, ◌≤◌, Bool, true, List, [], ◌∷◌, ◌++◌, map, fold, length, replicate, Option, Some, None, position, slice_get, slice_index_or, slice_set, take, unwrap_or, if◌then◌else◌, ◌==◌}
+use Rattle.std.specs.Prelude.{◌≡◌, ℕ, ◌-◌, ◌<◌, ◌≤◌, Bool, true, List, [], ◌∷◌, ◌++◌, map, fold, length, replicate, Option, Some, None, position, slice_get, slice_index_or, slice_set, take, unwrap_or, if◌then◌else◌, ◌==◌}
 use Rattle.std.specs.BTreeMap as tree
 use Rattle.std.specs.Option.{option_map, option_or}
 use Rattle.std.specs.Ordering.{nat_cmp}
@@ -8,6 +8,7 @@ use Rattle.base_text.specs.Arena.{number_of}
 use Rattle.base_values.specs.Sorted.{sorted}
 use Rattle.base_text.specs.declared.arena.Idx.{Idx}
 use Rattle.graph_base.specs.Finish.{IsFinishOrder}
+use Rattle.graph_order.specs.Order.{with_next_nodes}
 use Rattle.crate_graph.specs.Graph.{Graph, edges, target_of}
 use Rattle.crate_values.specs.Laws.{renamed_dependency}
 use Rattle.crate_values.specs.declared.builder.CrateBuilder.{CrateBuilder}
@@ -71,13 +72,14 @@ abbrev pub new_id : (Id → Id → Ordering) → tree.BTreeMap Id Id → Id → 
 new_id cmp ids id = unwrap_or (tree.get cmp ids id) id
 
 -- the graph took the other's crates in, in the order in which they are finished, and had room for them, under the same
--- limit; `new_of` gives their new numbers
+-- limit; those that were appended have the highest ranks, in that order; `new_of` gives their new numbers
 pub record Merges (eq : CrateBuilder → CrateBuilder → Bool) (old other new : Graph) (new_of : Id → Id) : Type 0 where
   pub order : List ℕ
   pub finish_order : IsFinishOrder (edges other.crates) order
   pub limit : new.limit ≡ old.limit
   pub crates : new.crates ≡ (merge_of eq old.crates other.crates order).crates
   pub room : length (merge_of eq old.crates other.crates order).crates ≤ old.limit
+  pub ranks : new.order ≡ with_next_nodes (length new.crates - length old.crates) old.order
   pub numbers : (id : Id) → number_of id < length other.crates → new_of id ≡ new_id_at (merge_of eq old.crates other.crates order).new_numbers id
 
 -- some crate would have been one more than the limit

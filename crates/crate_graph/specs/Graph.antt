@@ -5,6 +5,8 @@ use Rattle.base_text.specs.Arena.{number_of}
 use Rattle.base_text.specs.declared.arena.Idx.{Idx}
 use Rattle.graph_base.specs.Edges.{IsInRange}
 use Rattle.graph_base.specs.Reach.{IsAcyclic}
+use Rattle.graph_order.specs.Insertion.{MakesRoom}
+use Rattle.graph_order.specs.Order.{IsOrderOf, Ranking, with_next_node}
 use Rattle.crate_values.specs.Laws.{HasCleanPath}
 use Rattle.crate_values.specs.declared.builder.CrateBuilder.{CrateBuilder}
 use Rattle.crate_values.specs.declared.crate_data.Dependency.{Dependency}
@@ -30,19 +32,26 @@ pub record IsWellMade (crates : List CrateBuilder) (limit : ℕ) : Type 0 where
   pub acyclic : IsAcyclic (edges crates)
   pub clean : All (λ krate. HasCleanPath krate.basic) crates
 
--- a graph: the limit of its crates, and the crates, each under its number
+-- a graph: the limit of its crates, the crates, each under its number, and the order of their ranks
 pub record Graph : Type 0 where
   pub limit : ℕ
   pub crates : List CrateBuilder
+  pub order : Ranking
+
+-- what every graph keeps with its ranks: each crate has one, and each dependency leads to a lower one
+pub record IsRanked (graph : Graph) : Type 0 where
+  pub well_made : IsWellMade graph.crates graph.limit
+  pub ranks : IsOrderOf graph.order (edges graph.crates)
 
 -- an attribute as code has it
 abbrev pub attribute : List ℕ → List ℕ
 attribute text = codes "#![" ++ text ++ codes "]"
 
--- the new graph has one more crate, behind the others, and the same limit
+-- the new graph has one more crate, behind the others, which has the highest rank, and the same limit
 pub record AddsCrate (old new : Graph) (krate : CrateBuilder) : Type 0 where
   pub limit : new.limit ≡ old.limit
   pub crates : new.crates ≡ old.crates ++ krate ∷ []
+  pub order : new.order ≡ with_next_node old.order
 
 -- the crate with one more dependency, behind those that it had
 abbrev pub with_dependency : CrateBuilder → Dependency (Idx CrateTag) → CrateBuilder
@@ -52,7 +61,9 @@ with_dependency krate dep = record krate { basic = record krate.basic { dependen
 abbrev pub HasDependency : List CrateBuilder → List CrateBuilder → ℕ → Dependency (Idx CrateTag) → Type 0
 HasDependency old new from dep = (krate : CrateBuilder) → slice_get old from ≡ Some krate → new ≡ slice_set old from (with_dependency krate dep)
 
--- the new graph has the dependency, and all else of its crates and its limit is that of the old one
+-- the new graph has the dependency, and all else of its crates and its limit is that of the old one; of the ranks only
+-- those from the source's up to the target's may change
 pub record AddsDependency (old new : Graph) (from : ℕ) (dep : Dependency (Idx CrateTag)) : Type 0 where
   pub limit : new.limit ≡ old.limit
   pub crates : HasDependency old.crates new.crates from dep
+  pub order : MakesRoom (edges old.crates) from (target_of dep) old.order new.order

@@ -4,6 +4,7 @@ use Rattle.base_text.specs.Arena.{number_of}
 use Rattle.base_text.specs.declared.arena.Idx.{Idx}
 use Rattle.graph_base.specs.Edges.{HasEdge}
 use Rattle.graph_base.specs.Kept.{is_named, kept_below}
+use Rattle.graph_order.specs.Suborder.{kept_nodes}
 use Rattle.crate_graph.specs.Graph.{Graph}
 use Rattle.crate_values.specs.Laws.{renamed_crate}
 use Rattle.crate_values.specs.declared.builder.CrateBuilder.{CrateBuilder}
@@ -22,10 +23,12 @@ abbrev pub kept_crates : List ℕ → ℕ → List CrateBuilder → List CrateBu
 kept_crates keep n [] = []
 kept_crates keep n (c ∷ cs) = if is_named keep n then renumbered_crate (kept_below keep) c ∷ kept_crates keep (suc n) cs else kept_crates keep (suc n) cs
 
--- the new graph has the named crates alone, numbered anew in their order, and the same limit
+-- the new graph has the named crates alone, numbered anew in their order, which keep the order of their ranks, and the
+-- same limit
 pub record KeepsNamed (old new : Graph) (keep : List ℕ) : Type 0 where
   pub limit : new.limit ≡ old.limit
   pub crates : new.crates ≡ kept_crates keep 0 old.crates
+  pub order : new.order.nodes ≡ kept_nodes keep old.order.nodes
 
 -- the new number of a crate, where it is kept
 abbrev pub new_number : List ℕ → ℕ → Option ℕ

@@ -1,7 +1,7 @@
 //! A graph of crates that is being built. No crate depends on itself, over whatever others.
 
-ghost use Rattle.std.specs.Prelude.{◌≡◌, ◌↔◌, ◌<◌, ◌≤◌, [], ◌∷◌, ◌++◌, Some, length, map, string_bytes};
-ghost use Rattle.std.specs.Prelude.{IfOk, IsErrOf, OnErr, OnOk, IsTrue, slice_get};
+ghost use Rattle.std.specs.Prelude.{◌≡◌, ◌↔◌, ◌+◌, ◌<◌, ◌≤◌, ◌^◌, [], ◌∷◌, ◌++◌, Some, length, map};
+ghost use Rattle.std.specs.Prelude.{IfOk, IsErrOf, OnErr, OnOk, IsTrue, slice_get, slice_index, string_bytes};
 ghost use Rattle.std.specs.Iterator.{YieldsFirstBy, item_count};
 ghost use Rattle.std.specs.List.{range_with_len};
 ghost use Rattle.std.specs.Option.{option_map};
@@ -9,6 +9,8 @@ ghost use Rattle.base_text.specs.Arena.{number_of};
 ghost use Rattle.graph_base.specs.Reach.{IsAcyclic};
 ghost use Rattle.crate_values.specs.Builder.{crate_of};
 ghost use Rattle.crate_graph.specs.Graph.{AddsCrate, IsWellMade, attribute, edges};
+ghost use Rattle.graph_order.specs.Order.{IsOrderOf, empty_order, with_next_node};
+ghost use Rattle.std.specs.Vec.{vec_capacity, vec_len};
 
 mod add_dep;
 mod copies;
@@ -23,6 +25,7 @@ use crate_values::{
     Env, ExtraCrateData, TargetKind,
 };
 use graph_base::Graph;
+use graph_order::Order;
 use std::alloc::{AllocError, Global};
 use std::error::Error;
 use std::fmt;
@@ -67,6 +70,7 @@ impl From<AllocError> for GraphError {
 #[derive(Drop)]
 pub struct CrateGraphBuilder {
     crates: Vec<CrateBuilder>,
+    order: Order,
     limit: u32,
 }
 
@@ -75,9 +79,10 @@ impl Model for CrateGraphBuilder {
 
     ghost Value = { seen.Graph };
 
-    ghost view = { λ a. record { limit = a.limit; crates = a.crates.items } };
+    ghost view = { λ a. record { limit = a.limit; crates = a.crates.items; order = a.order } };
 
-    ghost invariant = { λ a. seen.IsWellMade a.crates.items a.limit };
+    ghost invariant = { λ a. seen.IsRanked
+        (record { limit = a.limit; crates = a.crates.items; order = a.order }) };
 }
 
 impl CrateGraphBuilder {
@@ -85,9 +90,11 @@ impl CrateGraphBuilder {
     pub fn new(alloc: Global, limit: u32) -> Self
         ensures limit { result.limit ≡ limit }
         ensures crates { result.crates ≡ [] }
+        ensures order { result.order ≡ empty_order }
     {
         CrateGraphBuilder {
             crates: Vec::new(alloc),
+            order: Order::new(alloc),
             limit,
         }
     }
@@ -107,6 +114,16 @@ impl CrateGraphBuilder {
         (id.into_raw() as usize) < self.crates.len()
     }
 
+    /// The rank of a crate. The ranks are the numbers below the number of crates, each once, and a crate has
+    /// a higher rank than each that it depends on.
+    pub fn rank(&self, id: CrateBuilderId) -> u32
+        requires { number_of id < length self.now.crates }
+        ensures rank { result ≡ slice_index self.now.order.ranks (number_of id) }
+        ensures order { IsOrderOf self.now.order (edges self.now.crates) }
+    {
+        self.order.rank(id.into_raw())
+    }
+
     /// The numbers of the crates, in order.
     pub fn iter(&self) -> CrateIds
         ensures { result ≡ range_with_len 0 (length self.now.crates) }
@@ -124,8 +141,8 @@ impl CrateGraphBuilder {
         self.crates.shrink_to_fit();
     }
 
-    /// Puts a crate in that depends on nothing yet, under the next number. Each attribute is
-    /// given without its `#![]`.
+    /// Puts a crate in that depends on nothing yet, under the next number and with the highest rank. Each
+    /// attribute is given without its `#![]`.
     pub fn add_crate_root(
         &mut self,
         root_file_id: FileId,
@@ -159,11 +176,8 @@ impl CrateGraphBuilder {
         ensures too_many { IsErrOf result GraphError.TooMany
             ↔ (length self.old.crates ≡ self.old.limit) }
     {
-        if self.crates.len() >= self.limit as usize {
-            return Err(GraphError::TooMany);
-        }
+        let crate_attrs = make_room(&mut self.crates, &mut self.order, self.limit, crate_attrs)?;
         let alloc = *self.crates.allocator();
-        let crate_attrs = attributes(alloc, crate_attrs)?;
         let basic = CrateData {
             root_file_id,
             edition,
@@ -181,18 +195,47 @@ impl CrateGraphBuilder {
         let ws_data = Shared::new(ws_data);
         let krate = CrateBuilder::new(basic, extra, cfg_options, env, ws_data);
         let id = CrateBuilderId::from_raw(self.crates.len() as u32);
-        put(&mut self.crates, krate)?;
+        put(&mut self.crates, krate);
         Ok(id)
     }
 }
 
-// Puts a crate behind the others.
-fn put(crates: &mut Vec<CrateBuilder>, krate: CrateBuilder) -> Result<(), AllocError>
-    ensures ok { OnOk result (crates.new.items ≡ crates.old.items ++ krate ∷ []) }
-    ensures err { OnErr result (crates.new.items ≡ crates.old.items) }
+// Makes room for one more crate within the limit, ranks it above the others, and gives its attributes.
+fn make_room(
+    crates: &mut Vec<CrateBuilder>,
+    order: &mut Order,
+    limit: u32,
+    crate_attrs: Vec<String>,
+) -> Result<Items<Text>, GraphError>
+    requires { length crates.old.items < limit → length order.old.nodes + 1 < 2 ^ 32 }
+    ensures attributes { IfOk result (λ made. made
+        ≡ map (λ text. attribute (string_bytes text)) crate_attrs.items) }
+    ensures crates { crates.new.items ≡ crates.old.items }
+    ensures room { OnOk result ((length crates.old.items < limit)
+        × (vec_len crates.new < vec_capacity crates.new)) }
+    ensures ok { OnOk result (order.new ≡ with_next_node order.old) }
+    ensures err { OnErr result (order.new ≡ order.old) }
+    ensures too_many { IsErrOf result GraphError.TooMany ↔ (limit ≤ length crates.old.items) }
 {
-    crates.push(krate)?;
-    Ok(())
+    if crates.len() >= limit as usize {
+        return Err(GraphError::TooMany);
+    }
+    let alloc = *crates.allocator();
+    let crate_attrs = attributes(alloc, crate_attrs)?;
+    crates.reserve(1)?;
+    order.push()?;
+    Ok(crate_attrs)
+}
+
+// Puts a crate behind the others, where there is room for it.
+fn put(crates: &mut Vec<CrateBuilder>, krate: CrateBuilder)
+    requires { vec_len crates.old < vec_capacity crates.old }
+    ensures { crates.new.items ≡ crates.old.items ++ krate ∷ [] }
+{
+    match crates.push(krate) {
+        Ok(_) => {}
+        Err(_) => unreachable!(),
+    }
 }
 
 // Each attribute in its `#![]`.

@@ -84,11 +84,11 @@ impl CrateBuilder {
 
 impl TryClone for CrateBuilder {
     fn try_clone(&self, alloc: Global) -> Result<Self, AllocError> {
-        let basic = self.basic.try_clone(alloc)?;
-        let extra = self.extra.try_clone(alloc)?;
-        let cfg_options = self.cfg_options.try_clone(alloc)?;
-        let env = self.env.try_clone(alloc)?;
         let ws_data = self.ws_data.try_clone(alloc)?;
+        let env = self.env.try_clone(alloc)?;
+        let cfg_options = self.cfg_options.try_clone(alloc)?;
+        let extra = self.extra.try_clone(alloc)?;
+        let basic = self.basic.try_clone(alloc)?;
         Ok(CrateBuilder {
             basic,
             extra,

@@ -122,9 +122,9 @@ pub type CrateDataBuilder = CrateData<CrateBuilderId>;
 impl<Id: Copy> TryClone for CrateData<Id> {
     fn try_clone(&self, alloc: Global) -> Result<Self, AllocError> {
         let dependencies = self.dependencies.try_clone(alloc)?;
-        let origin = self.origin.try_clone(alloc)?;
         let crate_attrs = self.crate_attrs.try_clone(alloc)?;
         let proc_macro_cwd = self.proc_macro_cwd.try_clone(alloc)?;
+        let origin = self.origin.try_clone(alloc)?;
         Ok(CrateData {
             root_file_id: self.root_file_id,
             edition: self.edition,

@@ -1,12 +1,13 @@
 -- The nodes of a band under their new ranks make an order again.
-use Rattle.std.proofs.Common.{◌≡◌, ℕ, ◌+◌, ◌-◌, ◌<◌, ◌≤◌, ◌^◌, ◌⊎◌, inl, inr, List, length, get_or, drop, sym, ap, ◌∙◌, subst, arith, length-drop}
+use Rattle.std.proofs.Common.{◌≡◌, ℕ, ◌+◌, ◌-◌, ◌<◌, ◌≤◌, ◌^◌, ◌⊎◌, inl, inr, List, length, get_or, drop, refl, sym, ap, ◌∙◌, subst, arith, length-drop}
 use Rattle.std.specs.Prelude.{slice_range}
 use Rattle.std.proofs.lemmas.Bool.{cases_lt}
 use Rattle.std.proofs.lemmas.Bool.Decides.{nat_tests}
+use Rattle.std.proofs.lemmas.Grind.{same_number_lists}
 use Rattle.std.proofs.lemmas.List.{get_or-drop, get_or-take, length-take-le}
 use Rattle.graph_order.specs.Band.{Links}
 use Rattle.graph_order.specs.Order.{IsOrder, Ranking}
-use Rattle.graph_order.specs.Placing.{AreOffsets, CanPlace, IsReordered, Places, new_offset, new_rank}
+use Rattle.graph_order.specs.Placing.{AreOffsets, CanPlace, FitsOrder, IsPlacementOf, IsReordered, Placement, Places, Rearranges, new_offset, new_rank, no_placement}
 use Rattle.graph_order.proofs.OffsetLemmas.{each_offset, offset_within, offsets_differ}
 
 -- ---- the new rank of a rank, by where it is
@@ -36,7 +37,7 @@ band_at nodes low count k inside =
     let within : k < low + count - low = omega arith in
     get_or-take (low + count - low) (drop low nodes) k 0 within ∙ get_or-drop low nodes k 0
 
-pub can_place : (old : Ranking) (links : Links) (low : ℕ) (band offsets : List ℕ) → IsOrder old → low + length links ≤ length old.nodes
+can_place : (old : Ranking) (links : Links) (low : ℕ) (band offsets : List ℕ) → IsOrder old → low + length links ≤ length old.nodes
     → band ≡ slice_range old.nodes low (low + length links) → AreOffsets links (length links) offsets
     → CanPlace low band offsets (length old.ranks) (length old.nodes)
 can_place old links low band offsets order fits is made =
@@ -100,7 +101,7 @@ placed old new links low band offsets order fits is made p =
           elim out [ inl low_out ↦ omega (arith, same, low_out) | inr high_out ↦ omega (arith, same, high_out, made.each k inside, offset) ]);
     }
 
-pub reordered : (old new : Ranking) (links : Links) (low : ℕ) (band offsets : List ℕ) → IsOrder old → low + length links ≤ length old.nodes
+reordered : (old new : Ranking) (links : Links) (low : ℕ) (band offsets : List ℕ) → IsOrder old → low + length links ≤ length old.nodes
     → band ≡ slice_range old.nodes low (low + length links) → AreOffsets links (length links) offsets
     → Places low band offsets (length band) old.ranks old.nodes new.ranks new.nodes → IsReordered links low old new
 reordered old new links low band offsets order fits is made p =
@@ -158,3 +159,37 @@ reordered old new links low band offsets order fits is made p =
         ];
       };
     }
+
+-- ---- placements
+
+-- where no node is placed, nothing changes
+pub unmoved : (old new : Ranking) → Rearranges no_placement old new → new ≡ old
+unmoved old new r =
+    let ranks : new.ranks ≡ old.ranks = same_number_lists new.ranks old.ranks r.long_ranks (λ k within. r.other_ranks k (λ j below. absurd (omega (arith, below)))) in
+    let nodes : new.nodes ≡ old.nodes = same_number_lists new.nodes old.nodes r.long_nodes (λ k within. r.other_nodes k (λ j below. absurd (omega (arith, below)))) in
+    λ i. record { ranks = ranks i; nodes = nodes i }
+
+pub none_fits : (order : Ranking) → IsOrder order → FitsOrder no_placement order
+none_fits order is = record {
+  places = record {
+    long = refl;
+    short = is.short;
+    band_within = λ k below. absurd (omega (arith, below));
+    ranks_within = λ k below. absurd (omega (arith, below));
+    band_once = λ j k before below. absurd (omega (arith, below));
+    offsets_once = λ j k before below. absurd (omega (arith, below));
+  };
+  order = λ new r. subst IsOrder (sym (unmoved order new r)) is;
+}
+
+module _ (old : Ranking) (links : Links) (low : ℕ) (order : IsOrder old) (fits : low + length links ≤ length old.nodes) (p : Placement) (is : IsPlacementOf links low old p) where
+  pub placement_reorders : (new : Ranking) → Rearranges p old new → IsReordered links low old new
+  placement_reorders new r =
+      reordered old new links low p.band p.offsets order fits is.band is.offsets
+      (subst (λ n. Places n p.band p.offsets (length p.band) old.ranks old.nodes new.ranks new.nodes) is.low_is r)
+
+  pub placement_fits : FitsOrder p old
+  placement_fits = record {
+    places = subst (λ n. CanPlace n p.band p.offsets (length old.ranks) (length old.nodes)) (sym is.low_is) (can_place old links low p.band p.offsets order fits is.band is.offsets);
+    order = λ new r. (placement_reorders new r).order;
+  }

@@ -5,15 +5,15 @@ use Rattle.graph_base.specs.Edges.{HasEdge, IsInRange}
 use Rattle.graph_base.specs.Reach.{Reaches}
 use Rattle.graph_base.proofs.KeptLemmas.{edge_within}
 use Rattle.graph_order.specs.Band.{IsSearched, Links, link_at}
-use Rattle.graph_order.specs.Insertion.{MakesRoom}
+use Rattle.graph_order.specs.Insertion.{GivesRoom, MakesRoom}
 use Rattle.graph_order.specs.Order.{Descends, IsOrder, Ranking}
-use Rattle.graph_order.specs.Placing.{IsReordered, new_offset}
+use Rattle.graph_order.specs.Placing.{IsPlacementOf, IsReordered, Placement, new_offset, no_placement}
 use Rattle.graph_order.proofs.BandLemmas.{linked_reaches, reaches_falls}
 use Rattle.graph_order.proofs.OffsetLemmas.{linked_or_not, offset_within, offsets_apart, offsets_no, offsets_yes}
-use Rattle.graph_order.proofs.PlacingLemmas.{new_rank_above, new_rank_below, new_rank_inside}
+use Rattle.graph_order.proofs.PlacingLemmas.{new_rank_above, new_rank_below, new_rank_inside, none_fits, placement_fits, placement_reorders, unmoved}
 
 -- an edge that leads down already
-pub room_already : (g : List (List ℕ)) (order : Ranking) (from to : ℕ) → Descends order.ranks g → get_or order.ranks to 0 < get_or order.ranks from 0 → MakesRoom g from to order order
+room_already : (g : List (List ℕ)) (order : Ranking) (from to : ℕ) → Descends order.ranks g → get_or order.ranks to 0 < get_or order.ranks from 0 → MakesRoom g from to order order
 room_already g order from to down lower = record {
   count = refl;
   room = lower;
@@ -23,6 +23,12 @@ room_already g order from to down lower = record {
   first = λ m n between_m between_n reached apart. absurd (omega (arith, between_m.1, between_m.2, lower));
   reached_order = λ m n between_m between_n reached_m reached_n before. before;
   other_order = λ m n between_m between_n apart_m apart_n before. before;
+}
+
+pub gives_none : (g : List (List ℕ)) (order : Ranking) (from to : ℕ) → IsOrder order → Descends order.ranks g → get_or order.ranks to 0 < get_or order.ranks from 0 → GivesRoom g from to order no_placement
+gives_none g order from to is down lower = record {
+  fits = none_fits order is;
+  room = λ new r. subst (MakesRoom g from to order) (sym (unmoved order new r)) (room_already g order from to down lower);
 }
 
 pub apart_already : (g : List (List ℕ)) (order : Ranking) (from to : ℕ) → Descends order.ranks g → get_or order.ranks to 0 < get_or order.ranks from 0 → Reaches g to from → ⊥
@@ -63,7 +69,7 @@ module _ (g : List (List ℕ)) (old : Ranking) (from to : ℕ) (links : Links)
     | inr is ↦ is
   ]
 
-  pub room_made : (new : Ranking) → IsReordered links low old new → is_some (link_at links 0) ≡ false → MakesRoom g from to old new
+  room_made : (new : Ranking) → IsReordered links low old new → is_some (link_at links 0) ≡ false → MakesRoom g from to old new
   room_made new r free =
       let at : (n : ℕ) → n < length old.nodes → low ≤ get_or old.ranks n 0 → get_or old.ranks n 0 ≤ get_or old.ranks to 0
       → get_or new.ranks n 0 ≡ low + new_offset links (get_or old.ranks n 0 - low) =
@@ -128,6 +134,14 @@ module _ (g : List (List ℕ)) (old : Ranking) (from to : ℕ) (links : Links)
             let less = offsets_no links (get_or old.ranks m 0 - low) (get_or old.ranks n 0 - low) (omega (arith, before, between_m.1)) (omega (arith, s.long, between_n.1, between_n.2))
             (unlinked m between_m.0 between_m.1 between_m.2 apart_m) (unlinked n between_n.0 between_n.1 between_n.2 apart_n) in
             omega (arith, at m between_m.0 between_m.1 between_m.2, at n between_n.0 between_n.1 between_n.2, less);
+      }
+
+  pub gives_placement : (p : Placement) → IsPlacementOf links low old p → is_some (link_at links 0) ≡ false → GivesRoom g from to old p
+  gives_placement p is free =
+      let fits : low + length links ≤ length old.nodes = omega (arith, s.long, order.ranks_within to to_there) in
+      record {
+        fits = placement_fits old links low order fits p is;
+        room = λ new r. room_made new (placement_reorders old links low order fits p is new r) free;
       }
 
   pub apart_from : is_some (link_at links 0) ≡ false → Reaches g to from → ⊥

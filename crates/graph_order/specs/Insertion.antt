@@ -2,6 +2,7 @@
 use Rattle.std.specs.Prelude.{◌≡◌, ℕ, ◌+◌, ◌-◌, ◌<◌, ◌≤◌, List, length, slice_index}
 use Rattle.graph_base.specs.Reach.{Reaches}
 use Rattle.graph_order.specs.Order.{Descends, Ranking}
+use Rattle.graph_order.specs.Placing.{FitsOrder, Placement, Rearranges}
 
 -- the rank of a node lies between those of two others, or is one of them
 abbrev pub IsBetween : Ranking → ℕ → ℕ → ℕ → Type 0
@@ -22,6 +23,11 @@ pub record MakesRoom (g : List (List ℕ)) (from to : ℕ) (old new : Ranking) :
       → slice_index old.ranks m < slice_index old.ranks n → slice_index new.ranks m < slice_index new.ranks n
   pub other_order : (m n : ℕ) → IsBetween old from to m → IsBetween old from to n → (Reaches g to m → ⊥) → (Reaches g to n → ⊥)
       → slice_index old.ranks m < slice_index old.ranks n → slice_index new.ranks m < slice_index new.ranks n
+
+-- with its nodes placed so, an order is one that has room for an edge
+pub record GivesRoom (g : List (List ℕ)) (from to : ℕ) (order : Ranking) (p : Placement) : Type 0 where
+  pub fits : FitsOrder p order
+  pub room : (new : Ranking) → Rearranges p order new → MakesRoom g from to order new
 
 -- how many nodes a search visits at most: none where the edge leads down already
 abbrev pub most_visits : Ranking → ℕ → ℕ → ℕ

@@ -1,5 +1,6 @@
 -- An order of the nodes of a graph: each node has a rank, and each edge leads from a higher rank to a lower one.
 use Rattle.std.specs.Prelude.{◌≡◌, ℕ, ◌<◌, ◌^◌, List, [], ◌∷◌, ◌++◌, length, slice_index}
+use Rattle.std.specs.List.{range_with_len}
 use Rattle.graph_base.specs.Edges.{HasEdge, IsInRange}
 
 -- the rank of each node, and the node of each rank
@@ -16,6 +17,13 @@ abbrev pub with_next_node : Ranking → Ranking
 with_next_node order = record {
   ranks = order.ranks ++ length order.nodes ∷ [];
   nodes = order.nodes ++ length order.nodes ∷ [];
+}
+
+-- the next nodes have the highest ranks, in the order of their numbers
+abbrev pub with_next_nodes : ℕ → Ranking → Ranking
+with_next_nodes count order = record {
+  ranks = order.ranks ++ range_with_len (length order.nodes) count;
+  nodes = order.nodes ++ range_with_len (length order.nodes) count;
 }
 
 -- the ranks are the numbers below the count of nodes, each once

@@ -5,6 +5,8 @@
 mod band;
 mod insertion;
 pub mod order;
-mod placing;
+pub mod placing;
+mod suborder;
 
 pub use order::Order;
+pub use placing::Placement;

@@ -1,8 +1,9 @@
 //! The order itself: the rank of each node, and the node of each rank.
 
 ghost use Rattle.std.specs.Prelude.{◌≡◌, ◌+◌, ◌<◌, ◌^◌, length, slice_index, IfOk, OnErr, OnOk};
-ghost use Rattle.graph_order.specs.Order.{IsOrder, empty_order, with_next_node};
+ghost use Rattle.graph_order.specs.Order.{IsOrder, empty_order, with_next_node, with_next_nodes};
 
+use base_values::TryClone;
 use std::alloc::{AllocError, Global};
 use std::marker::Model;
 
@@ -76,5 +77,25 @@ impl Order {
             Err(_) => unreachable!(),
         }
         Ok(())
+    }
+
+    /// The order with so many more nodes, which get the highest ranks in the order of their numbers.
+    pub fn with_next_nodes(&self, alloc: Global, count: usize) -> Result<Order, AllocError>
+        requires { length self.now.nodes + count < 2 ^ 32 }
+        ensures { IfOk result (λ order. order ≡ with_next_nodes count self.now) }
+    {
+        let mut order = self.try_clone(alloc)?;
+        for _ in 0..count {
+            order.push()?;
+        }
+        Ok(order)
+    }
+}
+
+impl TryClone for Order {
+    fn try_clone(&self, alloc: Global) -> Result<Self, AllocError> {
+        let ranks = self.ranks.to_vec(alloc)?;
+        let nodes = self.nodes.to_vec(alloc)?;
+        Ok(Order { ranks, nodes })
     }
 }

@@ -1,11 +1,13 @@
 //! New ranks for the nodes of a band: those that a search linked go first, and the others after them.
 
-ghost use Rattle.std.specs.Prelude.{◌≡◌, ◌+◌, ◌≤◌, length, slice_range, is_some, IfOk, OnErr, OnOk};
+ghost use Rattle.std.specs.Prelude.{◌≡◌, ◌+◌, ◌≤◌, length, slice_range, is_some, IfOk};
 ghost use Rattle.std.specs.List.{count_by};
-ghost use Rattle.graph_order.specs.Placing.{AreOffsets, CanPlace, IsReordered, Places};
+ghost use Rattle.graph_order.specs.Placing.{AreOffsets, CanPlace, FitsOrder, IsPlacementOf};
+ghost use Rattle.graph_order.specs.Placing.{Places, Rearranges, no_placement};
 
 use crate::order::Order;
 use std::alloc::{AllocError, Global};
+use std::marker::Model;
 
 // How many offsets are linked.
 fn linked(links: &[Option<usize>]) -> usize
@@ -72,27 +74,62 @@ fn place(
     }
 }
 
+/// The nodes of a band of ranks, each with its new offset in the band.
+#[derive(Drop)]
+pub struct Placement {
+    low: usize,
+    band: Vec<u32>,
+    offsets: Vec<usize>,
+}
+
+impl Model for Placement {
+    ghost use Rattle.graph_order.specs.Placing as seen;
+
+    ghost Value = { seen.Placement };
+
+    ghost view = { λ a. record { low = a.low; band = a.band.items; offsets = a.offsets.items } };
+}
+
+impl Placement {
+    // No node changes its rank.
+    pub(crate) fn none(alloc: Global) -> Placement
+        ensures { result ≡ no_placement }
+    {
+        Placement {
+            low: 0,
+            band: Vec::new(alloc),
+            offsets: Vec::new(alloc),
+        }
+    }
+}
+
 impl Order {
-    // Puts the linked nodes of a band below the others.
-    pub(crate) fn reorder(
-        &mut self,
+    // The linked nodes of a band go below its others.
+    pub(crate) fn placement(
+        &self,
         alloc: Global,
         low: usize,
         links: &[Option<usize>],
-    ) -> Result<(), AllocError>
-        requires { low + length links.now ≤ length self.old.nodes }
-        ensures ok { OnOk result (IsReordered links.now low self.old self.new) }
-        ensures err { OnErr result (self.new ≡ self.old) }
+    ) -> Result<Placement, AllocError>
+        requires { low + length links.now ≤ length self.now.nodes }
+        ensures { IfOk result (IsPlacementOf links.now low self.now) }
     {
         let offsets = new_offsets(alloc, links)?;
         let band = nodes_between(alloc, &self.nodes, low, low + links.len())?;
+        Ok(Placement { low, band, offsets })
+    }
+
+    /// Gives the nodes of a placement their new ranks.
+    pub fn apply(&mut self, placement: Placement)
+        requires { FitsOrder placement self.old }
+        ensures { Rearranges placement self.old self.new }
+    {
         place(
             &mut self.ranks,
             &mut self.nodes,
-            low,
-            band.as_slice(),
-            offsets.as_slice(),
+            placement.low,
+            &placement.band,
+            &placement.offsets,
         );
-        Ok(())
     }
 }

@@ -14,16 +14,16 @@ ghost use Rattle.trees.specs.Tree.{entry_name, entry_names, file_text, holds_pat
 
 use crate::tree::Tree;
 use base_text::paths::is_component;
-use base_text::{AbsPath, AbsPathBuf, Items, Text, TryClone};
+use base_text::{AbsPath, AbsPathBuf, Items, SharedText, Text, TryClone};
 use std::alloc::{AllocError, Global};
 use std::collections::BTreeMap;
 use std::marker::Model;
 
-/// A tree in memory, seen as its files in the order of their paths.
+/// A tree in memory, seen as its files in the order of their paths. A copy shares their texts.
 #[derive(Drop)]
 pub struct MemoryTree {
     alloc: Global,
-    files: BTreeMap<AbsPathBuf, Text>,
+    files: BTreeMap<AbsPathBuf, SharedText>,
 }
 
 impl Model for MemoryTree {
@@ -45,8 +45,21 @@ impl MemoryTree {
         }
     }
 
-    /// Puts a file at the normal path, in place of an earlier one.
+    /// Puts a file with a copy of a text at the normal path, in place of an earlier one.
     pub fn insert(&mut self, path: AbsPathBuf, text: Text) -> Result<(), AllocError>
+        ensures ok { OnOk result (self.new ≡ with_file path text self.old) }
+        ensures last_counts { OnOk result ((asked : List ℕ) → file_text self.new asked
+            ≡ (if is_same_file asked path then Some text else file_text self.old asked)) }
+        ensures one_more { OnOk result ((asked : List ℕ) → holds_path self.new asked
+            ≡ (is_prefix (normal asked) (normal path) || holds_path self.old asked)) }
+        ensures err { OnErr result (self.new ≡ self.old) }
+    {
+        let text = SharedText::of_str(self.alloc, text.as_str())?;
+        self.insert_shared(path, text)
+    }
+
+    /// Puts a file at the normal path, in place of an earlier one. Its text stays shared.
+    pub fn insert_shared(&mut self, path: AbsPathBuf, text: SharedText) -> Result<(), AllocError>
         ensures ok { OnOk result (self.new ≡ with_file path text self.old) }
         ensures last_counts { OnOk result ((asked : List ℕ) → file_text self.new asked
             ≡ (if is_same_file asked path then Some text else file_text self.old asked)) }
@@ -159,7 +172,7 @@ impl Tree for MemoryTree {
     {
         let file = path.normalize(alloc)?;
         match self.files.get(&file) {
-            Some(text) => Ok(Some(text.try_clone(alloc)?)),
+            Some(text) => Ok(Some(Text::of_str(alloc, text.as_str())?)),
             None => Ok(None),
         }
     }

@@ -1,8 +1,10 @@
-//! A dependency is added where it closes no cycle: a search from its target decides.
+//! A dependency is added where it closes no cycle. The ranks of its two crates often tell; else a search
+//! among the ranks between them decides.
 
-ghost use Rattle.std.specs.Prelude.{◌≡◌, ◌<◌, [], ◌∷◌, ◌++◌, length, map, IfErr, IfOk, OnErr, OnOk};
+ghost use Rattle.std.specs.Prelude.{◌≡◌, ◌+◌, ◌<◌, ◌≤◌, [], ◌∷◌, ◌++◌, length, map, IfErr, IfOk, OnErr, OnOk};
 ghost use Rattle.base_text.specs.Arena.{number_of};
 ghost use Rattle.graph_base.specs.Reach.{IsPathBack, Reaches};
+ghost use Rattle.graph_order.specs.Insertion.{most_visits};
 ghost use Rattle.crate_graph.specs.Cyclic.{names, numbers, shown_of};
 ghost use Rattle.crate_graph.specs.Refused.{IfCyclic};
 ghost use Rattle.crate_graph.specs.Graph.{AddsDependency, HasDependency, edges, target_of};
@@ -11,6 +13,7 @@ use crate::cyclic::{AddDepError, CyclicDependenciesError};
 use crate::graph::CrateGraphBuilder;
 use base_text::Items;
 use crate_values::{CrateBuilder, CrateBuilderId, DependencyBuilder};
+use outside::{Counter, Ledger, Steps};
 use std::alloc::{AllocError, Global};
 use std::mem;
 
@@ -34,14 +37,42 @@ impl CrateGraphBuilder {
         ensures names { IfErr result (λ e. IfCyclic e
             (λ path. names path ≡ map (shown_of self.old.crates) (numbers path))) }
     {
+        let mut steps = Steps {
+            ledger: Counter::new(),
+        };
+        self.add_dep_counted(from, dep, &mut steps)
+    }
+
+    /// `add_dep`, where each crate that the search visits is a step: none where the ranks show that the
+    /// dependency closes no cycle, and else at most those with a rank from `from`'s up to that of its target.
+    pub fn add_dep_counted<L: Ledger>(
+        &mut self,
+        from: CrateBuilderId,
+        dep: DependencyBuilder,
+        steps: &mut Steps<L>,
+    ) -> Result<(), AddDepError>
+        requires from { number_of from < length self.old.crates }
+        requires to { target_of dep < length self.old.crates }
+        ensures added { OnOk result (AddsDependency self.old self.new (number_of from) dep) }
+        ensures apart { OnOk result
+            (Reaches (edges self.old.crates) (target_of dep) (number_of from) → ⊥) }
+        ensures unchanged { OnErr result (self.new ≡ self.old) }
+        ensures path { IfErr result (λ e. IfCyclic e (λ path.
+            IsPathBack (edges self.old.crates) (numbers path) (number_of from) (target_of dep))) }
+        ensures names { IfErr result (λ e. IfCyclic e
+            (λ path. names path ≡ map (shown_of self.old.crates) (numbers path))) }
+        ensures steps { L.count steps.new.ledger ≤ L.count steps.old.ledger
+            + most_visits self.old.order (number_of from) (target_of dep) }
+    {
         let alloc = *self.crates.allocator();
-        let found = graph_base::path_back(alloc, self, from.into_raw(), dep.crate_id.into_raw())?;
-        match found {
-            Some(path) => Err(self.cyclic(alloc, &path)),
-            None => {
+        let (source, target) = (from.into_raw(), dep.crate_id.into_raw());
+        match self.order.room_for(alloc, self, source, target, steps)? {
+            Ok(placement) => {
                 append(alloc, &mut self.crates, from, dep)?;
+                self.order.apply(placement);
                 Ok(())
             }
+            Err(path) => Err(self.cyclic(alloc, &path)),
         }
     }
 

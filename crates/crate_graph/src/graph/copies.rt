@@ -6,9 +6,11 @@ use std::alloc::{AllocError, Global};
 
 impl TryClone for CrateGraphBuilder {
     fn try_clone(&self, alloc: Global) -> Result<Self, AllocError> {
+        let order = self.order.try_clone(alloc)?;
         let crates = copy_items(alloc, &self.crates)?;
         Ok(CrateGraphBuilder {
             crates,
+            order,
             limit: self.limit,
         })
     }

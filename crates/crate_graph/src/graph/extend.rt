@@ -9,6 +9,7 @@ ghost use Rattle.crate_graph.specs.Extend.{HoldsBoth, Id, Merges, PassesLimit, m
 
 mod macros;
 mod merge;
+mod places;
 
 use crate::graph::renaming::ids_of_numbers;
 use crate::graph::{CrateGraphBuilder, GraphError};
@@ -51,9 +52,12 @@ impl CrateGraphBuilder {
     {
         let order = graph_base::finish_order(alloc, &other)?;
         let merge = merge::join(alloc, self.limit, &self.crates, &other.crates, &order)?;
+        let more = merge.len() - self.crates.len();
+        let ranks = self.order.with_next_nodes(alloc, more)?;
         let ids = ids_of_numbers(alloc, merge.new_numbers())?;
         let macros = macros::renumber_macros(alloc, merge.new_numbers(), proc_macros)?;
         self.crates = merge.into_crates();
+        self.order = ranks;
         *proc_macros = macros;
         Ok(ids)
     }

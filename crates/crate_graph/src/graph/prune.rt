@@ -5,7 +5,9 @@ ghost use Rattle.std.specs.Prelude.{IfOk, IsTrue, OnErr, OnOk, slice_index_or};
 ghost use Rattle.std.specs.List.{All, list_all, range_with_len};
 ghost use Rattle.std.specs.Option.{option_map};
 ghost use Rattle.base_text.specs.Arena.{number_of};
-ghost use Rattle.graph_base.specs.Kept.{IsClosed, is_named, kept_below};
+ghost use Rattle.graph_base.specs.Kept.{IsClosed, is_named, kept_below, kept_rows};
+ghost use Rattle.graph_order.specs.Order.{IsOrderOf};
+ghost use Rattle.graph_order.specs.Suborder.{kept_nodes};
 ghost use Rattle.crate_graph.specs.Graph.{edges, row_of, target_of};
 ghost use Rattle.crate_graph.specs.Prune.{KeepsNamed, Stays, kept_crates, new_number, number_at};
 ghost use Rattle.crate_graph.specs.Prune.{renumbered_crate};
@@ -14,6 +16,7 @@ use crate::graph::CrateGraphBuilder;
 use crate::graph::renaming::renamed_dependencies;
 use base_text::TryClone;
 use crate_values::{CrateBuilder, CrateBuilderId};
+use graph_order::Order;
 use std::alloc::{AllocError, Global};
 
 impl CrateGraphBuilder {
@@ -51,9 +54,23 @@ impl CrateGraphBuilder {
             (range_with_len 0 (length self.old.crates))) }
         ensures unchanged { OnErr result (self.new ≡ self.old) }
     {
+        let order = self.suborder(alloc, to_keep)?;
         let (kept, ids) = self.kept(alloc, to_keep)?;
         self.crates = kept;
+        self.order = order;
         Ok(ids)
+    }
+
+    // The order of the named crates alone.
+    fn suborder(&self, alloc: Global, to_keep: &[CrateBuilderId]) -> Result<Order, AllocError>
+        requires { IsClosed (edges self.now.crates) (map number_of to_keep.now) }
+        ensures nodes { IfOk result (λ order. order.nodes
+            ≡ kept_nodes (map number_of to_keep.now) self.now.order.nodes) }
+        ensures order { IfOk result (λ order. IsOrderOf order
+            (kept_rows (map number_of to_keep.now) 0 (edges self.now.crates))) }
+    {
+        let keep = numbers_of(alloc, to_keep)?;
+        self.order.suborder(alloc, &keep)
     }
 
     // Copies of the crates that are named, by the new numbers, and the new number of each crate.
@@ -78,6 +95,17 @@ impl CrateGraphBuilder {
         }
         Ok((kept, ids))
     }
+}
+
+// The numbers of some crates, as a list names them.
+fn numbers_of(alloc: Global, ids: &[CrateBuilderId]) -> Result<Vec<u32>, AllocError>
+    ensures { IfOk result (λ numbers. numbers.items ≡ map number_of ids.now) }
+{
+    let mut numbers = Vec::with_capacity(alloc, ids.len())?;
+    for id in ids {
+        numbers.push(id.into_raw())?;
+    }
+    Ok(numbers)
 }
 
 // Whether a list names all that a crate depends on.

@@ -33,8 +33,9 @@ fn copy_with_dependencies(
 ) -> Result<CrateBuilder, AllocError>
     ensures { IfOk result (λ copy. copy ≡ with_dependencies deps krate.now) }
 {
+    let deps = sorted_by_number(deps)?;
     let mut copy = krate.try_clone(alloc)?;
-    copy.basic.dependencies = sorted_by_number(deps)?;
+    copy.basic.dependencies = deps;
     Ok(copy)
 }
 

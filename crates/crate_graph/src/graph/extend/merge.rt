@@ -1,15 +1,18 @@
 //! A list of crates into which those of another graph are taken.
 
-ghost use Rattle.std.specs.Prelude.{◌≡◌, ◌≤◌, ◌<◌, length, position, IfOk, IsErrOf, OnOk};
+ghost use Rattle.std.specs.Prelude.{◌≡◌, ◌≤◌, ◌<◌, [], ◌∷◌, ◌++◌, length, map, position, IfOk, IsErrOf, OnOk};
 ghost use Rattle.std.specs.List.{All};
 ghost use Rattle.graph_base.specs.Edges.{IsInRange};
 ghost use Rattle.crate_graph.specs.Extend.{before_merge, merge_of, take_in, with_first_equal, with_crate_at};
 ghost use Rattle.crate_graph.specs.Graph.{edges};
+ghost use Rattle.crate_graph.specs.Places.{ArePlacesOf, crate_hash};
 
+use crate::graph::GraphError;
+use crate::graph::extend::places::{Places, hash_of};
 use crate::graph::renaming::{copies_in_order, renamed_copy};
-use crate::graph::{GraphError, put};
-use crate_values::CrateBuilder;
+use crate_values::{CrateBuilder, CrateDataBuilder};
 use std::alloc::{AllocError, Global};
+use std::hash::Hash;
 use std::marker::Model;
 
 /// The crates of a graph, and the number in it of each crate of the other graph.
@@ -27,11 +30,40 @@ impl Model for Merge {
     ghost view = { λ a. record { crates = a.crates.items; new_numbers = a.new_numbers.items } };
 }
 
-// The place of the first item that is equal to a value.
-fn place_of<T: PartialEq>(items: &[T], value: &T) -> Option<usize>
-    ensures { result ≡ position (λ item. T.eq item value.now) items.now }
+// The places of crates by their hashes.
+fn places_of(alloc: Global, crates: &[CrateBuilder]) -> Result<Places, AllocError>
+    ensures { IfOk result (λ places. places
+        ≡ map (crate_hash ⟦<CrateDataBuilder as Hash>⟧.hash_input) crates.now) }
 {
-    items.iter().position(|item| *item == *value)
+    let mut hashes = Vec::with_capacity(alloc, crates.len())?;
+    for krate in crates {
+        hashes.push(hash_of(&krate.basic))?;
+    }
+    Places::new(alloc, hashes)
+}
+
+// The place of the first of some crates that is equal to another.
+fn place_of(places: &Places, crates: &[CrateBuilder], krate: &CrateBuilder) -> Option<usize>
+    requires { places.now ≡ map (crate_hash ⟦<CrateDataBuilder as Hash>⟧.hash_input) crates.now }
+    ensures { result
+        ≡ position (λ old. ⟦<CrateBuilder as PartialEq>⟧.eq old krate.now) crates.now }
+{
+    let mut place = places.first(hash_of(&krate.basic));
+    while let Some(number) = place {
+        if crates[number] == *krate {
+            return Some(number);
+        }
+        place = places.next(number);
+    }
+    None
+}
+
+// Puts a crate behind the others.
+fn push(crates: &mut Vec<CrateBuilder>, krate: CrateBuilder) -> Result<(), AllocError>
+    ensures { OnOk result (crates.new.items ≡ crates.old.items ++ krate ∷ []) }
+{
+    crates.push(krate)?;
+    Ok(())
 }
 
 impl Merge {
@@ -57,6 +89,12 @@ impl Merge {
         &self.new_numbers
     }
 
+    pub(super) fn len(&self) -> usize
+        ensures { result ≡ length self.now.crates }
+    {
+        self.crates.len()
+    }
+
     pub(super) fn into_crates(self) -> Vec<CrateBuilder>
         ensures { result.items ≡ self.crates }
     {
@@ -74,7 +112,7 @@ impl Merge {
             return Err(GraphError::TooMany);
         }
         let number = self.crates.len() as u32;
-        put(&mut self.crates, krate)?;
+        push(&mut self.crates, krate)?;
         self.new_numbers[other as usize] = number;
         Ok(())
     }
@@ -83,21 +121,22 @@ impl Merge {
     fn find_or_append(
         &mut self,
         limit: u32,
-        olds: usize,
+        olds: &Places,
         other: u32,
         krate: CrateBuilder,
     ) -> Result<(), GraphError>
         requires other { other < length self.old.new_numbers }
-        requires olds { olds ≤ length self.old.crates }
+        requires olds { ArePlacesOf ⟦<CrateDataBuilder as Hash>⟧.hash_input olds.now self.old.crates }
         requires room { length self.old.crates ≤ limit }
         ensures ok { OnOk result (self.new
-            ≡ with_first_equal ⟦<CrateBuilder as PartialEq>⟧.eq olds self.old other krate) }
+            ≡ with_first_equal ⟦<CrateBuilder as PartialEq>⟧.eq
+            (length olds.now) self.old other krate) }
         ensures room { OnOk result (length self.new.crates ≤ limit) }
         ensures too_many { IsErrOf result GraphError.TooMany
             → limit < length (with_first_equal ⟦<CrateBuilder as PartialEq>⟧.eq
-            olds self.old other krate).crates }
+            (length olds.now) self.old other krate).crates }
     {
-        match place_of(&self.crates[..olds], &krate) {
+        match place_of(olds, &self.crates[..olds.len()], &krate) {
             Some(place) => {
                 self.new_numbers[other as usize] = place as u32;
                 Ok(())
@@ -111,21 +150,21 @@ impl Merge {
         &mut self,
         alloc: Global,
         limit: u32,
-        olds: usize,
+        olds: &Places,
         others: &[CrateBuilder],
         other: u32,
     ) -> Result<(), GraphError>
         requires other { other < length others.now }
         requires in_range { IsInRange (edges others.now) }
         requires new_numbers { length self.old.new_numbers ≡ length others.now }
-        requires olds { olds ≤ length self.old.crates }
+        requires olds { ArePlacesOf ⟦<CrateDataBuilder as Hash>⟧.hash_input olds.now self.old.crates }
         requires room { length self.old.crates ≤ limit }
-        ensures ok { OnOk result
-            (self.new ≡ take_in ⟦<CrateBuilder as PartialEq>⟧.eq olds others.now self.old other) }
+        ensures ok { OnOk result (self.new ≡ take_in ⟦<CrateBuilder as PartialEq>⟧.eq
+            (length olds.now) others.now self.old other) }
         ensures room { OnOk result (length self.new.crates ≤ limit) }
         ensures too_many { IsErrOf result GraphError.TooMany
             → limit < length (take_in ⟦<CrateBuilder as PartialEq>⟧.eq
-            olds others.now self.old other).crates }
+            (length olds.now) others.now self.old other).crates }
     {
         let krate = renamed_copy(alloc, &self.new_numbers, &others[other as usize])?;
         self.find_or_append(limit, olds, other, krate)
@@ -150,8 +189,9 @@ pub(super) fn join(
         < length (merge_of ⟦<CrateBuilder as PartialEq>⟧.eq olds.now others.now order.now).crates }
 {
     let mut merge = Merge::new(alloc, olds, others)?;
+    let places = places_of(alloc, &merge.crates)?;
     for other in order {
-        merge.take_in(alloc, limit, olds.len(), others, *other)?;
+        merge.take_in(alloc, limit, &places, others, *other)?;
     }
     Ok(merge)
 }

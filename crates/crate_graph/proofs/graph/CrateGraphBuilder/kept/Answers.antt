@@ -29,7 +29,7 @@ renumbered_copy-requires c =
     let within : place < length crates = subst (λ cs. place < length cs) same c.loop-place-test.true in
     let at : krate ≡ get_or crates place krate = subst (λ cs. krate ≡ get_or cs place krate) same c.krate-item.is in
     let count : c.len.result ≡ length crates = omega (arith, c.len.ensures, ap (λ graph. length graph.crates) c.self.view_is) in
-    let in_range = subst (λ graph. IsInRange (edges graph.crates)) c.self.view_is c.self.invariant.in_range in
+    let in_range = subst (λ graph. IsInRange (edges graph.crates)) c.self.view_is c.self.invariant.well_made.in_range in
     let here : slice_get crates place ≡ Some krate = slice_get-get_or crates place krate within ∙ ap Some (sym at) in
     let long : length c.deref.result.now ≡ length crates = ap length c.deref.ensures.value ∙ length-numbers keep c.in_ok-ids.numbers.items (length crates) (subst (λ n. c.in_ok-ids.numbers.items ≡ map (kept_below keep) (range_with_len 0 n)) count c.in_ok-ids.ensures.numbers) in
     targets_within crates place krate (length c.deref.result.now) in_range long here

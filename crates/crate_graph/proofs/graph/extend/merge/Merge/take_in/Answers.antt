@@ -7,12 +7,12 @@ use Rattle.crate_graph.proofs.ExtendLemmas.{take_in-at, targets_within}
 use Rattle.crate_graph.proofs.graph.extend.merge.Merge.take_in.Goals as goal
 
 -- the crate is taken in under the numbers that its dependencies have by then
-taken : (c : goal.After-find_or_append) → with_first_equal (krates.eq-value).it c.args.olds c.args.self.now c.args.other c.in_ok-krate.krate ≡ take_in (krates.eq-value).it c.args.olds c.args.others.now c.args.self.now c.args.other
+taken : (c : goal.After-find_or_append) → with_first_equal (krates.eq-value).it (length c.args.olds.now) c.args.self.now c.args.other c.in_ok-krate.krate ≡ take_in (krates.eq-value).it (length c.args.olds.now) c.args.others.now c.args.self.now c.args.other
 taken c =
     let at = slice_get_read c.args.others.now (length c.args.others.now) c.args.other c.index-others-other.result refl c.requires.other c.index-others-other.is in
     let new_numbers : c.deref.result.now ≡ c.args.self.now.new_numbers = c.deref.ensures.value ∙ ap (λ j. j.new_numbers) c.self.view_is in
-    ap (with_first_equal (krates.eq-value).it c.args.olds c.args.self.now c.args.other) (c.in_ok-krate.ensures ∙ ap (λ ns. with_new_ids (new_id_at ns) c.index-others-other.result) new_numbers)
-    ∙ sym (take_in-at (krates.eq-value).it c.args.olds c.args.others.now c.args.self.now c.args.other c.index-others-other.result at)
+    ap (with_first_equal (krates.eq-value).it (length c.args.olds.now) c.args.self.now c.args.other) (c.in_ok-krate.ensures ∙ ap (λ ns. with_new_ids (new_id_at ns) c.index-others-other.result) new_numbers)
+    ∙ sym (take_in-at (krates.eq-value).it (length c.args.olds.now) c.args.others.now c.args.self.now c.args.other c.index-others-other.result at)
 
 pub renamed_copy-requires : goal.renamed_copy-requires
 renamed_copy-requires c =

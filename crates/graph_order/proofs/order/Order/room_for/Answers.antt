@@ -1,12 +1,13 @@
-use Rattle.std.proofs.Common.{◌≡◌, ◌∙◌, ◌+◌, ◌-◌, ◌<◌, ◌≤◌, ℕ, List, refl, ap, sym, subst, arith, false, get_or, is_some, length, None}
+use Rattle.std.proofs.Common.{◌≡◌, ◌∙◌, ◌+◌, ◌-◌, ◌<◌, ◌≤◌, ℕ, List, ap, sym, subst, arith, false, get_or, is_some, length, None}
 use Rattle.std.proofs.lemmas.List.{get_or_default}
 use Rattle.graph_base.specs.Reach.{IsPathBack}
 use Rattle.graph_order.specs.Band.{IsSearched, IsTrace, Links, link_at}
+use Rattle.graph_order.specs.Insertion.{GivesRoom}
 use Rattle.graph_order.specs.Order.{IsOrder, Ranking}
-use Rattle.graph_order.specs.Placing.{IsReordered}
+use Rattle.graph_order.specs.Placing.{IsPlacementOf}
 use Rattle.graph_order.proofs.BandLemmas.{trace_back}
-use Rattle.graph_order.proofs.RoomLemmas.{apart_already, apart_from, room_made}
-use Rattle.graph_order.proofs.order.Order.make_room.Goals as goal
+use Rattle.graph_order.proofs.RoomLemmas.{apart_already, apart_from, gives_none, gives_placement}
+use Rattle.graph_order.proofs.order.Order.room_for.Goals as goal
 
 -- the rank of a node, read from the fields of an order
 rank_is : (inside : List ℕ) (now : Ranking) (node read : ℕ) → node < length now.nodes → length inside ≡ length now.nodes → inside ≡ now.ranks
@@ -29,6 +30,16 @@ search-requires-clause-high g c =
     let long : length c.self.inside.ranks.items ≡ length c.args.self.now.nodes = ap length same ∙ order.long in
     let high = rank_is c.self.inside.ranks.items c.args.self.now c.args.to c.index-2.result.now c.requires.nodes.1 long same c.index-2.ensures in
     omega (arith, high, order.ranks_within c.args.to c.requires.nodes.1)
+
+pub returns-then-high-low-clause-room : goal.returns-then-high-low-clause-room
+returns-then-high-low-clause-room g c =
+    let order : IsOrder c.args.self.now = subst IsOrder c.self.view_is c.self.invariant in
+    let same : c.self.inside.ranks.items ≡ c.args.self.now.ranks = ap (λ (o : Ranking). o.ranks) c.self.view_is in
+    let long : length c.self.inside.ranks.items ≡ length c.args.self.now.nodes = ap length same ∙ order.long in
+    let low = rank_is c.self.inside.ranks.items c.args.self.now c.args.from c.index.result.now c.requires.nodes.0 long same c.index.ensures in
+    let high = rank_is c.self.inside.ranks.items c.args.self.now c.args.to c.index-2.result.now c.requires.nodes.1 long same c.index-2.ensures in
+    subst (GivesRoom (g.G.Graph.rows c.args.graph.now) c.args.from c.args.to c.args.self.now) (sym c.none.ensures)
+    (gives_none (g.G.Graph.rows c.args.graph.now) c.args.self.now c.args.from c.args.to order c.requires.descends (omega (arith, low, high, c.if-high-low.true)))
 
 pub returns-then-high-low-clause-apart : goal.returns-then-high-low-clause-apart
 returns-then-high-low-clause-apart g c =
@@ -57,7 +68,7 @@ returns-then-is_some-clause-path g c =
     let end : c.index.result.now + (length links - 1) ≡ get_or now.ranks c.args.to 0 = omega (arith, searched.long, high_is, c.if-high-low.false) in
     let last : get_or now.nodes (c.index.result.now + (length links - 1)) 0 ≡ c.args.to = ap (λ z. get_or now.nodes z 0) end ∙ order.node_of_rank c.args.to c.requires.nodes.1 in
     let back = trace_back rows now c.index.result.now links path searched.linked trace in
-    (subst (λ z. IsPathBack rows path z c.args.to) first (subst (λ z. IsPathBack rows path (get_or now.nodes c.index.result.now 0) z) last back), refl)
+    subst (λ z. IsPathBack rows path z c.args.to) first (subst (λ z. IsPathBack rows path (get_or now.nodes c.index.result.now 0) z) last back)
 
 pub returns-clause-room : goal.returns-clause-room
 returns-clause-room g c =
@@ -76,10 +87,10 @@ returns-clause-room g c =
     let some : 0 < length links = omega (arith, searched.long, c.if-high-low.false) in
     let free : is_some (link_at links 0) ≡ false =
     ap is_some (get_or_default links 0 None c.index-3.result.now some ∙ sym c.index-3.ensures) ∙ sym c.is_some.ensures ∙ c.if-is_some.false in
-    let made : IsReordered links (get_or now.ranks c.args.from 0) now c.reorder.new.self =
-    subst (λ n. IsReordered links n now c.reorder.new.self) low_is
-    (subst (λ (ls : Links). IsReordered ls c.index.result.now now c.reorder.new.self) c.as_slice-2.ensures.value c.in_ok-reorder.ensures.ok) in
-    room_made rows now c.args.from c.args.to links order c.requires.in_range c.requires.count c.requires.descends c.requires.nodes.0 c.requires.nodes.1 up s c.reorder.new.self made free
+    let is : IsPlacementOf links (get_or now.ranks c.args.from 0) now c.in_ok-placement.field-0 =
+    subst (λ n. IsPlacementOf links n now c.in_ok-placement.field-0) low_is
+    (subst (λ (ls : Links). IsPlacementOf ls c.index.result.now now c.in_ok-placement.field-0) c.as_slice-2.ensures.value c.in_ok-placement.ensures) in
+    gives_placement rows now c.args.from c.args.to links order c.requires.in_range c.requires.count c.requires.descends c.requires.nodes.0 c.requires.nodes.1 up s c.in_ok-placement.field-0 is free
 
 pub returns-clause-apart : goal.returns-clause-apart
 returns-clause-apart g c =

@@ -2,7 +2,7 @@ use Rattle.std.proofs.Common.{◌∙◌, ap}
 use Rattle.base_text.specs.Paths.{normal}
 use Rattle.trees.specs.Tree.{file_text, holds_path}
 use Rattle.trees.proofs.Puts.{file_text-insert_entry, holds_path-insert_entry}
-use Rattle.trees.proofs.memory_tree.MemoryTree.insert.Goals as goal
+use Rattle.trees.proofs.memory_tree.MemoryTree.insert_shared.Goals as goal
 
 pub returns-clause-last_counts : goal.returns-clause-last_counts
 returns-clause-last_counts c asked =
