@@ -67,11 +67,11 @@ pub struct CrateInput {
 
 impl TryClone for CrateInput {
     fn try_clone(&self, alloc: Global) -> Result<Self, AllocError> {
-        let crate_data = self.crate_data.try_clone(alloc)?;
-        let extra_data = self.extra_data.try_clone(alloc)?;
         let workspace_data = self.workspace_data.try_clone(alloc)?;
         let cfg_options = self.cfg_options.try_clone(alloc)?;
         let env = self.env.try_clone(alloc)?;
+        let extra_data = self.extra_data.try_clone(alloc)?;
+        let crate_data = self.crate_data.try_clone(alloc)?;
         Ok(CrateInput {
             crate_data,
             extra_data,

@@ -1,4 +1,4 @@
 pub mod Gaves
 pub mod Parts
 pub mod Numbers
-pub mod Options
+pub mod ValueLemmas

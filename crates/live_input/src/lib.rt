@@ -4,7 +4,9 @@
 pub mod config;
 pub mod event;
 pub mod lines;
+mod options;
 mod piece;
+mod values;
 
 pub use config::{Command, LiveConfig, WordsError};
 pub use event::{Event, EventError};

@@ -54,9 +54,9 @@ fn data_of(
 {
     let basic = &krate.basic;
     let dependencies = renamed_dependencies(alloc, numbers, basic.dependencies.as_slice())?;
-    let origin = basic.origin.try_clone(alloc)?;
     let crate_attrs = basic.crate_attrs.try_clone(alloc)?;
     let proc_macro_cwd = basic.proc_macro_cwd.try_clone(alloc)?;
+    let origin = basic.origin.try_clone(alloc)?;
     Ok(BuiltCrateData {
         root_file_id: basic.root_file_id,
         edition: basic.edition,
@@ -77,11 +77,11 @@ pub(super) fn input_of(
     requires { All (λ dep. target_of dep < length numbers.now) krate.now.basic.dependencies }
     ensures { IfOk result (λ input. input ≡ input_of (number_in numbers.now) krate.now) }
 {
-    let crate_data = data_of(alloc, numbers, krate)?;
-    let extra_data = krate.extra.try_clone(alloc)?;
     let workspace_data = krate.shared_ws_data().try_clone(alloc)?;
     let cfg_options = krate.cfg_options.try_clone(alloc)?;
     let env = krate.env.try_clone(alloc)?;
+    let extra_data = krate.extra.try_clone(alloc)?;
+    let crate_data = data_of(alloc, numbers, krate)?;
     Ok(CrateInput {
         crate_data,
         extra_data,
@@ -109,8 +109,8 @@ pub(super) fn unique_of(
             disambiguator: None,
         });
     }
-    let data = input.crate_data.try_clone(alloc)?;
     let cfg_options = input.cfg_options.try_clone(alloc)?;
+    let data = input.crate_data.try_clone(alloc)?;
     let pair = Boxed::new(alloc, (data, cfg_options))?;
     Ok(UniqueCrateData {
         root_file_id,

@@ -23,7 +23,7 @@ ids_of_numbers-requires g c =
     ap length c.numbers.ensures ∙ ap (λ (l : Progress). length l.finished.numbers) c.in_ok-finished.ensures
     ∙ progress_after-long c.args.graph.crates (g.D.SourceDatabase.seen c.args.db.now) c.deref.result.now in
     let count = ap (λ g. length g.crates) c.graph.view_is in
-    omega (arith, numbers, count, c.graph.invariant.within, c.graph.invariant.fits)
+    omega (arith, numbers, count, c.graph.invariant.well_made.within, c.graph.invariant.well_made.fits)
 
 pub store_list-requires : goal.store_list-requires
 store_list-requires g c =
@@ -54,7 +54,7 @@ returns g c =
     let mapped : c.numbers.result.now ≡ numbers = c.numbers.ensures ∙ ap (λ (l : Progress). l.finished.numbers) finished in
     let clean : All (λ (krate : CrateBuilder). IsClean krate.basic.proc_macro_cwd) crates =
     subst (λ (cs : List CrateBuilder). All (λ (krate : CrateBuilder). IsClean krate.basic.proc_macro_cwd) cs)
-    (ap (λ g. g.crates) c.graph.view_is) c.graph.invariant.clean in
+    (ap (λ g. g.crates) c.graph.view_is) c.graph.invariant.well_made.clean in
     let set : IsSetInDb _ crates old (g.D.SourceDatabase.seen c.store_list.new.db) c.in_ok-ids.ids = record {
       order = order;
       numbers = numbers;
