@@ -1,5 +1,6 @@
 -- The files that exist, of a file system that follows marks, are the live files of the marks, in one order.
-use Rattle.std.proofs.Common.{◌≡◌, ℕ, suc, ◌+◌, slice_get, subst, Bool, true, false, List, [], ◌∷◌, ◌++◌, Option, Some, None, get_or, map, refl, sym, ◌∙◌, ap, arith, is_some, if◌then◌else◌}
+use Rattle.std.proofs.Common.{◌≡◌, ℕ, zero, suc, ◌+◌, ◌<◌, nat_eq, eq-eqb, slice_get, subst, Bool, true, false, List, [], ◌∷◌, ◌++◌, Option, Some, None, get_or, map, refl, sym, ◌∙◌, ap, arith, is_some, if◌then◌else◌}
+use Rattle.std.proofs.lemmas.Bool.Decides.{nat_tests}
 use Rattle.std.specs.List.{All, IsDistinct, filter_map, list_any}
 use Rattle.std.specs.Map.{keys_of, lookup}
 use Rattle.std.specs.Option.{option_map, unwrap_or}
@@ -98,3 +99,28 @@ file_told files marks follows k entry t at is =
     let same : get_or files.entries k entry ≡ entry = get_or_from_slice_get files.entries k entry entry at in
     let told = entries_told files marks follows k entry within in
     subst (λ (e : PathContent × FileState). is_existing e.1 ≡ is_some (live_text marks e.0)) same told ∙ ap is_some is
+
+apart : (number first : ℕ) → first < number → nat_eq number first ≡ false
+apart number first less = grind (arith, nat_tests)
+
+-- a file that exists is found by its number: the same by whether the first entry exists
+found-split : (number other : ℕ) (place : PathContent) (rest : List (ℕ × PathContent)) (is is_first : Bool) (found : Option PathContent)
+    → is_first ≡ false → lookup (nat_eq other) rest ≡ found
+    → nat_eq other number ≡ is_first
+    → lookup (nat_eq other) (if is then (number, place) ∷ rest else rest) ≡ found
+found-split number other place rest true is_first found apart at e = rw (e ∙ apart) at
+found-split number other place rest false is_first found apart at e = at
+
+pub existing_found : (number place : ℕ) (entries : List (PathContent × FileState)) (entry : PathContent × FileState) (file : ℕ)
+    → slice_get entries place ≡ Some entry → is_existing entry.1 ≡ true → file ≡ number + place
+    → lookup (nat_eq file) (existing_files_from number entries) ≡ Some entry.0
+existing_found number place [] entry file at exists is = cc
+existing_found number zero (first ∷ entries) entry file at exists is =
+    let same : first ≡ entry = cc in
+    let here : is_existing first.1 ≡ true = ap (λ e. is_existing e.1) same ∙ exists in
+    let own : nat_eq file number ≡ true = eq-eqb file number (omega (arith, is)) in
+    rw (here, own) (ap (λ e. Some e.0) same)
+existing_found number (suc place) (first ∷ entries) entry file at exists is =
+    found-split number file first.0 (existing_files_from (number + 1) entries) (is_existing first.1) false (Some entry.0) refl
+    (existing_found (number + 1) place entries entry file at exists (omega (arith, is)))
+    (apart file number (omega (arith, is)))

@@ -2,7 +2,6 @@ pub mod Deciding
 pub mod Existing
 pub mod TextRows
 pub mod SharedRows
-pub mod BothChanges
 pub mod Outcomes
 pub mod Pages
 pub mod Room
@@ -12,8 +11,3 @@ pub mod Flushed
 pub mod Turns
 pub mod TwoTexts
 pub mod Words
-pub mod Refreshed
-pub mod Shown
-pub mod Sets
-pub mod TextsGiven
-pub mod Imaged

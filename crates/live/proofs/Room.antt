@@ -13,16 +13,18 @@ use Rattle.vfs_core.specs.Marks.{text_of_kinds, kept_text, mentioned_paths}
 use Rattle.std.specs.Str.{is_utf8}
 use Rattle.vfs_core.specs.Texts.{BringsTo, all_pass}
 use Rattle.outside.specs.Sink.{Appends-nil}
+use Rattle.input_db.specs.Database.{empty_database}
 use Rattle.live.specs.declared.session.Live.{Live}
 use Rattle.live.specs.declared.fault.LiveError.{LiveError}
 use Rattle.live.specs.declared.fault.LiveError.TheVariants.{OutOfMemory, TooMany}
 use Rattle.outside.specs.declared.limits.Limit.TheVariants.{Paths}
 use Rattle.live.specs.Session.{State, has_room, mark_turn}
-use Rattle.live_input.specs.Config.{greatest}
+use Rattle.live_input.specs.Config.{first_config}
 use Rattle.live.specs.Fault.{IsRefusal}
 use Rattle.live.specs.Image.{ShowsFlush}
 use Rattle.live.specs.Marked.{AddsMarkTo}
-use Rattle.live.specs.Turn.{EndsTurn, Holds, RefusesTurn, TakesTurn, first_state, texts_known}
+use Rattle.live.specs.Turn.{EndsTurn, Holds, RefusesTurn, TakesTurn, first_state}
+use Rattle.live_flush.specs.Shape.{texts_known}
 use Rattle.live.proofs.Outcomes.{AppendsFront-nil}
 
 -- the paths of the marks are those of the files
@@ -57,17 +59,19 @@ unfolding kept_text text_of_kinds
 Follows-nil limit = record { numbers = refl; states = λ place. refl }
 
 -- a session to which nothing was said
-pub Holds-first : (live : Live) → live.config.limits ≡ greatest → live.files ≡ no_files live.config.limits.paths → live.texts ≡ []
-    → ((known : ℕ → Option (List ℕ)) → BringsTo live.files known []) → live.ended ≡ false → Holds live first_state
-Holds-first live limits files texts brings ended = record {
-  config = λ i. record { limits = limits i };
-  limit = ap (λ f. f.limit) files ∙ ap (λ l. l.paths) limits;
+pub Holds-first : (live : Live) → live.config ≡ first_config → live.files ≡ no_files live.config.limits.paths → live.texts ≡ []
+    → ((known : ℕ → Option (List ℕ)) → BringsTo live.files known []) → live.ended ≡ false → live.db ≡ empty_database 0
+    → Holds live first_state
+Holds-first live config files texts brings ended empty = record {
+  config = config;
+  limit = ap (λ f. f.limit) files ∙ ap (λ c. c.limits.paths) config;
   texts = record { follows = subst (λ f. Follows f []) (sym files) (Follows-nil live.config.limits.paths); texts = texts };
   ended = ended;
   database = λ going. record {
     brings = brings (texts_known live.db);
     valid = ap (λ f. all_pass is_utf8 f.batch) files;
     shown = tt;
+    crates = ap (λ db. db.listed) empty;
   };
 }
 
@@ -88,6 +92,7 @@ module _ (live live' : Live) (s : State) (path : PathContent) (kind : MarkKind) 
               (adds.adds.brings (texts_known live.db) s.marks h.texts.follows current.brings);
           valid = adds.adds.texts current.valid;
           shown = subst (λ d. ShowsFlush d s.flushed) (sym adds.db) current.shown;
+          crates = ap (λ db. db.listed) adds.db ∙ current.crates;
         };
   }
 

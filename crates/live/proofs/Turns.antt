@@ -15,7 +15,7 @@ use Rattle.live.specs.declared.fault.LiveError.TheVariants.{OutOfMemory, Usage, 
 use Rattle.live.specs.declared.session.Live.{Live}
 use Rattle.live.specs.Fault.{IsOneOf, flush_statuses, line_statuses, status_of, turn_statuses}
 use Rattle.live.specs.Marked.{AddsMarkTo}
-use Rattle.live.specs.Refresh.{KeepsCrates}
+use Rattle.live_flush.specs.Refresh.{KeepsCrates}
 use Rattle.live.specs.Session.{State, Turn, ended_state, flush_turn, mark_turn, state_after_failure, turn, turn_of}
 use Rattle.live.specs.Turn.{EndsTurn, FailsTurn, Holds, LeavesAsWas, TakesTurn}
 use Rattle.live.specs.Written.{HasWriteCause}

@@ -1,13 +1,10 @@
 -- When a `Live` holds a state, and what one step does to both: the state's parts, one clause each.
 use Rattle.std.specs.Prelude.{◌≡◌, ℕ, ◌≤◌, Bool, true, false, List, [], Option, Some, None, Result, Ok, Err}
 use Rattle.std.specs.Str.{is_utf8}
-use Rattle.std.specs.Option.{option_map}
 use Rattle.std.specs.Io.KnownBytes.{Appends}
 use Rattle.vfs_core.specs.Texts.{BringsTo, all_pass}
 use Rattle.vfs_core.specs.Files.{existing_files}
 use Rattle.vfs_sets.specs.Probes.{CountsPlacing, RaisesAtMost, most_probes}
-use Rattle.input_db.specs.Database.{Database}
-use Rattle.source_files.specs.Files.{text_of}
 use Rattle.live.specs.declared.session.Live.{Live}
 use Rattle.live_input.specs.declared.event.Event.{Event}
 use Rattle.live_input.specs.declared.event.Event.TheVariants.{Flush as FlushEvent}
@@ -15,24 +12,22 @@ use Rattle.live.specs.declared.fault.LiveError.{LiveError}
 use Rattle.live.specs.declared.fault.LiveError.TheVariants.{WriteFault}
 use Rattle.live.specs.declared.fault.StepError.{StepError}
 use Rattle.live.specs.declared.fault.StepError.TheVariants.{Refused, Ended}
-use Rattle.live_input.specs.Config.{nothing_given, set_by}
+use Rattle.live_input.specs.Config.{first_config}
 use Rattle.live.specs.Fault.{IsRefusal, turn_statuses}
-use Rattle.live.specs.Image.{ShowsFlush, image, shape}
+use Rattle.live_flush.specs.Refresh.{KeepsCrates}
+use Rattle.live_flush.specs.Shape.{image, texts_known}
+use Rattle.live.specs.Image.{ShowsFlush, shape_of_flush}
 use Rattle.live.specs.LiveTexts.{KeepsTexts}
-use Rattle.live.specs.Refresh.{KeepsCrates}
 use Rattle.live.specs.Session.{State, Turn, flush_of, state_after_failure, turn}
 use Rattle.live.specs.Written.{AppendsFront, AppendsPages, AppendsProperFront, Counts, HasWriteCause, Told}
 
--- the texts that a database knows
-abbrev pub texts_known : Database → ℕ → Option (List ℕ)
-texts_known db file = option_map (λ text. text.text) (text_of db.files file)
-
 -- the database of a session shows what the last flush brought into it, and the changes of files since then bring its texts to
--- those that live, each of which is a text
+-- those that live, each of which is a text. It lists no crates
 pub record IsCurrent (live : Live) (s : State) : Type 0 where
   pub brings : BringsTo live.files (texts_known live.db) s.marks
   pub valid : all_pass is_utf8 live.files.batch ≡ true
   pub shown : ShowsFlush live.db s.flushed
+  pub crates : live.db.listed ≡ []
 
 -- a session holds a state: its files and their texts are those of the marks, and until the session ends its database is
 -- current
@@ -49,7 +44,7 @@ HasEnded live = live.ended ≡ true
 
 -- before the first event: the configuration is that of no words
 abbrev pub first_state : State
-first_state = record { config = set_by nothing_given; marks = []; flushed = None; ended = false }
+first_state = record { config = first_config; marks = []; flushed = None; ended = false }
 
 -- a turn that is not refused was taken: the state after it is held, and its pages were appended
 pub record TakesTurn (t : Turn) (live : Live) (held : Told) : Type 0 where
@@ -106,4 +101,4 @@ pub record LeavesAsWas (event : Event) (failed : Bool) (old new : Live) : Type 0
 
 -- after a flush the database shows the shape of the files that live
 pub record ShowsShape (live : Live) (s : State) : Type 0 where
-  pub shows : image live.db live.files ≡ shape (flush_of s)
+  pub shows : image live.db live.files ≡ shape_of_flush (flush_of s)

@@ -6,7 +6,6 @@ pub mod fault;
 pub mod laws;
 pub mod live_texts;
 mod page;
-mod refresh;
 mod rows;
 pub mod run;
 pub mod session;

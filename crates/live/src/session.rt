@@ -5,13 +5,11 @@ ghost use Rattle.live_input.specs.Config.{Fits};
 use crate::fault::{LiveError, StepError};
 use crate::live_texts::LiveTexts;
 use crate::page::write_page;
-use crate::refresh::{give_changes, give_roots, source_roots};
-use base_text::{ByteSink, Counter, Ledger, Limit, Limits, Numbers, Steps, Text, TryClone};
+use base_text::{ByteSink, Counter, Ledger, Limit, Numbers, Steps, Text, TryClone};
 use input_db::{InputDb, Nonce};
 use live_input::{Event, LiveConfig};
 use std::alloc::{AllocError, Global};
 use vfs_core::{Vfs, VfsError, VfsPath};
-use vfs_sets::FileSetConfig;
 
 /// A session: what a script said so far.
 #[derive(Drop)]
@@ -33,7 +31,7 @@ impl Live {
     ghost use Rattle.live_input.specs.Config.{Fits, config_of};
     ghost use Rattle.live.specs.Fault.{IsOneOf, flush_statuses, status_of, turn_statuses};
     ghost use Rattle.live.specs.Marked.{AddsMarkTo, SparesFiles};
-    ghost use Rattle.live.specs.Refresh.{Refreshes};
+    ghost use Rattle.live.specs.Refresh.{RefreshesLive};
     ghost use Rattle.live.specs.Session.{State, ended_state, flush_of, flush_turn, state_after_failure, turn};
     ghost use Rattle.live.specs.Turn.{CountsFlush, EndsTurn, FailsStep, HasEnded, HasStepCause, Holds, LeavesAsWas, ShowsShape, TakesTurn, first_state};
     ghost use Rattle.live.specs.Written.{HasWriteCause};
@@ -42,7 +40,6 @@ impl Live {
     ghost use Rattle.live.specs.declared.fault.StepError.TheVariants.{Ended};
     ghost use Rattle.outside.specs.declared.limits.Limit.TheVariants.{Paths};
 
-    #[tactic(auto, unfolding(live_input::specs::Config::config_of))]
     /// A session to which nothing was said, with the configuration of no words and an empty database.
     pub fn new(alloc: Global) -> Result<Live, AllocError>
         ensures holds { IfOk result (λ live. Holds live first_state) }
@@ -51,11 +48,9 @@ impl Live {
         ensures empty { IfOk result (λ live. live.db ≡ empty_database 0) }
         ensures probes { IfOk result (λ live. live.probes.ledger ≡ 0) }
     {
-        let config = LiveConfig {
-            limits: Limits::greatest(),
-        };
         let nonce = Nonce::new(&mut Numbers::new()).unwrap_or(Nonce::invalid());
         let texts = LiveTexts::new(alloc)?;
+        let config = LiveConfig::new(alloc)?;
         Ok(Live {
             files: Vfs::new(alloc, config.limits.paths),
             config,
@@ -256,17 +251,19 @@ impl Live {
         }
     }
 
-    // Brings the files that exist, and what has changed of them, into the database.
+    // Brings the files that exist, and what has changed of them, into the database. No root places them, and there are no crates.
     fn refresh(&mut self, alloc: Global) -> Result<(), AllocError>
-        ensures ok { OnOk result (Refreshes self.old self.new) }
+        ensures ok { OnOk result (RefreshesLive self.old self.new) }
         ensures err { OnErr result (SparesFiles self.old self.new) }
         ensures probes { CountsFlush self.old self.new }
     {
-        let config = FileSetConfig::new(alloc)?;
-        let sets = config.partition_counted(alloc, &self.files, &mut self.probes)?;
-        let roots = source_roots(alloc, sets)?;
-        give_roots(alloc, &mut self.db, roots)?;
-        let changes = self.files.take_changes();
-        give_changes(alloc, &mut self.db, changes)
+        live_flush::refresh(
+            alloc,
+            &mut self.files,
+            &mut self.db,
+            &[],
+            None,
+            &mut self.probes,
+        )
     }
 }

@@ -12,7 +12,7 @@ ghost use Rattle.live_input.specs.Config.{config_of};
 ghost use Rattle.live.specs.Session.{session};
 ghost use Rattle.live_plain.specs.Answer.{answer_of, status_after};
 
-use base_text::{Items, Limit, Text};
+use base_text::{Boxed, Items, Limit, Text};
 use live::{LiveConfig, LiveError, WordsError};
 use std::alloc::{AllocError, Global};
 use std::marker::Model;
@@ -21,7 +21,7 @@ use vfs_core::{Mark, VfsPath};
 /// What a session knows. Contracts see it as the definitions' state.
 #[derive(Drop)]
 pub struct PlainState {
-    config: LiveConfig,
+    config: Boxed<LiveConfig>,
     // newest first
     marks: Vec<Mark>,
     flushed: Option<PlainFlush>,
@@ -51,27 +51,28 @@ impl Model for PlainState {
 }
 
 impl PlainState {
-    ghost use Rattle.std.specs.Prelude.{◌≡◌};
+    ghost use Rattle.std.specs.Prelude.{◌≡◌, IfOk};
     ghost use Rattle.live.specs.Cli.{with_config};
     ghost use Rattle.live.specs.Turn.{first_state};
 
     /// Before the first event.
-    pub fn new(alloc: Global, config: LiveConfig) -> PlainState
-        ensures { result ≡ with_config first_state config }
+    pub fn new(alloc: Global, config: LiveConfig) -> Result<PlainState, AllocError>
+        ensures { IfOk result (λ state. state ≡ with_config first_state config) }
     {
-        PlainState {
+        let config = Boxed::new(alloc, config)?;
+        Ok(PlainState {
             config,
             marks: Vec::new(alloc),
             flushed: None,
             ended: false,
-        }
+        })
     }
 
     // How many bytes one session takes.
     fn byte_limit(&self) -> u64
         ensures { result ≡ self.now.config.limits.bytes }
     {
-        self.config.limits.bytes
+        self.config.get().limits.bytes
     }
 }
 
@@ -212,7 +213,7 @@ pub fn plain_answer(
         }
         Err(WordsError::OutOfMemory) => return Err(AllocError),
     };
-    let outcome = plain_session(alloc, PlainState::new(alloc, config), script)?;
+    let outcome = plain_session(alloc, PlainState::new(alloc, config)?, script)?;
     Ok(outcome.into_answer())
 }
 

@@ -7,7 +7,8 @@ ghost use Rattle.serde_json.specs.Written.{compact_text, has_float};
 ghost use Rattle.std.specs.List.{filter_map, list_any};
 ghost use Rattle.vfs_core.specs.VfsPath.{vfs_path_eq};
 ghost use Rattle.vfs_core.specs.Marks.{live_files, live_text, mentioned_paths, with_path};
-ghost use Rattle.live.specs.Page.{page, page_data, flush_paths, set_data, texts_data};
+ghost use Rattle.live.specs.Page.{page, flush_paths};
+ghost use Rattle.pages.specs.Page.{page_data, set_data, texts_data};
 
 use crate::PlainFlush;
 use base_text::{Text, TryClone, sort_all};
@@ -114,7 +115,7 @@ fn flush_paths(alloc: Global, flush: &PlainFlush) -> Result<Vec<Text>, AllocErro
 }
 
 // The texts as JSON strings.
-#[tactic(auto, using(live::proofs::Pages::strings_view))]
+#[tactic(auto, using(pages::proofs::Pages::strings_view))]
 fn strings(alloc: Global, texts: Vec<Text>) -> Result<Vec<Value>, AllocError>
     ensures { IfOk result (λ values. items_view values.items ≡ texts_data texts.items) }
 {

@@ -80,7 +80,7 @@ fn has_room(alloc: Global, state: &PlainState, path: &VfsPath) -> Result<bool, A
 {
     let places = mentioned_paths(alloc, state.marks.as_slice())?;
     let room = is_among(places.as_slice(), path)
-        || places.len() < state.config.limits.paths as usize;
+        || places.len() < state.config.get().limits.paths as usize;
     Ok(room)
 }
 

@@ -4,7 +4,7 @@ use Rattle.std.specs.Prelude.{Ok, Result, String}
 use Rattle.std.specs.declared.alloc.Global.{Global}
 use Rattle.serde_json.specs.Data.{item, no_items}
 use Rattle.serde_json.specs.View.{view}
-use Rattle.live.specs.Page.{page_data, set_data}
+use Rattle.pages.specs.Page.{page_data, set_data}
 use Rattle.live.proofs.Pages.{page_line}
 use Rattle.live_plain.proofs.page.page.Goals as goal
 

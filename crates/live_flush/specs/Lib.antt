@@ -1,0 +1,4 @@
+pub mod FileRoots
+pub mod Page
+pub mod Refresh
+pub mod Shape
