@@ -39,8 +39,13 @@ fn push_line(alloc: Global, out: &mut String, line: &Value) -> Result<(), Fault>
 pub fn runner_of(alloc: Global, answers: &[Value]) -> Result<RecordedRunner, Fault> {
     let mut runner = RecordedRunner::new(alloc);
     for answer in answers {
-        let answer = Case::new(answer);
-        runner.insert(line_of(alloc, answer)?, output_of(alloc, answer)?)?;
+        insert(alloc, &mut runner, Case::new(answer))?;
     }
     Ok(runner)
+}
+
+fn insert(alloc: Global, runner: &mut RecordedRunner, answer: Case<'_>) -> Result<(), Fault> {
+    let output = output_of(alloc, answer)?;
+    runner.insert(line_of(alloc, answer)?, output)?;
+    Ok(())
 }

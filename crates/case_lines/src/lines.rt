@@ -1,18 +1,20 @@
 //! Command lines of cases.
 
-use crate::values::{texts, texts_answer, variable_of};
+use crate::values::{owned_variable, texts, texts_answer};
 use base_text::{CommandLine, Items, Text};
-use cases::{Case, Fault, optional_answer};
-use serde_json::{Value, json};
+use cases::{Case, Fault, List, Object};
+use serde_json::Value;
 use std::alloc::Global;
 
 /// A command line: its program, its words, its directory, and its variables if it has some.
 pub fn line_of(alloc: Global, case: Case<'_>) -> Result<CommandLine, Fault> {
+    let (program, words) = (case.text("program")?, case.list("words")?);
+    let (dir, env) = (case.text("dir")?, case.list("env")?);
     Ok(CommandLine {
-        program: Text::of_str(alloc, case.text("program")?)?,
-        words: texts(alloc, case.list("words")?)?,
-        dir: Text::of_str(alloc, case.text("dir")?)?,
-        env: env_of(alloc, case.list("env")?)?,
+        program: Text::of_str(alloc, program)?,
+        words: texts(alloc, words)?,
+        dir: Text::of_str(alloc, dir)?,
+        env: env_of(alloc, env)?,
     })
 }
 
@@ -25,30 +27,23 @@ fn env_of(alloc: Global, pairs: &[Value]) -> Result<Items<(Text, Option<Text>)>,
     Ok(Items::new(env))
 }
 
-fn owned_variable(alloc: Global, pair: &Value) -> Result<(Text, Option<Text>), Fault> {
-    let (name, value) = variable_of(pair)?;
-    let name = Text::of_str(alloc, name)?;
-    match value {
-        Some(value) => Ok((name, Some(Text::of_str(alloc, value)?))),
-        None => Ok((name, None)),
-    }
-}
-
 /// A command line, as it is compared: its program, its words, its directory and its variables.
 pub fn line_answer(alloc: Global, line: &CommandLine) -> Result<Value, Fault> {
-    let words = texts_answer(alloc, line.words.as_slice())?;
-    let env = variables_answer(alloc, line.env.as_slice())?;
-    let (program, dir) = (line.program.as_str(), line.dir.as_str());
-    Ok(json!(in alloc; { "program": program, "words": words, "dir": dir, "env": env })?)
+    Object::new(alloc)
+        .text("program", line.program.as_str())
+        .member("words", texts_answer(alloc, line.words.as_slice()))
+        .text("dir", line.dir.as_str())
+        .member("env", variables_answer(alloc, line.env.as_slice()))
+        .answer()
 }
 
 /// Variables with their values, as they are compared. The value of one that is removed is null.
 pub fn variables_answer(alloc: Global, env: &[(Text, Option<Text>)]) -> Result<Value, Fault> {
-    let mut pairs = Vec::new(alloc);
+    let mut pairs = List::new(alloc);
     for (name, value) in env {
-        let value = optional_answer(alloc, value.as_ref().map(Text::as_str))?;
-        let name = name.as_str();
-        pairs.push(json!(in alloc; [name, value])?)?;
+        let value = value.as_ref().map(Text::as_str);
+        let pair = List::new(alloc).text(name.as_str()).optional(value);
+        pairs = pairs.item(pair.answer());
     }
-    Ok(Value::Array(pairs))
+    pairs.answer()
 }

@@ -1,7 +1,7 @@
 //! Texts, paths and variables of cases.
 
 use base_text::{AbsPathBuf, ByText, Items, PathError, Text};
-use cases::{Case, Fault, item, items_of, text_answer, text_of};
+use cases::{Case, Fault, List, item, items_of, text_of};
 use serde_json::Value;
 use std::alloc::Global;
 
@@ -16,11 +16,11 @@ pub fn texts(alloc: Global, values: &[Value]) -> Result<Items<Text>, Fault> {
 
 /// A list of texts, as it is compared.
 pub fn texts_answer(alloc: Global, texts: &[Text]) -> Result<Value, Fault> {
-    let mut values = Vec::new(alloc);
+    let mut values = List::new(alloc);
     for text in texts {
-        values.push(text_answer(alloc, text.as_str())?)?;
+        values = values.text(text.as_str());
     }
-    Ok(Value::Array(values))
+    values.answer()
 }
 
 /// A text, if there is one.
@@ -29,7 +29,11 @@ pub fn optional_text(
     case: Case<'_>,
     key: &'static str,
 ) -> Result<Option<Text>, Fault> {
-    match case.optional_text(key) {
+    copied(alloc, case.optional_text(key))
+}
+
+fn copied(alloc: Global, text: Option<&str>) -> Result<Option<Text>, Fault> {
+    match text {
         Some(text) => Ok(Some(Text::of_str(alloc, text)?)),
         None => Ok(None),
     }
@@ -63,16 +67,24 @@ pub fn variable_of(value: &Value) -> Result<(&str, Option<&str>), Fault> {
     Ok((name, item(pair, 1, "variable")?.as_str()))
 }
 
+/// The same, as a copy.
+pub fn owned_variable(alloc: Global, value: &Value) -> Result<(Text, Option<Text>), Fault> {
+    let (name, value) = variable_of(value)?;
+    let name = Text::of_str(alloc, name)?;
+    Ok((name, copied(alloc, value)?))
+}
+
 /// Variables, each with its value, or removed where that is null.
 pub fn variables(alloc: Global, pairs: &[Value]) -> Result<ByText<Option<Text>>, Fault> {
     let mut variables = ByText::empty(alloc);
     for pair in pairs {
-        let (name, value) = variable_of(pair)?;
-        let value = match value {
-            Some(value) => Some(Text::of_str(alloc, value)?),
-            None => None,
-        };
-        drop(variables.insert(String::from_str(alloc, name)?, value)?);
+        insert(alloc, &mut variables, pair)?;
     }
     Ok(variables)
+}
+
+fn insert(alloc: Global, variables: &mut ByText<Option<Text>>, pair: &Value) -> Result<(), Fault> {
+    let (name, value) = owned_variable(alloc, pair)?;
+    drop(variables.insert(name.into_inner(), value)?);
+    Ok(())
 }

@@ -27,21 +27,32 @@ pub struct Given {
 
 impl Given {
     pub fn of_case(alloc: Global, case: Case<'_>, tools: Tools) -> Result<Box<Given>, Fault> {
-        let root = optional_path(alloc, case, "root")?;
-        let sysroot = Sysroot::new(root, optional_path(alloc, case, "src")?);
-        let process_env = env_of(alloc, case.list("process")?)?;
-        let extra_env = variables(alloc, case.list("extra")?)?;
-        let runner = runner_of(alloc, case.list("answers")?)?;
-        let tree = tree_of(alloc, case.list("files")?)?;
-        let given = Given {
-            sysroot,
+        let mut given = Box::new(alloc, Given::of_tools(alloc, tools))?;
+        given.read(alloc, case)?;
+        Ok(given)
+    }
+
+    // The tools, and nothing else.
+    fn of_tools(alloc: Global, tools: Tools) -> Self {
+        Given {
+            sysroot: Sysroot::empty(),
             tools,
-            process_env,
-            extra_env,
-            runner,
-            tree,
-        };
-        Ok(Box::new(alloc, given)?)
+            process_env: Env::new(alloc),
+            extra_env: ByText::empty(alloc),
+            runner: RecordedRunner::new(alloc),
+            tree: MemoryTree::new(alloc),
+        }
+    }
+
+    // Takes what a case gives, but for the tools.
+    fn read(&mut self, alloc: Global, case: Case<'_>) -> Result<(), Fault> {
+        let root = optional_path(alloc, case, "root")?;
+        self.sysroot = Sysroot::new(root, optional_path(alloc, case, "src")?);
+        self.process_env = env_of(alloc, case.list("process")?)?;
+        self.extra_env = variables(alloc, case.list("extra")?)?;
+        self.runner = runner_of(alloc, case.list("answers")?)?;
+        self.tree = tree_of(alloc, case.list("files")?)?;
+        Ok(())
     }
 
     pub fn ask(&self) -> CaseAsk<'_> {
@@ -69,18 +80,29 @@ pub fn usual_tools(alloc: Global) -> Result<Tools, AllocError> {
 pub fn env_of(alloc: Global, variables: &[Value]) -> Result<Env, Fault> {
     let mut env = Env::new(alloc);
     for variable in variables {
-        let (name, value) = variable_of(variable)?;
-        let value = String::from_str(alloc, value.unwrap_or(""))?;
-        env.set(String::from_str(alloc, name)?, value)?;
+        set(alloc, &mut env, variable)?;
     }
     Ok(env)
+}
+
+fn set(alloc: Global, env: &mut Env, variable: &Value) -> Result<(), Fault> {
+    let (name, value) = variable_of(variable)?;
+    let value = String::from_str(alloc, value.unwrap_or(""))?;
+    env.set(String::from_str(alloc, name)?, value)?;
+    Ok(())
 }
 
 fn tree_of(alloc: Global, files: &[Value]) -> Result<MemoryTree, Fault> {
     let mut tree = MemoryTree::new(alloc);
     for file in files {
-        let path = absolute(alloc, text_of(file, "files")?, "files")?;
-        tree.insert(path, Text::of_str(alloc, "")?)?;
+        insert(alloc, &mut tree, text_of(file, "files")?)?;
     }
     Ok(tree)
+}
+
+// Puts an empty file in.
+fn insert(alloc: Global, tree: &mut MemoryTree, path: &str) -> Result<(), Fault> {
+    let text = Text::of_str(alloc, "")?;
+    tree.insert(absolute(alloc, path, "files")?, text)?;
+    Ok(())
 }

@@ -2,7 +2,8 @@
 
 ghost use Rattle.std.specs.Prelude.{◌≤◌, IfOk};
 
-use serde_json::{Value, json};
+use crate::answer::Object;
+use serde_json::Value;
 use std::alloc::{AllocError, AllocFailed, Global};
 use thiserror::Error;
 
@@ -142,10 +143,10 @@ pub fn optional_answer(alloc: Global, text: Option<&str>) -> Result<Value, Fault
 
 /// An answer that is an error, by its name.
 pub fn error_answer(alloc: Global, name: &str) -> Result<Value, Fault> {
-    Ok(json!(in alloc; { "error": name })?)
+    Object::new(alloc).text("error", name).answer()
 }
 
 /// An answer that is a place of a document that does not fit.
 pub fn missed_answer(alloc: Global, place: &str) -> Result<Value, Fault> {
-    Ok(json!(in alloc; { "missed": place })?)
+    Object::new(alloc).text("missed", place).answer()
 }

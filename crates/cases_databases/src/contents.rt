@@ -1,50 +1,55 @@
 //! What a database has of the files and roots below eight.
 
 use base_text::FileId;
-use cases::Fault;
+use cases::{Fault, List, Object};
 use input_db::{
     Durability, Files, InputDb, Nonce, SourceDatabase, SourceRoot, SourceRootId, all_crates,
 };
-use serde_json::{Value, json};
-use std::alloc::{AllocError, Global};
+use serde_json::Value;
+use std::alloc::Global;
 use std::collections::BTreeSet;
 use vfs_core::AnchoredPath;
 
 /// What there is of files and roots, the lists of roots, how many crates and writes there are, and whether the nonce is
 /// the invalid one.
 pub fn contents(alloc: Global, db: &InputDb) -> Result<Value, Fault> {
-    let files = files_and_roots(alloc, db)?;
-    let lists = lists(alloc, db)?;
-    let counts = counts(alloc, db)?;
-    Ok(json!(in alloc; { "files": files, "lists": lists, "counts": counts })?)
+    Object::new(alloc)
+        .member("files", files_and_roots(alloc, db))
+        .member("lists", lists(alloc, db))
+        .member("counts", counts(alloc, db))
+        .answer()
 }
 
 fn files_and_roots(alloc: Global, db: &InputDb) -> Result<Value, Fault> {
-    let texts = texts(alloc, db.files())?;
-    let places = places(alloc, db)?;
-    let roots = roots(alloc, db)?;
-    Ok(json!(in alloc; { "texts": texts, "places": places, "roots": roots })?)
+    Object::new(alloc)
+        .member("texts", texts(alloc, db.files()))
+        .member("places", places(alloc, db))
+        .member("roots", roots(alloc, db))
+        .answer()
 }
 
 // The local roots and those of libraries.
-fn lists(alloc: Global, db: &InputDb) -> Result<Value, AllocError> {
-    let local = numbers(alloc, &db.local_roots().roots)?;
-    let library = numbers(alloc, &db.library_roots().roots)?;
-    json!(in alloc; { "local": local, "library": library })
+fn lists(alloc: Global, db: &InputDb) -> Result<Value, Fault> {
+    Object::new(alloc)
+        .member("local", numbers(alloc, &db.local_roots().roots))
+        .member("library", numbers(alloc, &db.library_roots().roots))
+        .answer()
 }
 
-fn counts(alloc: Global, db: &InputDb) -> Result<Value, AllocError> {
-    let (crates, writes) = (all_crates(db).len(), db.writes());
-    let is_invalid = db.nonce() == Nonce::invalid();
-    json!(in alloc; { "crates": crates, "writes": writes, "is_invalid": is_invalid })
+fn counts(alloc: Global, db: &InputDb) -> Result<Value, Fault> {
+    Object::new(alloc)
+        .number("crates", all_crates(db).len() as u64)
+        .number("writes", db.writes())
+        .flag("is_invalid", db.nonce() == Nonce::invalid())
+        .answer()
 }
 
-fn numbers(alloc: Global, ids: &BTreeSet<SourceRootId>) -> Result<Value, AllocError> {
-    let mut numbers = Vec::new(alloc);
+fn numbers(alloc: Global, ids: &BTreeSet<SourceRootId>) -> Result<Value, Fault> {
+    let mut numbers = List::new(alloc);
     for id in ids {
-        numbers.push(Value::from(id.0))?;
+        numbers = numbers.number(id.0 as u64);
     }
-    Ok(Value::Array(numbers))
+    numbers.answer()
 }
 
 fn name_of(durability: Durability) -> &'static str {
@@ -57,11 +62,11 @@ fn name_of(durability: Durability) -> &'static str {
 
 /// The text of each file, with how durable it is.
 pub fn texts(alloc: Global, files: &Files) -> Result<Value, Fault> {
-    let mut texts = Vec::new(alloc);
+    let mut texts = List::new(alloc);
     for number in 0..8u32 {
-        texts.push(text(alloc, files, FileId::from_raw(number))?)?;
+        texts = texts.item(text(alloc, files, FileId::from_raw(number)));
     }
-    Ok(Value::Array(texts))
+    texts.answer()
 }
 
 fn text(alloc: Global, files: &Files, id: FileId) -> Result<Value, Fault> {
@@ -69,16 +74,18 @@ fn text(alloc: Global, files: &Files, id: FileId) -> Result<Value, Fault> {
         return Ok(Value::Null);
     }
     let text = files.file_text(id);
-    let (text, durability) = (text.text.as_str(), name_of(text.durability));
-    Ok(json!(in alloc; [text, durability])?)
+    List::new(alloc)
+        .text(text.text.as_str())
+        .text(name_of(text.durability))
+        .answer()
 }
 
 fn places(alloc: Global, db: &InputDb) -> Result<Value, Fault> {
-    let mut places = Vec::new(alloc);
+    let mut places = List::new(alloc);
     for number in 0..8u32 {
-        places.push(place(alloc, db, FileId::from_raw(number))?)?;
+        places = places.item(place(alloc, db, FileId::from_raw(number)));
     }
-    Ok(Value::Array(places))
+    places.answer()
 }
 
 // A file's root, how durable the place is, and the file beside it named b.rs.
@@ -87,7 +94,7 @@ fn place(alloc: Global, db: &InputDb, id: FileId) -> Result<Value, Fault> {
         return Ok(Value::Null);
     }
     let place = db.file_source_root(id);
-    let (root, durability) = (place.source_root_id, name_of(place.durability));
+    let root = place.source_root_id;
     if !db.files().has_root(root) {
         return Ok(Value::Null);
     }
@@ -95,9 +102,12 @@ fn place(alloc: Global, db: &InputDb, id: FileId) -> Result<Value, Fault> {
         anchor: id,
         path: "b.rs",
     };
-    let beside = number_answer(db.resolve_path(alloc, path)?);
-    let root = root.0;
-    Ok(json!(in alloc; [root, durability, beside])?)
+    let beside = db.resolve_path(alloc, path)?;
+    List::new(alloc)
+        .number(root.0 as u64)
+        .text(name_of(place.durability))
+        .item(Ok(number_answer(beside)))
+        .answer()
 }
 
 fn number_answer(file: Option<FileId>) -> Value {
@@ -108,11 +118,11 @@ fn number_answer(file: Option<FileId>) -> Value {
 }
 
 fn roots(alloc: Global, db: &InputDb) -> Result<Value, Fault> {
-    let mut roots = Vec::new(alloc);
+    let mut roots = List::new(alloc);
     for number in 0..8u32 {
-        roots.push(root(alloc, db, SourceRootId(number))?)?;
+        roots = roots.item(root(alloc, db, SourceRootId(number)));
     }
-    Ok(Value::Array(roots))
+    roots.answer()
 }
 
 // Whether a root is a library, how durable it is, and its files.
@@ -121,17 +131,19 @@ fn root(alloc: Global, db: &InputDb, id: SourceRootId) -> Result<Value, Fault> {
         return Ok(Value::Null);
     }
     let input = db.source_root(id);
-    let files = files(alloc, &input.source_root)?;
-    let (is_library, durability) = (input.source_root.is_library, name_of(input.durability));
-    Ok(json!(in alloc; [is_library, durability, files])?)
+    List::new(alloc)
+        .flag(input.source_root.is_library)
+        .text(name_of(input.durability))
+        .item(files(alloc, &input.source_root))
+        .answer()
 }
 
 fn files(alloc: Global, root: &SourceRoot) -> Result<Value, Fault> {
-    let mut files = Vec::new(alloc);
+    let mut files = List::new(alloc);
     for file in root.iter() {
-        files.push(file_of(alloc, root, file)?)?;
+        files = files.item(file_of(alloc, root, file));
     }
-    Ok(Value::Array(files))
+    files.answer()
 }
 
 // The number of a file of a root, its path, and whether that is found at this path.
@@ -140,6 +152,9 @@ fn file_of(alloc: Global, root: &SourceRoot, file: FileId) -> Result<Value, Faul
         return Ok(Value::Null);
     };
     let is_found = root.file_for_path(path) == Some(&file);
-    let (number, path) = (file.index(), path.as_str());
-    Ok(json!(in alloc; [number, path, is_found])?)
+    List::new(alloc)
+        .number(file.index() as u64)
+        .text(path.as_str())
+        .flag(is_found)
+        .answer()
 }

@@ -2,10 +2,10 @@
 
 ghost use Rattle.std.specs.Prelude.{◌<◌, length};
 
-use base_text::{CfgOptions, Edition, FileId, TryClone, write_cfg};
-use cases::Fault;
+use base_text::{CfgAtom, CfgOptions, Edition, FileId, TryClone, write_cfg};
+use cases::{Fault, List, Object};
 use input_db::{Boxed, Crate, Durability, InputDb, SourceDatabase, UniqueCrateData, all_crates};
-use serde_json::{Value, json};
+use serde_json::Value;
 use std::alloc::{AllocError, Global};
 
 /// What is held of each crate of a graph, the list of the database, the crates of files, and how many
@@ -16,14 +16,13 @@ pub fn view(
     given: &[Crate],
     crates: &[Crate],
 ) -> Result<Value, Fault> {
-    let crates = held_by_all(alloc, db, given, crates)?;
-    let list = numbers(alloc, given, all_crates(db))?;
-    let of_files = of_files(alloc, db, given)?;
-    let (identities, writes) = (db.crates_map().len(), db.writes());
-    Ok(json!(in alloc; {
-        "crates": crates, "list": list, "of_files": of_files,
-        "identities": identities, "writes": writes
-    })?)
+    Object::new(alloc)
+        .member("crates", held_by_all(alloc, db, given, crates))
+        .member("list", numbers(alloc, given, all_crates(db)))
+        .member("of_files", of_files(alloc, db, given))
+        .number("identities", db.crates_map().len() as u64)
+        .number("writes", db.writes())
+        .answer()
 }
 
 fn number_of(given: &[Crate], krate: Crate) -> usize {
@@ -31,12 +30,12 @@ fn number_of(given: &[Crate], krate: Crate) -> usize {
 }
 
 /// The numbers of crates.
-pub fn numbers(alloc: Global, given: &[Crate], crates: &[Crate]) -> Result<Value, AllocError> {
-    let mut numbers = Vec::new(alloc);
+pub fn numbers(alloc: Global, given: &[Crate], crates: &[Crate]) -> Result<Value, Fault> {
+    let mut numbers = List::new(alloc);
     for krate in crates {
-        numbers.push(Value::from(number_of(given, *krate)))?;
+        numbers = numbers.number(number_of(given, *krate) as u64);
     }
-    Ok(Value::Array(numbers))
+    numbers.answer()
 }
 
 fn number_answer(given: &[Crate], krate: Option<Crate>) -> Value {
@@ -52,11 +51,11 @@ fn held_by_all(
     given: &[Crate],
     crates: &[Crate],
 ) -> Result<Value, Fault> {
-    let mut all = Vec::new(alloc);
+    let mut all = List::new(alloc);
     for krate in crates {
-        all.push(held(alloc, db, given, *krate)?)?;
+        all = all.item(held(alloc, db, given, *krate));
     }
-    Ok(Value::Array(all))
+    all.answer()
 }
 
 // The number of a crate, what is held of it, what it reaches, and the crate of its root file with its data.
@@ -64,14 +63,20 @@ fn held(alloc: Global, db: &InputDb, given: &[Crate], krate: Crate) -> Result<Va
     if !db.has_crate(krate) {
         return Ok(Value::Null);
     }
-    let values = values(alloc, db, krate)?;
+    let with_data = with_data(alloc, db, krate)?;
+    Object::new(alloc)
+        .number("crate", number_of(given, krate) as u64)
+        .member("values", values(alloc, db, krate))
+        .member("reached", reached(alloc, db, given, krate))
+        .member("with_data", Ok(number_answer(given, with_data)))
+        .answer()
+}
+
+fn reached(alloc: Global, db: &InputDb, given: &[Crate], krate: Crate) -> Result<Value, Fault>
+    requires { krate < length db.now.crates }
+{
     let reached = krate.transitive_deps(alloc, db)?;
-    let reached = numbers(alloc, given, reached.as_slice())?;
-    let with_data = number_answer(given, with_data(alloc, db, krate)?);
-    let number = number_of(given, krate);
-    Ok(json!(in alloc; {
-        "crate": number, "values": values, "reached": reached, "with_data": with_data
-    })?)
+    numbers(alloc, given, reached.as_slice())
 }
 
 // A crate's root file, how many dependencies it has, its atoms, its variable, and whether it is plain.
@@ -79,11 +84,13 @@ fn values(alloc: Global, db: &InputDb, krate: Crate) -> Result<Value, Fault>
     requires { krate < length db.now.crates }
 {
     let atoms = atoms(alloc, krate.cfg_options(db))?;
-    let file = krate.root_file_id(db).file_id().index();
-    let count = krate.data(db).dependencies.len();
-    let value = krate.env(db).get("K").unwrap_or("");
-    let is_plain = is_plain(db, krate);
-    Ok(json!(in alloc; [file, count, atoms.as_str(), value, is_plain])?)
+    List::new(alloc)
+        .number(krate.root_file_id(db).file_id().index() as u64)
+        .number(krate.data(db).dependencies.len() as u64)
+        .text(atoms.as_str())
+        .text(krate.env(db).get("K").unwrap_or(""))
+        .flag(is_plain(db, krate))
+        .answer()
 }
 
 // Whether a crate is of medium durability and edition 2021, with no version and no toolchain.
@@ -101,11 +108,15 @@ fn is_plain(db: &InputDb, krate: Crate) -> bool
 fn atoms(alloc: Global, cfgs: &CfgOptions) -> Result<String, AllocError> {
     let mut atoms = String::new(alloc);
     for atom in cfgs.iter() {
-        let atom = write_cfg(alloc, atom)?;
-        atoms.push_str(atom.as_str())?;
-        atoms.push_str(" ")?;
+        push_atom(alloc, &mut atoms, atom)?;
     }
     Ok(atoms)
+}
+
+fn push_atom(alloc: Global, atoms: &mut String, atom: &CfgAtom) -> Result<(), AllocError> {
+    let atom = write_cfg(alloc, atom)?;
+    atoms.push_str(atom.as_str())?;
+    atoms.push_str(" ")
 }
 
 // The crate of the identity of a crate's root file with its data and its atoms.
@@ -113,8 +124,8 @@ fn with_data(alloc: Global, db: &InputDb, krate: Crate) -> Result<Option<Crate>,
     requires { krate < length db.now.crates }
 {
     let input = db.crate_input(krate);
-    let data = input.crate_data.try_clone(alloc)?;
     let cfgs = input.cfg_options.try_clone(alloc)?;
+    let data = input.crate_data.try_clone(alloc)?;
     let identity = UniqueCrateData {
         root_file_id: input.crate_data.root_file_id,
         disambiguator: Some(Boxed::new(alloc, (data, cfgs))?),
@@ -123,13 +134,13 @@ fn with_data(alloc: Global, db: &InputDb, krate: Crate) -> Result<Option<Crate>,
 }
 
 // The crates of the first five files alone.
-fn of_files(alloc: Global, db: &InputDb, given: &[Crate]) -> Result<Value, AllocError> {
-    let mut crates = Vec::new(alloc);
+fn of_files(alloc: Global, db: &InputDb, given: &[Crate]) -> Result<Value, Fault> {
+    let mut crates = List::new(alloc);
     for file in 0..5u32 {
         let krate = of_file(db, FileId::from_raw(file));
-        crates.push(number_answer(given, krate))?;
+        crates = crates.item(Ok(number_answer(given, krate)));
     }
-    Ok(Value::Array(crates))
+    crates.answer()
 }
 
 fn of_file(db: &InputDb, root_file_id: FileId) -> Option<Crate> {

@@ -2,13 +2,13 @@
 
 use crate::crates::{numbers, view};
 use case_graph::graph_of;
-use cases::{Case, Fault};
+use cases::{Case, Fault, List};
 use crate_graph::CrateGraphBuilder;
 use input_db::{
     Crate, CratesIdMap, Durability, InputDb, Nonce, SourceDatabase, all_crates,
     set_all_crates_with_durability, set_in_db,
 };
-use serde_json::{Value, json};
+use serde_json::Value;
 use std::alloc::{AllocError, Global};
 
 /// What a call on graphs of a database gives.
@@ -24,11 +24,11 @@ pub fn answer(alloc: Global, case: Case<'_>) -> Result<Value, Fault> {
 fn set_all(alloc: Global, graphs: &[Value]) -> Result<Value, Fault> {
     let mut db = Box::new(alloc, InputDb::new(alloc, Nonce::invalid()))?;
     let mut given = Vec::new(alloc);
-    let mut answers = Vec::new(alloc);
+    let mut answers = List::new(alloc);
     for graph in graphs {
-        answers.push(set_one(alloc, &mut db, &mut given, graph)?)?;
+        answers = answers.item(set_one(alloc, &mut db, &mut given, graph));
     }
-    Ok(Value::Array(answers))
+    answers.answer()
 }
 
 // Sets a graph, and gives what the database has then.
@@ -75,39 +75,39 @@ fn note(given: &mut Vec<Crate>, crates: &[Crate]) -> Result<(), AllocError> {
 
 // Sets a graph and then a list of one of its crates.
 fn list_one(alloc: Global, case: Case<'_>) -> Result<Value, Fault> {
-    let graph = graph_of(alloc, case.member("graph")?)?;
+    let graph = case.member("graph")?;
     let place = case.number("list")?;
     let mut db = Box::new(alloc, InputDb::new(alloc, Nonce::invalid()))?;
     list_in(alloc, &mut db, graph, place)
 }
 
-fn list_in(
-    alloc: Global,
-    db: &mut InputDb,
-    graph: CrateGraphBuilder,
-    place: u64,
-) -> Result<Value, Fault> {
+fn list_in(alloc: Global, db: &mut InputDb, graph: &Value, place: u64) -> Result<Value, Fault> {
+    let graph = graph_of(alloc, graph)?;
     let crates = set(alloc, db, graph)?;
     match at(crates.as_slice(), place) {
-        Some(krate) => {
-            store_one(alloc, db, krate)?;
-            list_answer(alloc, db, crates.as_slice(), krate)
-        }
+        Some(krate) => list_crate(alloc, db, crates.as_slice(), krate),
         None => Err(Fault::Member("list")),
     }
 }
 
-// The list, how many values were written, and whether another database has a crate.
-fn list_answer(
+// Stores a list of one crate, and gives the list, how many values were written, and whether another database has
+// the crate.
+fn list_crate(
     alloc: Global,
-    db: &InputDb,
+    db: &mut InputDb,
     crates: &[Crate],
     krate: Crate,
 ) -> Result<Value, Fault> {
-    let list = numbers(alloc, crates, all_crates(db))?;
-    let writes = db.writes();
-    let is_in_another = InputDb::new(alloc, Nonce::invalid()).has_crate(krate);
-    Ok(json!(in alloc; [list, writes, is_in_another])?)
+    store_one(alloc, db, krate)?;
+    List::new(alloc)
+        .item(numbers(alloc, crates, all_crates(db)))
+        .number(db.writes())
+        .flag(is_in_another(alloc, krate))
+        .answer()
+}
+
+fn is_in_another(alloc: Global, krate: Crate) -> bool {
+    InputDb::new(alloc, Nonce::invalid()).has_crate(krate)
 }
 
 fn at(crates: &[Crate], place: u64) -> Option<Crate> {
@@ -116,7 +116,7 @@ fn at(crates: &[Crate], place: u64) -> Option<Crate> {
 }
 
 /// Stores a list of one crate.
-pub fn store_one(alloc: Global, db: &mut InputDb, krate: Crate) -> Result<(), AllocError> {
+pub fn store_one(alloc: Global, db: &mut InputDb, krate: Crate) -> Result<(), Fault> {
     let mut crates = Vec::new(alloc);
     if db.has_crate(krate) {
         crates.push(krate)?;

@@ -10,8 +10,13 @@ use vfs_core::VfsPath;
 use vfs_sets::FileSet;
 
 /// The change that a case gives.
-pub fn change_of(alloc: Global, given: Case<'_>) -> Result<FileChange, Fault> {
-    let mut change = FileChange::new(alloc);
+pub fn change_of(alloc: Global, given: Case<'_>) -> Result<Box<FileChange>, Fault> {
+    let mut change = Box::new(alloc, FileChange::new(alloc))?;
+    fill(alloc, &mut change, given)?;
+    Ok(change)
+}
+
+fn fill(alloc: Global, change: &mut FileChange, given: Case<'_>) -> Result<(), Fault> {
     if given.find("roots").is_some() {
         let roots = roots_of(alloc, given.list("roots")?)?;
         change.set_roots(roots);
@@ -21,9 +26,9 @@ pub fn change_of(alloc: Global, given: Case<'_>) -> Result<FileChange, Fault> {
         change.set_crate_graph(graph);
     }
     for pair in given.list("texts")? {
-        change_file(alloc, &mut change, pair)?;
+        change_file(alloc, change, pair)?;
     }
-    Ok(change)
+    Ok(())
 }
 
 fn roots_of(alloc: Global, values: &[Value]) -> Result<Vec<SourceRoot>, Fault> {
@@ -58,8 +63,14 @@ pub fn root_of(alloc: Global, given: Case<'_>) -> Result<SourceRoot, Fault> {
     } else {
         SourceRoot::new_library(files)
     };
-    if root.try_clone(alloc)? == root {
-        Ok(root)
+    copy_of(alloc, &root)
+}
+
+// A copy of a root, which has to equal it.
+fn copy_of(alloc: Global, root: &SourceRoot) -> Result<SourceRoot, Fault> {
+    let copy = root.try_clone(alloc)?;
+    if copy == *root {
+        Ok(copy)
     } else {
         Err(Fault::Condition)
     }

@@ -1,17 +1,16 @@
 //! What is asked of the crates of a database: which are in a source root, which reach one, and the channel of a toolchain.
 
-use crate::changes::are_few;
-use crate::graphs::{crates_of, store_one};
-use crate::making::change_of;
+use crate::changes::make_given;
+use crate::graphs::store_one;
 use base_text::FileId;
-use cases::{Case, Fault, file_number_of, number_of, optional_answer};
+use cases::{Case, Fault, List, Object, file_number_of, number_of, optional_answer};
 use crate_graph::ReleaseChannel;
 use input_db::{
     Crate, InputDb, Nonce, SourceDatabase, SourceRootId, crates_have_source_roots, relevant_crates,
     source_root_crates, toolchain_channel,
 };
-use serde_json::{Value, json};
-use std::alloc::{AllocError, Global};
+use serde_json::Value;
+use std::alloc::Global;
 
 /// What a call gives of a database that a change was made to. Crates are named by their places in the graph.
 pub fn answer(alloc: Global, case: Case<'_>) -> Result<Value, Fault> {
@@ -23,22 +22,24 @@ pub fn answer(alloc: Global, case: Case<'_>) -> Result<Value, Fault> {
 // Makes the change that a case gives, and returns the crates of its graph in order. Where the case says so, the database
 // lists one of them alone.
 fn change(alloc: Global, db: &mut InputDb, case: Case<'_>) -> Result<Vec<Crate>, Fault> {
-    let change = change_of(alloc, case)?;
-    if !change.fits(db) || !are_few(&change.roots) {
-        return Err(Fault::Condition);
-    }
-    let crates = match change.apply(alloc, db)? {
-        Some(ids) => crates_of(alloc, &ids)?,
-        None => Vec::new(alloc),
-    };
+    let crates = make_given(alloc, db, case)?;
     if case.find("list").is_some() {
-        let place = place_of(case, "list")?;
-        let Some(krate) = crates.get(place) else {
-            return Err(Fault::Condition);
-        };
-        store_one(alloc, db, *krate)?;
+        list_one(alloc, db, crates.as_slice(), case)?;
     }
     Ok(crates)
+}
+
+fn list_one(
+    alloc: Global,
+    db: &mut InputDb,
+    crates: &[Crate],
+    case: Case<'_>,
+) -> Result<(), Fault> {
+    let place = place_of(case, "list")?;
+    match crates.get(place) {
+        Some(krate) => store_one(alloc, db, *krate),
+        None => Err(Fault::Condition),
+    }
 }
 
 fn ask(alloc: Global, db: &InputDb, crates: &[Crate], case: Case<'_>) -> Result<Value, Fault> {
@@ -79,7 +80,7 @@ fn in_root(alloc: Global, db: &InputDb, crates: &[Crate], case: Case<'_>) -> Res
         return Err(Fault::Condition);
     }
     let answer = source_root_crates(alloc, db, root)?;
-    Ok(places(alloc, crates, answer.as_slice())?)
+    places(alloc, crates, answer.as_slice())
 }
 
 // The crates of the source root of a file.
@@ -89,7 +90,7 @@ fn beside(alloc: Global, db: &InputDb, crates: &[Crate], case: Case<'_>) -> Resu
         return Err(Fault::Condition);
     }
     let answer = relevant_crates(alloc, db, file)?;
-    Ok(places(alloc, crates, answer.as_slice())?)
+    places(alloc, crates, answer.as_slice())
 }
 
 // The crate that comes first, and all in the order of the graph.
@@ -98,15 +99,10 @@ fn reaching(alloc: Global, db: &InputDb, crates: &[Crate], krate: Crate) -> Resu
         return Err(Fault::Condition);
     }
     let answer = krate.transitive_rev_deps(alloc, db)?;
-    let first = place_answer(crates, answer.first());
-    let mut all = Vec::new(alloc);
-    for krate in crates {
-        if answer.contains(krate) {
-            all.push(place_answer(crates, Some(krate)))?;
-        }
-    }
-    let all = Value::Array(all);
-    Ok(json!(in alloc; { "first": first, "all": all })?)
+    Object::new(alloc)
+        .member("first", Ok(place_answer(crates, answer.first())))
+        .member("all", places_in_order(alloc, crates, answer.as_slice()))
+        .answer()
 }
 
 fn channel(alloc: Global, db: &InputDb, krate: Crate) -> Result<Value, Fault> {
@@ -118,12 +114,23 @@ fn channel(alloc: Global, db: &InputDb, krate: Crate) -> Result<Value, Fault> {
 }
 
 // The places of crates in the graph.
-fn places(alloc: Global, crates: &[Crate], answer: &[Crate]) -> Result<Value, AllocError> {
-    let mut places = Vec::new(alloc);
+fn places(alloc: Global, crates: &[Crate], answer: &[Crate]) -> Result<Value, Fault> {
+    let mut places = List::new(alloc);
     for krate in answer {
-        places.push(place_answer(crates, Some(krate)))?;
+        places = places.item(Ok(place_answer(crates, Some(krate))));
     }
-    Ok(Value::Array(places))
+    places.answer()
+}
+
+// The places of crates in the graph, in its order.
+fn places_in_order(alloc: Global, crates: &[Crate], answer: &[Crate]) -> Result<Value, Fault> {
+    let mut places = List::new(alloc);
+    for krate in crates {
+        if answer.contains(krate) {
+            places = places.item(Ok(place_answer(crates, Some(krate))));
+        }
+    }
+    places.answer()
 }
 
 fn place_answer(crates: &[Crate], krate: Option<&Crate>) -> Value {

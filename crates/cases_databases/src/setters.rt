@@ -3,9 +3,9 @@
 use crate::contents::{contents, texts};
 use crate::making::root_of;
 use base_text::{FileId, TryClone};
-use cases::{Case, Fault, file_number_of, number_of};
+use cases::{Case, Fault, Object, file_number_of, number_of};
 use input_db::{Durability, Files, InputDb, Nonce, SourceDatabase, SourceRootId};
-use serde_json::{Value, json};
+use serde_json::Value;
 use std::alloc::Global;
 
 /// Makes settings, and gives the texts of a copy of the files before the last one, and what the database has then.
@@ -22,14 +22,21 @@ fn set_in(alloc: Global, db: &mut InputDb, settings: &[Value]) -> Result<Value, 
         set(alloc, db, Case::new(setting))?;
     }
     let before = db.files().try_clone(alloc)?;
-    set(alloc, db, Case::new(last))?;
-    both_answer(alloc, db, &before)
+    set_last(alloc, db, Case::new(last), &before)
 }
 
-fn both_answer(alloc: Global, db: &InputDb, before: &Files) -> Result<Value, Fault> {
-    let before = texts(alloc, before)?;
-    let after = contents(alloc, db)?;
-    Ok(json!(in alloc; { "before": before, "after": after })?)
+// Makes the last setting, and gives the texts of the files before it, and what the database has then.
+fn set_last(
+    alloc: Global,
+    db: &mut InputDb,
+    setting: Case<'_>,
+    before: &Files,
+) -> Result<Value, Fault> {
+    set(alloc, db, setting)?;
+    Object::new(alloc)
+        .member("before", texts(alloc, before))
+        .member("after", contents(alloc, db))
+        .answer()
 }
 
 fn set<D: SourceDatabase>(alloc: Global, db: &mut D, setting: Case<'_>) -> Result<(), Fault> {

@@ -3,9 +3,8 @@
 ghost use Rattle.std.specs.Prelude.{◌≤◌, ◌<◌};
 
 use case_graph::{add, depend_on};
-use cases::{Case, Fault};
+use cases::{Case, Fault, Object};
 use crate_graph::{CrateBuilderId, CrateGraphBuilder};
-use serde_json::json;
 use std::alloc::Global;
 
 /// Whether there is an edge, or a path, from each of four crates to each.
@@ -58,15 +57,14 @@ fn either(row: [bool; 4], other: [bool; 4]) -> [bool; 4] {
     either
 }
 
-fn crates(alloc: Global, count: u32) -> Result<CrateGraphBuilder, Fault> {
-    let krate = json!(in alloc; { "file": 1 })?;
-    let mut graph = CrateGraphBuilder::new(alloc, count);
+fn add_crates(alloc: Global, graph: &mut CrateGraphBuilder, count: u32) -> Result<(), Fault> {
+    let krate = Object::new(alloc).number("file", 1).answer()?;
     for _ in 0..count {
-        if add(alloc, &mut graph, Case::new(&krate))?.is_err() {
+        if add(alloc, graph, Case::new(&krate))?.is_err() {
             return Err(Fault::Condition);
         }
     }
-    Ok(graph)
+    Ok(())
 }
 
 /// Adds an edge, and returns whether it was taken, if the answer agrees with the closure of the edges before.
@@ -89,11 +87,24 @@ fn agrees_on_edge(
     Ok(Some(is_taken))
 }
 
-/// Adds the edges of a mask in order, and one from each crate to itself, and returns whether all agree.
+/// Whether each answer agrees on the graph of a mask.
 fn agrees(alloc: Global, count: u32, mask: u32) -> Result<bool, Fault>
     requires { count ≤ 4 }
 {
-    let mut graph = crates(alloc, count)?;
+    let mut graph = Box::new(alloc, CrateGraphBuilder::new(alloc, count))?;
+    add_crates(alloc, &mut graph, count)?;
+    agrees_on_edges(alloc, &mut graph, count, mask)
+}
+
+/// Adds the edges of a mask in order, and one from each crate to itself, and returns whether all agree.
+fn agrees_on_edges(
+    alloc: Global,
+    graph: &mut CrateGraphBuilder,
+    count: u32,
+    mask: u32,
+) -> Result<bool, Fault>
+    requires { count ≤ 4 }
+{
     let mut edges = [[false; 4]; 4];
     let mut left = mask;
     for from in 0..count {
@@ -103,7 +114,7 @@ fn agrees(alloc: Global, count: u32, mask: u32) -> Result<bool, Fault>
                 left >>= 1;
             }
             if is_wanted {
-                let Some(is_taken) = agrees_on_edge(alloc, &mut graph, &edges, from, to)? else {
+                let Some(is_taken) = agrees_on_edge(alloc, graph, &edges, from, to)? else {
                     return Ok(false);
                 };
                 if is_taken {

@@ -1,14 +1,14 @@
 //! What a crate is made of: names, origins, kinds, channels and toolchains.
 
 use base_text::{Text, TryClone};
-use cases::{Case, Fault, error_answer, optional_answer, text_answer};
+use cases::{Case, Fault, List, error_answer, text_answer};
 use crate_graph::target::TargetLoadError;
 use crate_graph::{
     CrateDisplayName, CrateName, CrateOrigin, CrateWorkspaceData, LangCrateOrigin,
     ProcMacroLoadingError, ReleaseChannel, TargetKind, ToolchainVersion,
 };
-use serde_json::{Value, json};
-use std::alloc::Global;
+use serde_json::Value;
+use std::alloc::{AllocError, Global};
 
 /// What a call on a part of a crate gives.
 pub fn answer(alloc: Global, case: Case<'_>) -> Result<Value, Fault> {
@@ -49,28 +49,35 @@ fn code_name(alloc: Global, text: &str) -> Result<Value, Fault> {
 
 fn display_name(alloc: Global, case: Case<'_>) -> Result<Value, Fault> {
     let name = name_of(alloc, case.text("text")?, case.flag("of_code"))?;
-    if name.try_clone(alloc)? == name {
-        name_answer(alloc, &name)
+    copied_name(alloc, &name)
+}
+
+fn name_of(alloc: Global, text: &str, is_of_code: bool) -> Result<CrateDisplayName, AllocError> {
+    if is_of_code {
+        let name = CrateName::normalize_dashes(alloc, text)?;
+        CrateDisplayName::from_name(alloc, name)
     } else {
-        Err(Fault::Condition)
+        CrateDisplayName::from_canonical_name(alloc, text)
     }
 }
 
-fn name_of(alloc: Global, text: &str, is_of_code: bool) -> Result<CrateDisplayName, Fault> {
-    if is_of_code {
-        let name = CrateName::normalize_dashes(alloc, text)?;
-        Ok(CrateDisplayName::from_name(alloc, name)?)
+// A name, which has to equal its copy.
+fn copied_name(alloc: Global, name: &CrateDisplayName) -> Result<Value, Fault> {
+    if name.try_clone(alloc)? == *name {
+        name_answer(alloc, name)
     } else {
-        Ok(CrateDisplayName::from_canonical_name(alloc, text)?)
+        Err(Fault::Condition)
     }
 }
 
 // A name as it was given, as code has it, and printed.
 fn name_answer(alloc: Global, name: &CrateDisplayName) -> Result<Value, Fault> {
     let printed = format!(in alloc; "{name}")?;
-    let canonical = name.canonical_name().as_str();
-    let code = name.crate_name().symbol().as_str();
-    Ok(json!(in alloc; [canonical, code, printed.as_str()])?)
+    List::new(alloc)
+        .text(name.canonical_name().as_str())
+        .text(name.crate_name().symbol().as_str())
+        .text(printed.as_str())
+        .answer()
 }
 
 fn names_equal(alloc: Global, text: &str, other: &str) -> Result<Value, Fault> {
@@ -109,8 +116,11 @@ fn origins_ascend(text: &str, other: &str) -> Result<Value, Fault> {
 // Whether an origin is local, a library, or of the language.
 fn origin(alloc: Global, text: &str) -> Result<Value, Fault> {
     let origin = origin_of(text)?;
-    let (is_local, is_lib, is_lang) = (origin.is_local(), origin.is_lib(), origin.is_lang());
-    Ok(json!(in alloc; [is_local, is_lib, is_lang])?)
+    List::new(alloc)
+        .flag(origin.is_local())
+        .flag(origin.is_lib())
+        .flag(origin.is_lang())
+        .answer()
 }
 
 fn kind_of(text: &str) -> Result<TargetKind, Fault> {
@@ -131,9 +141,11 @@ fn kind_of(text: &str) -> Result<TargetKind, Fault> {
 // Whether a target's kind is executable, whether it is a procedural macro, and cargo's name of it.
 fn kind(alloc: Global, text: &str) -> Result<Value, Fault> {
     let kind = kind_of(text)?;
-    let cargo = optional_answer(alloc, kind.as_cargo_target())?;
-    let (is_executable, is_proc_macro) = (kind.is_executable(), kind.is_proc_macro());
-    Ok(json!(in alloc; [is_executable, is_proc_macro, cargo])?)
+    List::new(alloc)
+        .flag(kind.is_executable())
+        .flag(kind.is_proc_macro())
+        .optional(kind.as_cargo_target())
+        .answer()
 }
 
 fn channel(alloc: Global, text: &str) -> Result<Value, Fault> {
@@ -154,12 +166,19 @@ fn error_of(alloc: Global, text: &str) -> Result<ProcMacroLoadingError, Fault> {
     }
 }
 
-// What is printed of an error of a procedural macro, and whether it is a fault.
 fn loading_error(alloc: Global, text: &str) -> Result<Value, Fault> {
     let error = error_of(alloc, text)?;
-    let printed = format!(in alloc; "{error}")?;
+    loading_error_answer(alloc, &error)
+}
+
+// What is printed of an error of a procedural macro, and whether its copy is a fault.
+fn loading_error_answer(alloc: Global, error: &ProcMacroLoadingError) -> Result<Value, Fault> {
     let is_hard = error.try_clone(alloc)?.is_hard_error();
-    Ok(json!(in alloc; [printed.as_str(), is_hard])?)
+    let printed = format!(in alloc; "{error}")?;
+    List::new(alloc)
+        .text(printed.as_str())
+        .flag(is_hard)
+        .answer()
 }
 
 fn toolchain(alloc: Global, version: Option<&str>) -> Result<Option<ToolchainVersion>, Fault> {
@@ -174,10 +193,16 @@ fn toolchain(alloc: Global, version: Option<&str>) -> Result<Option<ToolchainVer
 
 // Whether the toolchain of a version is 1.87.0 or later. Without a version it is not known.
 fn workspace(alloc: Global, version: Option<&str>) -> Result<Value, Fault> {
+    let text = Text::of_str(alloc, "no rustc")?;
     let toolchain = toolchain(alloc, version)?;
-    let target = Err(TargetLoadError(Text::of_str(alloc, "no rustc")?));
+    let target = Err(TargetLoadError(text));
     let data = CrateWorkspaceData { target, toolchain };
-    if data.try_clone(alloc)? == data {
+    is_atleast_187(alloc, &data)
+}
+
+// What is known of a workspace, which has to equal its copy.
+fn is_atleast_187(alloc: Global, data: &CrateWorkspaceData) -> Result<Value, Fault> {
+    if data.try_clone(alloc)? == *data {
         Ok(Value::from(data.is_atleast_187()))
     } else {
         Err(Fault::Condition)

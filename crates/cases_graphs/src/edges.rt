@@ -1,27 +1,36 @@
 //! Crates and edges that a graph takes or refuses.
 
-use case_graph::{add, depend, graph_of};
-use cases::{Case, Fault, number_of};
+use case_graph::{add, depend, graph_of, id_at};
+use cases::{Case, Fault, List, Object, items_of, number_of};
 use crate_graph::{
-    AddDepError, CrateBuilderId, CrateGraphBuilder, CyclicDependenciesError, GraphError,
+    AddDepError, CrateBuilderId, CrateGraphBuilder, CrateName, CyclicDependenciesError, Dependency,
 };
-use serde_json::{Value, json};
+use outside::{Counter, Ledger as _, Steps};
+use serde_json::Value;
 use std::alloc::Global;
 
 /// The number of each crate that is put in, or its refusal.
 pub fn roots(alloc: Global, case: Case<'_>) -> Result<Value, Fault> {
     let limit = number_of(case.member("limit")?, "limit")?;
+    let crates = case.list("crates")?;
     let mut graph = CrateGraphBuilder::new(alloc, limit);
-    let mut answers = Vec::new(alloc);
-    for krate in case.list("crates")? {
-        let added = add(alloc, &mut graph, Case::new(krate))?;
-        answers.push(number_answer(alloc, added)?)?;
-    }
-    Ok(Value::Array(answers))
+    add_roots(alloc, &mut graph, crates)
 }
 
-fn number_answer(alloc: Global, added: Result<CrateBuilderId, GraphError>) -> Result<Value, Fault> {
-    match added {
+fn add_roots(
+    alloc: Global,
+    graph: &mut CrateGraphBuilder,
+    crates: &[Value],
+) -> Result<Value, Fault> {
+    let mut answers = List::new(alloc);
+    for krate in crates {
+        answers = answers.item(add_root(alloc, graph, Case::new(krate)));
+    }
+    answers.answer()
+}
+
+fn add_root(alloc: Global, graph: &mut CrateGraphBuilder, krate: Case<'_>) -> Result<Value, Fault> {
+    match add(alloc, graph, krate)? {
         Ok(id) => Ok(Value::from(id.into_raw())),
         Err(error) => Ok(Value::String(format!(in alloc; "{error}")?)),
     }
@@ -29,13 +38,94 @@ fn number_answer(alloc: Global, added: Result<CrateBuilderId, GraphError>) -> Re
 
 /// Null for each edge that is taken, else its refusal.
 pub fn edges(alloc: Global, case: Case<'_>) -> Result<Value, Fault> {
+    let edges = case.list("edges")?;
     let mut graph = graph_of(alloc, case.member("graph")?)?;
-    let mut answers = Vec::new(alloc);
-    for edge in case.list("edges")? {
-        let added = depend(alloc, &mut graph, edge)?;
-        answers.push(edge_answer(alloc, added)?)?;
+    add_edges(alloc, &mut graph, edges)
+}
+
+fn add_edges(
+    alloc: Global,
+    graph: &mut CrateGraphBuilder,
+    edges: &[Value],
+) -> Result<Value, Fault> {
+    let mut answers = List::new(alloc);
+    for edge in edges {
+        answers = answers.item(add_edge(alloc, graph, edge));
     }
-    Ok(Value::Array(answers))
+    answers.answer()
+}
+
+fn add_edge(alloc: Global, graph: &mut CrateGraphBuilder, edge: &Value) -> Result<Value, Fault> {
+    let added = depend(alloc, graph, edge)?;
+    edge_answer(alloc, added)
+}
+
+/// Of each edge the crates that the search for it visits and its answer, and the rank of each crate then.
+pub fn counted_edges(alloc: Global, case: Case<'_>) -> Result<Value, Fault> {
+    let edges = case.list("edges")?;
+    let mut graph = graph_of(alloc, case.member("graph")?)?;
+    edges_and_ranks(alloc, &mut graph, edges)
+}
+
+fn edges_and_ranks(
+    alloc: Global,
+    graph: &mut CrateGraphBuilder,
+    edges: &[Value],
+) -> Result<Value, Fault> {
+    Object::new(alloc)
+        .member("edges", count_edges(alloc, graph, edges))
+        .member("ranks", ranks(alloc, graph))
+        .answer()
+}
+
+fn count_edges(
+    alloc: Global,
+    graph: &mut CrateGraphBuilder,
+    edges: &[Value],
+) -> Result<Value, Fault> {
+    let mut answers = List::new(alloc);
+    for edge in edges {
+        answers = answers.item(counted_edge(alloc, graph, edge));
+    }
+    answers.answer()
+}
+
+fn counted_edge(
+    alloc: Global,
+    graph: &mut CrateGraphBuilder,
+    edge: &Value,
+) -> Result<Value, Fault> {
+    let edge = items_of(edge, "edges")?;
+    let from = id_at(edge, 0)?;
+    let to = id_at(edge, 1)?;
+    if !graph.contains(from) || !graph.contains(to) {
+        return Err(Fault::Condition);
+    }
+    let name = CrateName::normalize_dashes(alloc, "dep")?;
+    let mut steps = Steps {
+        ledger: Counter::new(),
+    };
+    let added = graph.add_dep_counted(from, Dependency::new(name, to), &mut steps);
+    Object::new(alloc)
+        .number("visits", steps.ledger.count())
+        .member("answer", edge_answer(alloc, added))
+        .answer()
+}
+
+/// The rank of each crate.
+pub fn ranks(alloc: Global, graph: &CrateGraphBuilder) -> Result<Value, Fault> {
+    let mut ranks = List::new(alloc);
+    for id in graph.iter() {
+        ranks = ranks.item(rank(graph, id));
+    }
+    ranks.answer()
+}
+
+fn rank(graph: &CrateGraphBuilder, id: CrateBuilderId) -> Result<Value, Fault> {
+    if !graph.contains(id) {
+        return Err(Fault::Condition);
+    }
+    Ok(Value::from(graph.rank(id)))
 }
 
 fn edge_answer(alloc: Global, added: Result<(), AddDepError>) -> Result<Value, Fault> {
@@ -48,15 +138,17 @@ fn edge_answer(alloc: Global, added: Result<(), AddDepError>) -> Result<Value, F
 
 // The path of a cycle, and what is printed of it.
 fn cycle_answer(alloc: Global, error: &CyclicDependenciesError) -> Result<Value, Fault> {
-    let path = path_answer(alloc, error)?;
     let printed = format!(in alloc; "{error}")?;
-    Ok(json!(in alloc; { "path": path, "printed": printed.as_str() })?)
+    Object::new(alloc)
+        .member("path", path_answer(alloc, error))
+        .text("printed", printed.as_str())
+        .answer()
 }
 
 fn path_answer(alloc: Global, error: &CyclicDependenciesError) -> Result<Value, Fault> {
-    let mut path = Vec::new(alloc);
+    let mut path = List::new(alloc);
     for (id, _) in error.path() {
-        path.push(Value::from(id.into_raw()))?;
+        path = path.number(id.into_raw() as u64);
     }
-    Ok(Value::Array(path))
+    path.answer()
 }

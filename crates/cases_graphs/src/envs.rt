@@ -1,9 +1,9 @@
 //! Environments of crates: variables with their values, in order of their names.
 
 use base_text::TryClone;
-use cases::{Case, Fault, optional_answer, texts_of_pair};
+use cases::{Case, Fault, List, optional_answer, texts_of_pair};
 use crate_graph::Env;
-use serde_json::{Value, json};
+use serde_json::Value;
 use std::alloc::{AllocError, Global};
 
 /// What a call on environments gives.
@@ -32,11 +32,11 @@ fn pairs(alloc: Global, values: &[Value]) -> Result<Vec<(String, String)>, Fault
 // The value that each insertion finds.
 fn insertions(alloc: Global, values: &[Value]) -> Result<Value, Fault> {
     let mut env = Env::new(alloc);
-    let mut olds = Vec::new(alloc);
+    let mut olds = List::new(alloc);
     for value in values {
-        olds.push(insert(alloc, &mut env, value)?)?;
+        olds = olds.item(insert(alloc, &mut env, value));
     }
-    Ok(Value::Array(olds))
+    olds.answer()
 }
 
 fn insert(alloc: Global, env: &mut Env, value: &Value) -> Result<Value, Fault> {
@@ -46,21 +46,31 @@ fn insert(alloc: Global, env: &mut Env, value: &Value) -> Result<Value, Fault> {
 }
 
 fn env_of(alloc: Global, values: &[Value]) -> Result<Env, Fault> {
-    let mut env = Env::new(alloc);
     let pairs = pairs(alloc, values)?;
+    let mut env = Env::new(alloc);
     env.extend(pairs)?;
     Ok(env)
 }
 
 // An environment that is set, and extended by another: its pairs in order.
 fn joined(alloc: Global, case: Case<'_>) -> Result<Value, Fault> {
+    let other = case.list("other")?;
     let mut env = env_of(alloc, case.list("set")?)?;
-    let other = env_of(alloc, case.list("other")?)?;
+    extend(alloc, &mut env, other)?;
+    env_answer(alloc, &env)
+}
+
+fn extend(alloc: Global, env: &mut Env, values: &[Value]) -> Result<(), Fault> {
+    let other = env_of(alloc, values)?;
     env.extend_from_other(&other)?;
-    if !is_made_again(alloc, &env)? {
+    Ok(())
+}
+
+fn env_answer(alloc: Global, env: &Env) -> Result<Value, Fault> {
+    if !is_made_again(alloc, env)? {
         return Err(Fault::Condition);
     }
-    pairs_answer(alloc, &env)
+    pairs_answer(alloc, env)
 }
 
 // Whether an environment of the same pairs is equal.
@@ -73,12 +83,17 @@ fn is_made_again(alloc: Global, env: &Env) -> Result<bool, AllocError> {
 }
 
 fn pairs_answer(alloc: Global, env: &Env) -> Result<Value, Fault> {
-    let mut pairs = Vec::new(alloc);
+    let mut pairs = List::new(alloc);
     for (name, value) in env.iter() {
-        if env.get(name) != Some(value) || !env.contains_key(name) {
-            return Err(Fault::Condition);
-        }
-        pairs.push(json!(in alloc; [name, value])?)?;
+        pairs = pairs.item(pair_answer(alloc, env, name, value));
     }
-    Ok(Value::Array(pairs))
+    pairs.answer()
+}
+
+// A pair, which has to be found by its name.
+fn pair_answer(alloc: Global, env: &Env, name: &str, value: &str) -> Result<Value, Fault> {
+    if env.get(name) != Some(value) || !env.contains_key(name) {
+        return Err(Fault::Condition);
+    }
+    List::new(alloc).text(name).text(value).answer()
 }

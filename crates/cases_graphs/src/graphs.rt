@@ -1,13 +1,13 @@
 //! Graphs of crates: what crates reach, and which crates are left.
 
 use crate::closure::agrees_on_all;
-use crate::edges::{edges, roots};
-use crate::joining::join;
+use crate::edges::{counted_edges, edges, ranks, roots};
+use crate::joining::{join, ranks_of_joined};
 use base_text::TryClone;
 use case_graph::graph_of;
-use cases::{Case, Fault, number_of};
+use cases::{Case, Fault, List, Object, number_of};
 use crate_graph::{CrateBuilderId, CrateGraphBuilder};
-use serde_json::{Value, json};
+use serde_json::Value;
 use std::alloc::Global;
 
 /// What a call on graphs gives.
@@ -15,7 +15,9 @@ pub fn answer(alloc: Global, case: Case<'_>) -> Result<Value, Fault> {
     match case.text("call")? {
         "CrateGraphBuilder::add_crate_root" => roots(alloc, case),
         "CrateGraphBuilder::add_dep" => edges(alloc, case),
+        "CrateGraphBuilder::add_dep_counted" => counted_edges(alloc, case),
         "CrateGraphBuilder::extend" => join(alloc, case),
+        "ranks of joined graphs" => ranks_of_joined(alloc, case),
         "closure" => Ok(Value::from(agrees_on_all(alloc)?)),
         call => of_graph(alloc, case, call),
     }
@@ -25,12 +27,32 @@ pub fn answer(alloc: Global, case: Case<'_>) -> Result<Value, Fault> {
 fn of_graph(alloc: Global, case: Case<'_>, call: &str) -> Result<Value, Fault> {
     let mut graph = graph_of(alloc, case.member("graph")?)?;
     graph.shrink_to_fit();
-    let copy = graph.try_clone(alloc)?;
+    of_copy(alloc, case, call, &graph)
+}
+
+fn of_copy(
+    alloc: Global,
+    case: Case<'_>,
+    call: &str,
+    graph: &CrateGraphBuilder,
+) -> Result<Value, Fault> {
+    let mut copy = graph.try_clone(alloc)?;
+    ask(alloc, case, call, &mut copy)
+}
+
+fn ask(
+    alloc: Global,
+    case: Case<'_>,
+    call: &str,
+    graph: &mut CrateGraphBuilder,
+) -> Result<Value, Fault> {
     match call {
-        "CrateGraphBuilder::transitive_deps" => reached(alloc, case, &copy),
-        "CrateGraphBuilder::iter" => numbers(alloc, &copy),
-        "CrateGraphBuilder::is_closed" => is_closed(alloc, case, &copy),
-        "CrateGraphBuilder::remove_crates_except" => remove(alloc, case, copy),
+        "CrateGraphBuilder::transitive_deps" => reached(alloc, case, graph),
+        "CrateGraphBuilder::rank" => ranks(alloc, graph),
+        "CrateGraphBuilder::iter" => numbers(alloc, graph),
+        "CrateGraphBuilder::is_closed" => is_closed(alloc, case, graph),
+        "CrateGraphBuilder::remove_crates_except" => remove(alloc, case, graph),
+        "ranks of kept crates" => ranks_of_kept(alloc, case, graph),
         _ => Err(Fault::Call),
     }
 }
@@ -41,24 +63,25 @@ fn reached(alloc: Global, case: Case<'_>, graph: &CrateGraphBuilder) -> Result<V
         return Err(Fault::Condition);
     }
     let ids = graph.transitive_deps(alloc, of)?;
-    let mut numbers = Vec::new(alloc);
+    let mut numbers = List::new(alloc);
     for id in &ids {
-        numbers.push(Value::from(id.into_raw()))?;
+        numbers = numbers.number(id.into_raw() as u64);
     }
-    Ok(Value::Array(numbers))
+    numbers.answer()
 }
 
 fn numbers(alloc: Global, graph: &CrateGraphBuilder) -> Result<Value, Fault> {
-    let mut numbers = Vec::new(alloc);
+    let mut numbers = List::new(alloc);
     for id in graph.iter() {
-        numbers.push(Value::from(id.into_raw()))?;
+        numbers = numbers.number(id.into_raw() as u64);
     }
-    Ok(Value::Array(numbers))
+    numbers.answer()
 }
 
 fn kept(alloc: Global, case: Case<'_>) -> Result<Vec<CrateBuilderId>, Fault> {
+    let values = case.list("keep")?;
     let mut ids = Vec::new(alloc);
-    for value in case.list("keep")? {
+    for value in values {
         ids.push(CrateBuilderId::from_raw(number_of(value, "keep")?))?;
     }
     Ok(ids)
@@ -70,23 +93,43 @@ fn is_closed(alloc: Global, case: Case<'_>, graph: &CrateGraphBuilder) -> Result
 }
 
 // What is left where some crates are kept: the new numbers, and the dependencies of each crate.
-fn remove(alloc: Global, case: Case<'_>, mut graph: CrateGraphBuilder) -> Result<Value, Fault> {
+fn remove(alloc: Global, case: Case<'_>, graph: &mut CrateGraphBuilder) -> Result<Value, Fault> {
+    let ids = keep(alloc, case, graph)?;
+    Object::new(alloc)
+        .member("numbers", new_numbers(alloc, ids.as_slice()))
+        .member("edges", edge_lists(alloc, graph))
+        .answer()
+}
+
+// The rank of each crate where some crates are kept.
+fn ranks_of_kept(
+    alloc: Global,
+    case: Case<'_>,
+    graph: &mut CrateGraphBuilder,
+) -> Result<Value, Fault> {
+    drop(keep(alloc, case, graph)?);
+    ranks(alloc, graph)
+}
+
+// Keeps the crates that a case names, and returns the new numbers.
+fn keep(
+    alloc: Global,
+    case: Case<'_>,
+    graph: &mut CrateGraphBuilder,
+) -> Result<Vec<Option<CrateBuilderId>>, Fault> {
     let kept = kept(alloc, case)?;
     if !graph.is_closed(kept.as_slice()) {
         return Err(Fault::Condition);
     }
-    let ids = graph.remove_crates_except(alloc, kept.as_slice())?;
-    let numbers = new_numbers(alloc, ids.as_slice())?;
-    let edges = edge_lists(alloc, &graph)?;
-    Ok(json!(in alloc; { "numbers": numbers, "edges": edges })?)
+    Ok(graph.remove_crates_except(alloc, kept.as_slice())?)
 }
 
 fn new_numbers(alloc: Global, ids: &[Option<CrateBuilderId>]) -> Result<Value, Fault> {
-    let mut numbers = Vec::new(alloc);
+    let mut numbers = List::new(alloc);
     for id in ids {
-        numbers.push(new_number(*id))?;
+        numbers = numbers.item(Ok(new_number(*id)));
     }
-    Ok(Value::Array(numbers))
+    numbers.answer()
 }
 
 fn new_number(id: Option<CrateBuilderId>) -> Value {
@@ -98,20 +141,20 @@ fn new_number(id: Option<CrateBuilderId>) -> Value {
 
 /// The dependencies of each crate, as numbers.
 pub fn edge_lists(alloc: Global, graph: &CrateGraphBuilder) -> Result<Value, Fault> {
-    let mut lists = Vec::new(alloc);
+    let mut lists = List::new(alloc);
     for id in graph.iter() {
-        lists.push(edge_list(alloc, graph, id)?)?;
+        lists = lists.item(edge_list(alloc, graph, id));
     }
-    Ok(Value::Array(lists))
+    lists.answer()
 }
 
 fn edge_list(alloc: Global, graph: &CrateGraphBuilder, id: CrateBuilderId) -> Result<Value, Fault> {
     if !graph.contains(id) {
         return Err(Fault::Condition);
     }
-    let mut targets = Vec::new(alloc);
+    let mut targets = List::new(alloc);
     for dep in graph[id].basic.dependencies.as_slice() {
-        targets.push(Value::from(dep.crate_id.into_raw()))?;
+        targets = targets.number(dep.crate_id.into_raw() as u64);
     }
-    Ok(Value::Array(targets))
+    targets.answer()
 }

@@ -1,54 +1,70 @@
 //! Documents: what is written of what was read, or the first place that does not fit.
 
 use base_text::{AbsPathBuf, TryClone};
-use cases::{Case, Fault, error_answer, missed_answer};
+use cases::{Case, Fault, Object, error_answer, missed_answer};
 use pm_json_data::{Error, ProjectJsonData};
 use pm_tools::ProjectJsonFromCommand;
-use serde_json::{Value, json};
+use serde_json::Value;
 use std::alloc::Global;
 
 /// What is written of a document, once it is read again, equal, and its copy is equal.
 pub fn answer(alloc: Global, case: Case<'_>) -> Result<Value, Fault> {
     match case.text("call")? {
-        "ProjectJsonData::of_value" => {
-            match ProjectJsonData::of_value(alloc, case.member("document")?) {
-                Ok(document) => written(alloc, &document),
-                Err(error) => refusal(alloc, error),
-            }
-        }
+        "ProjectJsonData::of_value" => read(alloc, case.member("document")?),
         "ProjectJsonFromCommand::try_clone" => copied_project(alloc, case),
         _ => Err(Fault::Call),
     }
 }
 
+fn read(alloc: Global, document: &Value) -> Result<Value, Fault> {
+    match ProjectJsonData::of_value(alloc, document) {
+        Ok(document) => written(alloc, &document),
+        Err(error) => refusal(alloc, error),
+    }
+}
+
 // The copy of what a command gave, which is equal: its document as it is written, and its file.
 fn copied_project(alloc: Global, case: Case<'_>) -> Result<Value, Fault> {
-    let json_data = match ProjectJsonData::of_value(alloc, case.member("document")?) {
-        Ok(document) => document,
-        Err(error) => return refusal(alloc, error),
-    };
-    let Ok(buildfile) = AbsPathBuf::new(alloc, case.text("buildfile")?) else {
+    let (document, buildfile) = (case.member("document")?, case.text("buildfile")?);
+    let Ok(buildfile) = AbsPathBuf::new(alloc, buildfile) else {
         return Err(Fault::Condition);
     };
-    let project = ProjectJsonFromCommand {
-        json_data,
-        buildfile,
-    };
-    let copy = project.try_clone(alloc)?;
-    if copy != project {
-        return Err(Fault::Condition);
+    match ProjectJsonData::of_value(alloc, document) {
+        Ok(json_data) => copy_answer(
+            alloc,
+            &ProjectJsonFromCommand {
+                json_data,
+                buildfile,
+            },
+        ),
+        Err(error) => refusal(alloc, error),
     }
-    let document = copy.json_data.to_value(alloc)?;
-    let buildfile = copy.buildfile.as_str();
-    Ok(json!(in alloc; { "document": document, "buildfile": buildfile })?)
+}
+
+fn copy_answer(alloc: Global, project: &ProjectJsonFromCommand) -> Result<Value, Fault> {
+    let copy = project.try_clone(alloc)?;
+    if copy == *project {
+        Object::new(alloc)
+            .member("document", document_answer(alloc, &copy.json_data))
+            .text("buildfile", copy.buildfile.as_str())
+            .answer()
+    } else {
+        Err(Fault::Condition)
+    }
+}
+
+fn document_answer(alloc: Global, document: &ProjectJsonData) -> Result<Value, Fault> {
+    Ok(document.to_value(alloc)?)
 }
 
 fn written(alloc: Global, document: &ProjectJsonData) -> Result<Value, Fault> {
+    if document.try_clone(alloc)? != *document {
+        return Err(Fault::Condition);
+    }
     let written = document.to_value(alloc)?;
-    let is_copied = document.try_clone(alloc)? == *document;
     match ProjectJsonData::of_value(alloc, &written) {
         Ok(again) => {
-            if is_copied && again == *document {
+            if again == *document {
                 Ok(written)
             } else {
                 Err(Fault::Condition)

@@ -3,43 +3,36 @@
 use crate::crates::{build_answer, crate_answer, paths_answer};
 use crate::documents::refusal;
 use base_text::{AbsPath, AbsPathBuf, Limits, PathError, TryClone};
-use cases::{Case, Fault, error_answer, optional_answer, text_answer, text_of};
+use cases::{Case, Fault, List, Object, error_answer, text_answer, text_of};
 use json_fields::TextJson;
 use pm_json::{Crate, CrateArrayIdx, ProjectJson, RunnableKind, WorkspaceJsonError};
 use pm_json_data::ProjectJsonData;
 use pm_packages::ManifestPath;
-use serde_json::{Value, json};
+use serde_json::Value;
 use std::alloc::Global;
 
 /// What a project answers. It is that of the case's document on its base.
 pub fn answer(alloc: Global, case: Case<'_>) -> Result<Value, Fault> {
-    let base = path(alloc, case.text("base")?)?;
-    let mut limits = Limits::greatest();
-    if let Some(limit) = case.find("limit").and_then(Value::as_u64) {
-        limits.crates = u32::try_from(limit).ok().ok_or(Fault::Member("limit"))?;
-    }
-    match ProjectJsonData::of_value(alloc, case.member("document")?) {
-        Ok(document) => of_document(alloc, case, base.as_path(), &limits, document),
+    let (base, document) = (case.text("base")?, case.member("document")?);
+    let limits = limits_of(case)?;
+    let base = path(alloc, base)?;
+    let manifest = manifest(alloc, case)?;
+    match ProjectJsonData::of_value(alloc, document) {
+        Ok(document) => {
+            let project = ProjectJson::new(alloc, manifest, base.as_path(), document, &limits);
+            of_outcome(alloc, case, project)
+        }
         Err(error) => refusal(alloc, error),
     }
 }
 
-fn of_document(
-    alloc: Global,
-    case: Case<'_>,
-    base: AbsPath<'_>,
-    limits: &Limits,
-    document: ProjectJsonData,
-) -> Result<Value, Fault> {
-    let manifest = manifest(alloc, case)?;
-    match ProjectJson::new(alloc, manifest, base, document, limits) {
-        Ok(project) => of_project(alloc, case, Box::new(alloc, project)?),
-        Err(WorkspaceJsonError::TooMany(_)) => error_answer(alloc, "TooMany"),
-        Err(WorkspaceJsonError::NoParent(text)) => {
-            Ok(json!(in alloc; { "no_parent": text.as_str() })?)
-        }
-        Err(WorkspaceJsonError::OutOfMemory) => Err(Fault::OutOfMemory),
+// The limits of a case. That of the crates is the greatest, unless the case gives it.
+fn limits_of(case: Case<'_>) -> Result<Limits, Fault> {
+    let mut limits = Limits::greatest();
+    if let Some(limit) = case.find("limit").and_then(Value::as_u64) {
+        limits.crates = u32::try_from(limit).ok().ok_or(Fault::Member("limit"))?;
     }
+    Ok(limits)
 }
 
 fn path(alloc: Global, text: &str) -> Result<AbsPathBuf, Fault> {
@@ -60,16 +53,38 @@ fn manifest(alloc: Global, case: Case<'_>) -> Result<Option<ManifestPath>, Fault
     }
 }
 
-fn of_project(alloc: Global, case: Case<'_>, project: Box<ProjectJson>) -> Result<Value, Fault> {
+// What a project answers, or why there is none.
+fn of_outcome(
+    alloc: Global,
+    case: Case<'_>,
+    project: Result<ProjectJson, WorkspaceJsonError>,
+) -> Result<Value, Fault> {
+    match project {
+        Ok(mut project) => of_project(alloc, case, &mut project),
+        Err(WorkspaceJsonError::TooMany(_)) => error_answer(alloc, "TooMany"),
+        Err(WorkspaceJsonError::NoParent(text)) => Object::new(alloc)
+            .text("no_parent", text.as_str())
+            .answer(),
+        Err(WorkspaceJsonError::OutOfMemory) => Err(Fault::OutOfMemory),
+    }
+}
+
+fn of_project(alloc: Global, case: Case<'_>, project: &mut ProjectJson) -> Result<Value, Fault> {
     if project.try_clone(alloc)? != *project {
         return Err(Fault::Condition);
     }
     match case.text("call")? {
-        "ProjectJson" => paths(alloc, &project),
-        "ProjectJson::crates" => crates(alloc, case, &project),
-        "ProjectJson::index" => indexed(alloc, case, &project),
-        "Crate::iter_deps" => deps(alloc, case, &project),
         "ProjectJson::take_sysroot_project" => taken(alloc, case, project),
+        call => asked(alloc, case, call, project),
+    }
+}
+
+fn asked(alloc: Global, case: Case<'_>, call: &str, project: &ProjectJson) -> Result<Value, Fault> {
+    match call {
+        "ProjectJson" => paths(alloc, project),
+        "ProjectJson::crates" => crates(alloc, case, project),
+        "ProjectJson::index" => crate_members(alloc, case, crate_at(case, project)?),
+        "Crate::iter_deps" => deps(alloc, crate_at(case, project)?),
         "ProjectJson::crate_by_root" => {
             let root = path(alloc, case.text("root")?)?;
             root_answer(alloc, project.crate_by_root(root.as_path()))
@@ -81,58 +96,64 @@ fn of_project(alloc: Global, case: Case<'_>, project: Box<ProjectJson>) -> Resul
             let file = path(alloc, case.text("file")?)?;
             build_answer(alloc, project.crate_by_buildfile(file.as_path()))
         }
-        "ProjectJson::runnable_template" => template(alloc, case, &project),
+        "ProjectJson::runnable_template" => template(alloc, case, project),
         _ => Err(Fault::Call),
     }
 }
 
 // The paths of a project, and how much it has of each.
 fn paths(alloc: Global, project: &ProjectJson) -> Result<Value, Fault> {
-    let sysroot = optional_answer(alloc, project.sysroot().map(|path| path.as_str()))?;
-    let source = optional_answer(alloc, project.sysroot_src().map(|path| path.as_str()))?;
     let manifest = project
         .manifest()
         .map(|manifest| manifest.as_path().as_str());
-    let manifest = optional_answer(alloc, manifest)?;
-    let root = [project.path().as_str(), project.project_root().as_str()];
-    let (crates, runnables) = (project.n_crates(), project.runnables().len());
-    Ok(json!(in alloc; {
-        "sysroot": sysroot,
-        "sysroot_src": source,
-        "manifest": manifest,
-        "manifest_or_root": project.manifest_or_root().as_str(),
-        "root": [root[0], root[1]],
-        "n_crates": crates,
-        "runnables": runnables,
-        "sysroot_project": project.sysroot_project.is_some()
-    })?)
+    Object::new(alloc)
+        .optional("sysroot", project.sysroot().map(AbsPath::as_str))
+        .optional("sysroot_src", project.sysroot_src().map(AbsPath::as_str))
+        .optional("manifest", manifest)
+        .text("manifest_or_root", project.manifest_or_root().as_str())
+        .member("root", root_paths(alloc, project))
+        .number("n_crates", project.n_crates() as u64)
+        .number("runnables", project.runnables().len() as u64)
+        .flag("sysroot_project", project.sysroot_project.is_some())
+        .answer()
+}
+
+fn root_paths(alloc: Global, project: &ProjectJson) -> Result<Value, Fault> {
+    List::new(alloc)
+        .text(project.path().as_str())
+        .text(project.project_root().as_str())
+        .answer()
 }
 
 // The named members of each crate, with its place before them.
 fn crates(alloc: Global, case: Case<'_>, project: &ProjectJson) -> Result<Value, Fault> {
-    let mut rows = Vec::new(alloc);
+    let mut rows = List::new(alloc);
     for (place, krate) in project.crates() {
-        let members = crate_members(alloc, case, krate)?;
-        rows.push(json!(in alloc; [place.0, members])?)?;
+        let row = List::new(alloc).number(place.0 as u64);
+        rows = rows.item(row.item(crate_members(alloc, case, krate)).answer());
     }
-    Ok(Value::Array(rows))
+    rows.answer()
 }
 
 // The members of a crate that the case names, in its order, or all of them.
 fn crate_members(alloc: Global, case: Case<'_>, krate: &Crate) -> Result<Value, Fault> {
-    let whole = crate_answer(alloc, krate)?;
     if case.find("members").is_none() {
-        return Ok(whole);
+        return crate_answer(alloc, krate);
     }
-    let mut members = Vec::new(alloc);
-    for key in case.list("members")? {
-        members.push(member_of(&whole, text_of(key, "members")?)?)?;
-    }
-    Ok(Value::Array(members))
+    let keys = case.list("members")?;
+    members_of(alloc, &crate_answer(alloc, krate)?, keys)
 }
 
-fn member_of(whole: &Value, key: &str) -> Result<Value, Fault> {
-    match whole.get(key) {
+fn members_of(alloc: Global, whole: &Value, keys: &[Value]) -> Result<Value, Fault> {
+    let mut members = List::new(alloc);
+    for key in keys {
+        members = members.item(member_of(whole, key));
+    }
+    members.answer()
+}
+
+fn member_of(whole: &Value, key: &Value) -> Result<Value, Fault> {
+    match whole.get(text_of(key, "members")?) {
         Some(member) => Ok(member.clone()?),
         None => Err(Fault::Member("members")),
     }
@@ -147,40 +168,35 @@ fn crate_at<'p>(case: Case<'_>, project: &'p ProjectJson) -> Result<&'p Crate, F
     }
 }
 
-fn indexed(alloc: Global, case: Case<'_>, project: &ProjectJson) -> Result<Value, Fault> {
-    crate_members(alloc, case, crate_at(case, project)?)
-}
-
-fn deps(alloc: Global, case: Case<'_>, project: &ProjectJson) -> Result<Value, Fault> {
-    let mut places = Vec::new(alloc);
-    for place in crate_at(case, project)?.iter_deps() {
-        places.push(Value::from(place.0 as u64))?;
+fn deps(alloc: Global, krate: &Crate) -> Result<Value, Fault> {
+    let mut places = List::new(alloc);
+    for place in krate.iter_deps() {
+        places = places.number(place.0 as u64);
     }
-    Ok(Value::Array(places))
+    places.answer()
 }
 
 // The project of the standard library, after which there is none left.
-fn taken(alloc: Global, case: Case<'_>, mut project: Box<ProjectJson>) -> Result<Value, Fault> {
+fn taken(alloc: Global, case: Case<'_>, project: &mut ProjectJson) -> Result<Value, Fault> {
     let taken = project.take_sysroot_project();
     if project.sysroot_project.is_some() {
         return Err(Fault::Condition);
     }
-    match taken {
-        Some(inner) => {
-            let inner = Box::new(alloc, inner.into_inner())?;
-            let (paths, crates) = (paths(alloc, &inner)?, crates(alloc, case, &inner)?);
-            Ok(json!(in alloc; { "paths": paths, "crates": crates })?)
-        }
+    match &taken {
+        Some(inner) => Object::new(alloc)
+            .member("paths", paths(alloc, inner.get()))
+            .member("crates", crates(alloc, case, inner.get()))
+            .answer(),
         None => Ok(Value::Null),
     }
 }
 
 fn root_answer(alloc: Global, krate: Option<&Crate>) -> Result<Value, Fault> {
     match krate {
-        Some(krate) => {
-            let include = paths_answer(alloc, krate.include.as_slice())?;
-            Ok(json!(in alloc; [krate.root_module.as_str(), include])?)
-        }
+        Some(krate) => List::new(alloc)
+            .text(krate.root_module.as_str())
+            .item(paths_answer(alloc, krate.include.as_slice()))
+            .answer(),
         None => Ok(Value::Null),
     }
 }

@@ -1,7 +1,6 @@
 //! Scripts that seeds make, by the program and by the plain account of sessions.
 
 use crate::runs::{is_plain, run};
-use base_text::{FaultSink, FaultSource};
 use cases::{Case, Fault};
 use serde_json::Value;
 use std::alloc::{AllocError, Global};
@@ -21,11 +20,13 @@ pub fn answer(alloc: Global, case: Case<'_>) -> Result<Value, Fault> {
     Ok(Value::from(count))
 }
 
-fn is_alike(alloc: Global, script: &[u8]) -> Result<bool, AllocError> {
-    let input = FaultSource::new(script.to_vec(alloc)?, Vec::new(alloc));
-    let out = FaultSink::new(alloc, Vec::new(alloc));
-    let ran = run(alloc, &[], input, out)?;
-    Ok(ran.status == 0 && is_plain(alloc, &[], script, &ran)?)
+fn is_alike(alloc: Global, script: &[u8]) -> Result<bool, Fault> {
+    let ran = run(alloc, &[], script, &[], &[])?;
+    if ran.status == 0 {
+        is_plain(alloc, &[], script, &ran)
+    } else {
+        Ok(false)
+    }
 }
 
 /// A sequence of numbers that begins at a seed.

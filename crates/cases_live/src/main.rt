@@ -1,13 +1,15 @@
-//! Cases of live and live_plain: scripts through the whole program, sessions step by step, and the plain
-//! account of sessions.
+//! Cases of live_input, live and live_plain: words of a command line, scripts through the whole program, sessions
+//! step by step, and the plain account of sessions.
 #![tactic(auto)]
 
+mod config;
 mod generated;
-mod pages;
 mod plain;
 mod runs;
 mod scripts;
 mod sessions;
+mod values;
+mod words;
 
 use cases::{Case, Family, Fault, run_files};
 use serde_json::Value;
@@ -15,7 +17,7 @@ use std::io;
 use std::process::ExitCode;
 use std::rt::Files;
 
-/// The calls of live and live_plain.
+/// The calls of live_input, live and live_plain.
 struct LiveFamily;
 
 impl<R: Files + AllocGlobal> Family<R> for LiveFamily {
@@ -25,6 +27,7 @@ impl<R: Files + AllocGlobal> Family<R> for LiveFamily {
             "plain.jsonl" => plain::answer(rt.alloc(), case),
             "scripts.jsonl" => scripts::answer(rt, case),
             "sessions.jsonl" => sessions::answer(rt.alloc(), case),
+            "words.jsonl" => words::answer(rt.alloc(), case),
             _ => Err(Fault::Kind),
         }
     }

@@ -1,20 +1,20 @@
 //! The plain account of sessions, and the errors of runs.
 
-use crate::pages::{pages_of, script_of, words_of};
 use crate::runs::joined;
+use crate::values::{pages_of, script_of, words_of};
 use base_text::Limit;
-use cases::{Case, Fault};
+use cases::{Case, Fault, List, Object};
 use live::{LiveConfig, LiveError, fault_text};
 use live_plain::{PlainOutcome, PlainState, plain_session};
-use serde_json::{Value, json};
-use std::alloc::{AllocError, Global};
+use serde_json::Value;
+use std::alloc::Global;
 
 /// What a call of the plain account gives.
 pub fn answer(alloc: Global, case: Case<'_>) -> Result<Value, Fault> {
     match case.text("call")? {
         "plain_session" => session(alloc, case),
         "LiveError" => match error_of(case.text("error")?) {
-            Some(error) => Ok(error_answer(alloc, &error)?),
+            Some(error) => error_answer(alloc, &error),
             None => Err(Fault::Member("error")),
         },
         _ => Err(Fault::Call),
@@ -23,12 +23,17 @@ pub fn answer(alloc: Global, case: Case<'_>) -> Result<Value, Fault> {
 
 // The outcome of a script, on a new session or after the script of another.
 fn session(alloc: Global, case: Case<'_>) -> Result<Value, Fault> {
-    let before = script_before(alloc, case)?;
     let script = script_of(alloc, case)?;
-    let words = words_of(alloc, case)?;
-    let state = new_state(alloc, words.as_slice())?;
-    let outcome = outcome_after(alloc, state, before.as_slice(), script.as_slice())?;
+    let state = state_before(alloc, case)?;
+    let outcome = plain_session(alloc, state, script.as_slice())?;
     outcome_answer(alloc, &outcome)
+}
+
+// The state of a new session after the script before.
+fn state_before(alloc: Global, case: Case<'_>) -> Result<PlainState, Fault> {
+    let before = script_before(alloc, case)?;
+    let state = new_state(alloc, case)?;
+    Ok(plain_session(alloc, state, before.as_slice())?.into_state())
 }
 
 // The script of the session before, which is empty where there is none.
@@ -39,33 +44,25 @@ fn script_before(alloc: Global, case: Case<'_>) -> Result<Vec<u8>, Fault> {
     }
 }
 
-fn new_state(alloc: Global, words: &[String]) -> Result<PlainState, Fault> {
-    match LiveConfig::of_words(alloc, words) {
-        Ok(config) => Ok(PlainState::new(alloc, config)),
+fn new_state(alloc: Global, case: Case<'_>) -> Result<PlainState, Fault> {
+    let words = words_of(alloc, case)?;
+    match LiveConfig::of_words(alloc, words.as_slice()) {
+        Ok(config) => Ok(PlainState::new(alloc, config)?),
         Err(_) => Err(Fault::Member("words")),
     }
-}
-
-fn outcome_after(
-    alloc: Global,
-    state: PlainState,
-    before: &[u8],
-    script: &[u8],
-) -> Result<PlainOutcome, AllocError> {
-    let state = plain_session(alloc, state, before)?.into_state();
-    plain_session(alloc, state, script)
 }
 
 // The pages, the number of lines and the refusal.
 fn outcome_answer(alloc: Global, outcome: &PlainOutcome) -> Result<Value, Fault> {
     let pages = joined(alloc, outcome.pages())?;
-    let pages = pages_of(alloc, pages.as_str().as_bytes())?;
-    let refusal = refusal_answer(alloc, outcome.refusal())?;
-    let lines = outcome.lines();
-    Ok(json!(in alloc; { "pages": pages, "lines": lines, "refusal": refusal })?)
+    Object::new(alloc)
+        .member("pages", pages_of(alloc, pages.as_str().as_bytes()))
+        .number("lines", outcome.lines())
+        .member("refusal", refusal_answer(alloc, outcome.refusal()))
+        .answer()
 }
 
-fn refusal_answer(alloc: Global, refusal: Option<&LiveError>) -> Result<Value, AllocError> {
+fn refusal_answer(alloc: Global, refusal: Option<&LiveError>) -> Result<Value, Fault> {
     match refusal {
         Some(error) => error_answer(alloc, error),
         None => Ok(Value::Null),
@@ -86,8 +83,10 @@ fn error_of(name: &str) -> Option<LiveError> {
 }
 
 // An error's status, and its text for people.
-fn error_answer(alloc: Global, error: &LiveError) -> Result<Value, AllocError> {
+fn error_answer(alloc: Global, error: &LiveError) -> Result<Value, Fault> {
     let text = fault_text(alloc, error)?;
-    let status = error.status();
-    json!(in alloc; [status, text.as_str()])
+    List::new(alloc)
+        .number(error.status() as u64)
+        .text(text.as_str())
+        .answer()
 }

@@ -2,6 +2,7 @@
 //! account makes of the same words and script.
 
 use base_text::{FaultSink, FaultSource, MemorySink, Text};
+use cases::Fault;
 use live::{Live, live_cli};
 use live_plain::plain_answer;
 use std::alloc::{AllocError, Global};
@@ -15,14 +16,19 @@ pub struct Ran {
     pub err: MemorySink,
 }
 
-/// Runs the program on a new session.
+/// Runs the program on a new session. The reads and writes of the failing numbers fail.
 pub fn run(
     alloc: Global,
     words: &[String],
-    mut input: FaultSource,
-    mut out: FaultSink,
-) -> Result<Ran, AllocError> {
+    script: &[u8],
+    failing_reads: &[u64],
+    failing_writes: &[u64],
+) -> Result<Ran, Fault> {
     let mut live = Box::new(alloc, Live::new(alloc)?)?;
+    let writes = failing_writes.to_vec(alloc)?;
+    let reads = failing_reads.to_vec(alloc)?;
+    let mut input = FaultSource::new(script.to_vec(alloc)?, reads);
+    let mut out = FaultSink::new(alloc, writes);
     let mut err = MemorySink::new(alloc);
     let status = live_cli(alloc, words, &mut live, &mut input, &mut out, &mut err);
     let ended = live.ended();
@@ -35,12 +41,7 @@ pub fn run(
 }
 
 /// Whether a run has the status and the pages of the plain account.
-pub fn is_plain(
-    alloc: Global,
-    words: &[String],
-    script: &[u8],
-    ran: &Ran,
-) -> Result<bool, AllocError> {
+pub fn is_plain(alloc: Global, words: &[String], script: &[u8], ran: &Ran) -> Result<bool, Fault> {
     let (status, pages) = account(alloc, words, script)?;
     Ok(ran.status == status && ran.out.bytes() == pages.as_str().as_bytes())
 }

@@ -1,9 +1,9 @@
 //! Atoms of conditional compilation, sets of them and changes of sets.
 
 use base_text::{CfgAtom, CfgDiff, CfgError, CfgOptions, parse_cfg, write_cfg};
-use cases::{Case, Fault, error_answer, text_of};
-use serde_json::{Value, json};
-use std::alloc::Global;
+use cases::{Case, Fault, List, Object, error_answer, text_of};
+use serde_json::Value;
+use std::alloc::{AllocError, Global};
 
 /// What a call of atoms gives.
 pub fn answer(alloc: Global, case: Case<'_>) -> Result<Value, Fault> {
@@ -13,7 +13,7 @@ pub fn answer(alloc: Global, case: Case<'_>) -> Result<Value, Fault> {
         "CfgOptions" => extend(alloc, case),
         "CfgOptions::contains" => contains(alloc, case),
         "CfgOptions::apply_diff" => apply(alloc, case),
-        "CfgDiff::new" => parts(alloc, &diff(alloc, case)?),
+        "CfgDiff::new" => parts(alloc, case),
         _ => Err(Fault::Call),
     }
 }
@@ -27,55 +27,61 @@ fn parse(alloc: Global, text: &str) -> Result<Value, Fault> {
 }
 
 fn atom_answer(alloc: Global, atom: &CfgAtom) -> Result<Value, Fault> {
-    match atom {
-        CfgAtom::Flag(flag) => {
-            let flag = flag.as_str();
-            Ok(json!(in alloc; { "flag": flag })?)
-        }
-        CfgAtom::KeyValue { key, value } => {
-            let (key, value) = (key.as_str(), value.as_str());
-            Ok(json!(in alloc; { "key": key, "value": value })?)
-        }
-    }
+    let answer = Object::new(alloc);
+    let answer = match atom {
+        CfgAtom::Flag(flag) => answer.text("flag", flag.as_str()),
+        CfgAtom::KeyValue { key, value } => answer
+            .text("key", key.as_str())
+            .text("value", value.as_str()),
+    };
+    answer.answer()
 }
 
 fn write(alloc: Global, text: &str) -> Result<Value, Fault> {
-    Ok(Value::String(write_cfg(alloc, &atom(alloc, text)?)?))
+    let atom = atom(alloc, text)?;
+    written(alloc, &atom)
+}
+
+fn written(alloc: Global, atom: &CfgAtom) -> Result<Value, Fault> {
+    Ok(Value::String(write_cfg(alloc, atom)?))
 }
 
 fn atom(alloc: Global, text: &str) -> Result<CfgAtom, Fault> {
     parse_cfg(alloc, text).map_err(|_| Fault::Member("text"))
 }
 
+fn atom_of(alloc: Global, text: &Value) -> Result<CfgAtom, Fault> {
+    atom(alloc, text_of(text, "atoms")?)
+}
+
 fn atoms(alloc: Global, texts: &[Value]) -> Result<Vec<CfgAtom>, Fault> {
     let mut atoms = Vec::new(alloc);
     for text in texts {
-        atoms.push(atom(alloc, text_of(text, "atoms")?)?)?;
+        atoms.push(atom_of(alloc, text)?)?;
     }
     Ok(atoms)
 }
 
 // The atoms of a case, put in one by one.
 fn options(alloc: Global, case: Case<'_>) -> Result<CfgOptions, Fault> {
+    let texts = case.list("atoms")?;
     let mut options = CfgOptions::new(alloc);
-    for text in case.list("atoms")? {
-        let atom = atom(alloc, text_of(text, "atoms")?)?;
-        insert(&mut options, atom)?;
+    for text in texts {
+        insert(&mut options, atom_of(alloc, text)?)?;
     }
     Ok(options)
 }
 
-fn insert(options: &mut CfgOptions, atom: CfgAtom) -> Result<(), Fault> {
+fn insert(options: &mut CfgOptions, atom: CfgAtom) -> Result<(), AllocError> {
     match atom {
-        CfgAtom::KeyValue { key, value } => options.insert_key_value(key, value)?,
-        CfgAtom::Flag(flag) => options.insert_atom(CfgAtom::Flag(flag))?,
+        CfgAtom::KeyValue { key, value } => options.insert_key_value(key, value),
+        CfgAtom::Flag(flag) => options.insert_atom(CfgAtom::Flag(flag)),
     }
-    Ok(())
 }
 
 fn extend(alloc: Global, case: Case<'_>) -> Result<Value, Fault> {
-    let mut options = options(alloc, case)?;
     let more = atoms(alloc, case.list("more")?)?;
+    let mut options = options(alloc, case)?;
     options.extend(more)?;
     texts_answer(alloc, options.as_slice())
 }
@@ -93,21 +99,24 @@ fn apply(alloc: Global, case: Case<'_>) -> Result<Value, Fault> {
 }
 
 fn diff(alloc: Global, case: Case<'_>) -> Result<CfgDiff, Fault> {
-    let enable = atoms(alloc, case.list("enable")?)?;
-    Ok(CfgDiff::new(enable, atoms(alloc, case.list("disable")?)?))
+    let (enable, disable) = (case.list("enable")?, case.list("disable")?);
+    let enable = atoms(alloc, enable)?;
+    Ok(CfgDiff::new(enable, atoms(alloc, disable)?))
 }
 
-fn parts(alloc: Global, diff: &CfgDiff) -> Result<Value, Fault> {
-    let enabled = texts_answer(alloc, diff.enabled())?;
-    let disabled = texts_answer(alloc, diff.disabled())?;
-    let count = diff.len();
-    Ok(json!(in alloc; { "enabled": enabled, "disabled": disabled, "len": count })?)
+fn parts(alloc: Global, case: Case<'_>) -> Result<Value, Fault> {
+    let diff = diff(alloc, case)?;
+    Object::new(alloc)
+        .member("enabled", texts_answer(alloc, diff.enabled()))
+        .member("disabled", texts_answer(alloc, diff.disabled()))
+        .number("len", diff.len() as u64)
+        .answer()
 }
 
 fn texts_answer(alloc: Global, atoms: &[CfgAtom]) -> Result<Value, Fault> {
-    let mut texts = Vec::new(alloc);
+    let mut texts = List::new(alloc);
     for atom in atoms {
-        texts.push(Value::String(write_cfg(alloc, atom)?))?;
+        texts = texts.item(written(alloc, atom));
     }
-    Ok(Value::Array(texts))
+    texts.answer()
 }

@@ -4,8 +4,8 @@ ghost use Rattle.std.specs.Prelude.{◌≤◌, IfOk};
 
 use crate::marks;
 use crate::vfs_paths::vfs_path;
-use cases::{Case, Fault, file_number_of, item, items_of, text_answer, text_of};
-use serde_json::{Value, json};
+use cases::{Case, Fault, List, file_number_of, item, items_of, text_answer, text_of};
+use serde_json::Value;
 use std::alloc::Global;
 use vfs_core::{Change, ChangedFile, FileExcluded, FileId, Vfs, VfsError, VfsPath, content_hash};
 
@@ -21,27 +21,29 @@ pub fn answer(alloc: Global, case: Case<'_>) -> Result<Value, Fault> {
 
 // What each step answers.
 fn steps(alloc: Global, case: Case<'_>) -> Result<Value, Fault> {
+    let steps = case.list("steps")?;
     let limit = file_number_of(case.member("limit")?, "limit")?;
     let mut vfs = Box::new(alloc, Vfs::new(alloc, limit))?;
-    let mut answers = Vec::new(alloc);
-    for step in case.list("steps")? {
-        answers.push(answer_of(alloc, &mut vfs, items_of(step, "steps")?)?)?;
+    let mut answers = List::new(alloc);
+    for step in steps {
+        answers = answers.item(answer_of(alloc, &mut vfs, step));
     }
-    Ok(Value::Array(answers))
+    answers.answer()
 }
 
 fn path_of(alloc: Global, step: &[Value]) -> Result<VfsPath, Fault> {
     vfs_path(alloc, text_of(item(step, 1, "steps")?, "steps")?, false)
 }
 
-fn file_of(step: &[Value]) -> Result<u32, Fault>
+fn number_of(step: &[Value]) -> Result<u32, Fault>
     ensures { IfOk result (λ number. number ≤ 0x7fff_ffff) }
 {
     file_number_of(item(step, 1, "steps")?, "steps")
 }
 
 /// One step: its name, and what it is given. It gives what the call answers.
-fn answer_of(alloc: Global, vfs: &mut Vfs, step: &[Value]) -> Result<Value, Fault> {
+fn answer_of(alloc: Global, vfs: &mut Vfs, step: &Value) -> Result<Value, Fault> {
+    let step = items_of(step, "steps")?;
     match text_of(item(step, 0, "steps")?, "steps")? {
         "set" => set(alloc, vfs, step),
         "exclude" => exclude(alloc, vfs, step),
@@ -56,8 +58,7 @@ fn answer_of(alloc: Global, vfs: &mut Vfs, step: &[Value]) -> Result<Value, Faul
 }
 
 fn set_limit(vfs: &mut Vfs, step: &[Value]) -> Result<Value, Fault> {
-    let limit = file_number_of(item(step, 1, "steps")?, "steps")?;
-    vfs.set_limit(limit);
+    vfs.set_limit(number_of(step)?);
     Ok(Value::Null)
 }
 
@@ -94,11 +95,11 @@ fn refusal(alloc: Global, error: VfsError) -> Result<Value, Fault> {
 
 // The batch of changes: of each file its number, the kind of its change, and its contents.
 fn changes(alloc: Global, vfs: &mut Vfs) -> Result<Value, Fault> {
-    let mut changes = Vec::new(alloc);
+    let mut changes = List::new(alloc);
     for (id, changed) in vfs.take_changes().iter() {
-        changes.push(change(alloc, *id, changed)?)?;
+        changes = changes.item(change(alloc, *id, changed));
     }
-    Ok(Value::Array(changes))
+    changes.answer()
 }
 
 fn change(alloc: Global, id: FileId, changed: &ChangedFile) -> Result<Value, Fault> {
@@ -117,7 +118,10 @@ fn change(alloc: Global, id: FileId, changed: &ChangedFile) -> Result<Value, Fau
             contents.as_slice(),
             *hash,
         ),
-        Change::Delete => Ok(json!(in alloc; [id.index(), "delete"])?),
+        Change::Delete => List::new(alloc)
+            .number(id.index() as u64)
+            .text("delete")
+            .answer(),
     }
 }
 
@@ -132,39 +136,46 @@ fn contents_answer(
         return Err(Fault::Condition);
     }
     let contents = String::from_utf8_lossy(alloc, contents)?;
-    Ok(json!(in alloc; [id.index(), kind, contents.as_str()])?)
+    List::new(alloc)
+        .number(id.index() as u64)
+        .text(kind)
+        .text(contents.as_str())
+        .answer()
 }
 
 // The number of a file, and whether it is left out.
 fn file_id(alloc: Global, vfs: &Vfs, step: &[Value]) -> Result<Value, Fault> {
     let path = path_of(alloc, step)?;
-    let Some((id, excluded)) = vfs.file_id(&path) else {
-        return Ok(Value::Null);
-    };
-    let is_excluded = excluded == FileExcluded::Yes;
-    Ok(json!(in alloc; [id.index(), is_excluded])?)
+    match vfs.file_id(&path) {
+        Some((id, excluded)) => List::new(alloc)
+            .number(id.index() as u64)
+            .flag(excluded == FileExcluded::Yes)
+            .answer(),
+        None => Ok(Value::Null),
+    }
 }
 
 fn has(vfs: &Vfs, step: &[Value]) -> Result<Value, Fault> {
-    let id = FileId::from_raw(file_of(step)?);
+    let id = FileId::from_raw(number_of(step)?);
     Ok(Value::from(vfs.has(id)))
 }
 
 // The path of a file, and whether it exists.
 fn file(alloc: Global, vfs: &Vfs, step: &[Value]) -> Result<Value, Fault> {
-    let id = FileId::from_raw(file_of(step)?);
+    let id = FileId::from_raw(number_of(step)?);
     if !vfs.has(id) {
         return Ok(Value::Null);
     }
     let (path, exists) = (vfs.file_path(id).as_str(), vfs.exists(id));
-    Ok(json!(in alloc; [path, exists])?)
+    List::new(alloc).text(path).flag(exists).answer()
 }
 
 // The files that exist, each a number and a path.
 fn files(alloc: Global, vfs: &Vfs) -> Result<Value, Fault> {
-    let mut files = Vec::new(alloc);
+    let mut files = List::new(alloc);
     for (id, path) in vfs.iter() {
-        files.push(json!(in alloc; [id.index(), path.as_str()])?)?;
+        let file = List::new(alloc).number(id.index() as u64);
+        files = files.item(file.text(path.as_str()).answer());
     }
-    Ok(Value::Array(files))
+    files.answer()
 }

@@ -1,68 +1,60 @@
 //! Entries of a loader's configuration, and copies of that and of what a loader reports.
 
-use base_text::{AbsPathBuf, Items, PathError, Text, TryClone};
-use cases::{Case, Fault, text_answer, text_of};
-use serde_json::{Value, json};
-use std::alloc::Global;
+use crate::paths::path_of;
+use base_text::{AbsPathBuf, Items, Text, TryClone};
+use cases::{Case, Fault, List, optional_answer, text_of};
+use serde_json::Value;
+use std::alloc::{AllocError, Global};
 use vfs_loader::{Config, Directories, Entry, LoadingProgress, Message};
 
 /// What a call on entries gives.
 pub fn answer(alloc: Global, case: Case<'_>) -> Result<Value, Fault> {
     match case.text("call")? {
-        "Directories::contains_file" => {
-            let path = path_of(alloc, case.text("path")?)?;
-            let holds = directories(alloc, case)?.contains_file(path.as_path());
-            Ok(Value::Bool(holds))
-        }
-        "Directories::contains_dir" => {
-            let path = path_of(alloc, case.text("path")?)?;
-            let holds = directories(alloc, case)?.contains_dir(path.as_path());
-            Ok(Value::Bool(holds))
-        }
+        "Directories::contains_file" => directories_hold(alloc, case, true),
+        "Directories::contains_dir" => directories_hold(alloc, case, false),
+        "Entry::contains_file" => entry_holds(alloc, case, true),
+        "Entry::contains_dir" => entry_holds(alloc, case, false),
         "Config::try_clone" => copy_config(alloc, case),
         "Message::try_clone" => copy_message(alloc, case),
-        call => of_entry(alloc, case, call),
+        call => of_base(alloc, case, call),
     }
 }
 
-fn of_entry(alloc: Global, case: Case<'_>, call: &str) -> Result<Value, Fault> {
-    match call {
-        "Entry::rs_files_recursively" => {
-            entry_answer(
-                alloc,
-                &Entry::rs_files_recursively(alloc, base(alloc, case)?)?,
-            )
-        }
-        "Entry::local_cargo_package" => {
-            entry_answer(
-                alloc,
-                &Entry::local_cargo_package(alloc, base(alloc, case)?)?,
-            )
-        }
+// Whether directories hold a path, which is one of a file or of a directory.
+fn directories_hold(alloc: Global, case: Case<'_>, is_file: bool) -> Result<Value, Fault> {
+    let path = path_of(alloc, case.text("path")?)?;
+    let directories = directories(alloc, case)?;
+    let holds = if is_file {
+        directories.contains_file(path.as_path())
+    } else {
+        directories.contains_dir(path.as_path())
+    };
+    Ok(Value::Bool(holds))
+}
+
+// Whether an entry holds a path, which is one of a file or of a directory.
+fn entry_holds(alloc: Global, case: Case<'_>, is_file: bool) -> Result<Value, Fault> {
+    let path = path_of(alloc, case.text("path")?)?;
+    let entry = entry(alloc, case)?;
+    let holds = if is_file {
+        entry.contains_file(path.as_path())
+    } else {
+        entry.contains_dir(path.as_path())
+    };
+    Ok(Value::Bool(holds))
+}
+
+// The entry that a call makes of a directory.
+fn of_base(alloc: Global, case: Case<'_>, call: &str) -> Result<Value, Fault> {
+    let entry = match call {
+        "Entry::rs_files_recursively" => Entry::rs_files_recursively(alloc, base(alloc, case)?),
+        "Entry::local_cargo_package" => Entry::local_cargo_package(alloc, base(alloc, case)?),
         "Entry::cargo_package_dependency" => {
-            entry_answer(
-                alloc,
-                &Entry::cargo_package_dependency(alloc, base(alloc, case)?)?,
-            )
+            Entry::cargo_package_dependency(alloc, base(alloc, case)?)
         }
-        "Entry::contains_file" => {
-            let path = path_of(alloc, case.text("path")?)?;
-            Ok(Value::Bool(entry(alloc, case)?.contains_file(path.as_path())))
-        }
-        "Entry::contains_dir" => {
-            let path = path_of(alloc, case.text("path")?)?;
-            Ok(Value::Bool(entry(alloc, case)?.contains_dir(path.as_path())))
-        }
-        _ => Err(Fault::Call),
-    }
-}
-
-fn path_of(alloc: Global, text: &str) -> Result<AbsPathBuf, Fault> {
-    match AbsPathBuf::new(alloc, text) {
-        Ok(path) => Ok(path),
-        Err(PathError::NotAbsolute) => Err(Fault::Condition),
-        Err(PathError::OutOfMemory) => Err(Fault::OutOfMemory),
-    }
+        _ => return Err(Fault::Call),
+    };
+    entry_answer(alloc, &entry?)
 }
 
 fn base(alloc: Global, case: Case<'_>) -> Result<AbsPathBuf, Fault> {
@@ -86,11 +78,13 @@ fn texts(alloc: Global, texts: &[Value]) -> Result<Items<Text>, Fault> {
 }
 
 fn directories(alloc: Global, case: Case<'_>) -> Result<Directories, Fault> {
-    let mut directories = Directories::new(alloc);
-    directories.extensions = texts(alloc, case.list("extensions")?)?;
-    directories.include = paths(alloc, case.list("include")?)?;
-    directories.exclude = paths(alloc, case.list("exclude")?)?;
-    Ok(directories)
+    let extensions = case.list("extensions")?;
+    let (include, exclude) = (case.list("include")?, case.list("exclude")?);
+    Ok(Directories {
+        extensions: texts(alloc, extensions)?,
+        include: paths(alloc, include)?,
+        exclude: paths(alloc, exclude)?,
+    })
 }
 
 // An entry of files where the case has files, else one of directories.
@@ -103,19 +97,19 @@ fn entry(alloc: Global, case: Case<'_>) -> Result<Entry, Fault> {
 }
 
 fn path_answers(alloc: Global, paths: &[AbsPathBuf]) -> Result<Value, Fault> {
-    let mut answers = Vec::new(alloc);
+    let mut answers = List::new(alloc);
     for path in paths {
-        answers.push(text_answer(alloc, path.as_str())?)?;
+        answers = answers.text(path.as_str());
     }
-    Ok(Value::Array(answers))
+    answers.answer()
 }
 
 fn text_answers(alloc: Global, texts: &[Text]) -> Result<Value, Fault> {
-    let mut answers = Vec::new(alloc);
+    let mut answers = List::new(alloc);
     for text in texts {
-        answers.push(text_answer(alloc, text.as_str())?)?;
+        answers = answers.text(text.as_str());
     }
-    Ok(Value::Array(answers))
+    answers.answer()
 }
 
 // The files of an entry, or the extensions, includes and excludes of its directories.
@@ -127,47 +121,58 @@ fn entry_answer(alloc: Global, entry: &Entry) -> Result<Value, Fault> {
 }
 
 fn directories_answer(alloc: Global, directories: &Directories) -> Result<Value, Fault> {
-    let extensions = text_answers(alloc, directories.extensions.as_slice())?;
-    let include = path_answers(alloc, directories.include.as_slice())?;
-    let exclude = path_answers(alloc, directories.exclude.as_slice())?;
-    Ok(json!(in alloc; [extensions, include, exclude])?)
+    List::new(alloc)
+        .item(text_answers(alloc, directories.extensions.as_slice()))
+        .item(path_answers(alloc, directories.include.as_slice()))
+        .item(path_answers(alloc, directories.exclude.as_slice()))
+        .answer()
 }
 
-// A copy of a configuration of one entry, which is watched.
+// The copy of a configuration.
 fn copy_config(alloc: Global, case: Case<'_>) -> Result<Value, Fault> {
-    let copy = config(alloc, case)?.try_clone(alloc)?;
-    let entries = entry_answers(alloc, copy.load.as_slice())?;
-    let watched = copy.watch.len();
-    let version = copy.version;
-    Ok(json!(in alloc; [version, entries, watched])?)
+    let config = config(alloc, case)?;
+    config_answer(alloc, config.try_clone(alloc))
 }
 
+// A configuration of one entry, which is watched.
 fn config(alloc: Global, case: Case<'_>) -> Result<Config, Fault> {
+    let watch = Items::new(vec![in alloc; 0usize]?);
+    let entry = entry(alloc, case)?;
     Ok(Config {
         version: 7,
-        load: Items::new(vec![in alloc; entry(alloc, case)?]?),
-        watch: Items::new(vec![in alloc; 0usize]?),
+        load: Items::new(vec![in alloc; entry]?),
+        watch,
     })
 }
 
+fn config_answer(alloc: Global, config: Result<Config, AllocError>) -> Result<Value, Fault> {
+    let config = config?;
+    List::new(alloc)
+        .number(config.version as u64)
+        .item(entry_answers(alloc, config.load.as_slice()))
+        .number(config.watch.len() as u64)
+        .answer()
+}
+
 fn entry_answers(alloc: Global, entries: &[Entry]) -> Result<Value, Fault> {
-    let mut answers = Vec::new(alloc);
+    let mut answers = List::new(alloc);
     for entry in entries {
-        answers.push(entry_answer(alloc, entry)?)?;
+        answers = answers.item(entry_answer(alloc, entry));
     }
-    Ok(Value::Array(answers))
+    answers.answer()
 }
 
 // The copy of a message of the case's kind.
 fn copy_message(alloc: Global, case: Case<'_>) -> Result<Value, Fault> {
-    let copy = message(alloc, case)?.try_clone(alloc)?;
-    message_answer(alloc, &copy)
+    let message = message(alloc, case)?;
+    message_answer(alloc, message.try_clone(alloc))
 }
 
 // A message about the base: that it is loaded, that it has no contents, or that it has some.
 fn message(alloc: Global, case: Case<'_>) -> Result<Message, Fault> {
+    let kind = case.text("message")?;
     let base = base(alloc, case)?;
-    match case.text("message")? {
+    match kind {
         "Progress" => Ok(Message::Progress {
             n_total: 2,
             n_done: LoadingProgress::Progress(1),
@@ -188,23 +193,23 @@ fn message(alloc: Global, case: Case<'_>) -> Result<Message, Fault> {
 }
 
 // The directory of a message of progress, or the files of another, each with how many bytes it has.
-fn message_answer(alloc: Global, message: &Message) -> Result<Value, Fault> {
-    match message {
-        Message::Progress { dir, .. } => match dir {
-            Some(dir) => text_answer(alloc, dir.as_str()),
-            None => Ok(Value::Null),
-        },
+fn message_answer(alloc: Global, message: Result<Message, AllocError>) -> Result<Value, Fault> {
+    let message = message?;
+    match &message {
+        Message::Progress { dir, .. } => {
+            optional_answer(alloc, dir.as_ref().map(AbsPathBuf::as_str))
+        }
         Message::Loaded { files } => file_answers(alloc, files.as_slice()),
         Message::Changed { files } => file_answers(alloc, files.as_slice()),
     }
 }
 
 fn file_answers(alloc: Global, files: &[(AbsPathBuf, Option<Items<u8>>)]) -> Result<Value, Fault> {
-    let mut answers = Vec::new(alloc);
+    let mut answers = List::new(alloc);
     for (path, contents) in files {
-        answers.push(file_answer(alloc, path, contents)?)?;
+        answers = answers.item(file_answer(alloc, path, contents));
     }
-    Ok(Value::Array(answers))
+    answers.answer()
 }
 
 fn file_answer(
@@ -212,9 +217,10 @@ fn file_answer(
     path: &AbsPathBuf,
     contents: &Option<Items<u8>>,
 ) -> Result<Value, Fault> {
-    let path = path.as_str();
-    match contents {
-        Some(bytes) => Ok(json!(in alloc; [path, (bytes.len() as u64)])?),
-        None => Ok(json!(in alloc; [path, null])?),
-    }
+    let file = List::new(alloc).text(path.as_str());
+    let file = match contents {
+        Some(bytes) => file.number(bytes.len() as u64),
+        None => file.optional(None),
+    };
+    file.answer()
 }

@@ -1,11 +1,12 @@
 //! Cases of paths: absolute paths, paths of the virtual file system, atoms of conditional compilation,
-//! tables of files, sets of files, and entries of loaders.
+//! tables of files, sets of files, entries of loaders, and trees of files.
 #![tactic(auto)]
 
 mod cfgs;
 mod files;
 mod loader;
 mod marks;
+mod memory_trees;
 mod paths;
 mod sets;
 mod vfs_paths;
@@ -15,7 +16,7 @@ use serde_json::Value;
 use std::io;
 use std::process::ExitCode;
 
-/// The calls of base_text, vfs_core, vfs_sets and vfs_loader.
+/// The calls of base_text, trees, vfs_core, vfs_sets and vfs_loader.
 struct PathFamily;
 
 impl<R: AllocGlobal> Family<R> for PathFamily {
@@ -27,6 +28,7 @@ impl<R: AllocGlobal> Family<R> for PathFamily {
             "files.jsonl" => files::answer(rt.alloc(), case),
             "loader.jsonl" => loader::answer(rt.alloc(), case),
             "sets.jsonl" => sets::answer(rt.alloc(), case),
+            "trees.jsonl" => memory_trees::answer(rt.alloc(), case),
             _ => Err(Fault::Kind),
         }
     }

@@ -10,18 +10,25 @@ use vfs_core::{Mark, MarkKind};
 
 /// The text that marks leave. They stand newest first: a path, what was said, and a text.
 pub fn answer(alloc: Global, case: Case<'_>) -> Result<Value, Fault> {
-    let mut marks = Vec::new(alloc);
-    for mark in case.list("marks")? {
-        marks.push(mark_of(alloc, items_of(mark, "marks")?)?)?;
-    }
     let path = vfs_path(alloc, case.text("path")?, false)?;
+    let marks = marks_of(alloc, case.list("marks")?)?;
     let text = live_text(marks.as_slice(), &path);
     optional_answer(alloc, text.map(|text| text.as_str()))
 }
 
-fn mark_of(alloc: Global, mark: &[Value]) -> Result<Mark, Fault> {
+fn marks_of(alloc: Global, given: &[Value]) -> Result<Vec<Mark>, Fault> {
+    let mut marks = Vec::new(alloc);
+    for mark in given {
+        marks.push(mark_of(alloc, mark)?)?;
+    }
+    Ok(marks)
+}
+
+fn mark_of(alloc: Global, mark: &Value) -> Result<Mark, Fault> {
+    let mark = items_of(mark, "marks")?;
+    let path = text_of(item(mark, 0, "marks")?, "marks")?;
     let kind = kind_of(alloc, mark)?;
-    let path = vfs_path(alloc, text_of(item(mark, 0, "marks")?, "marks")?, false)?;
+    let path = vfs_path(alloc, path, false)?;
     Ok(Mark { path, kind })
 }
 

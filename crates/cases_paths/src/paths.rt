@@ -1,8 +1,8 @@
 //! Absolute paths.
 
 use base_text::{AbsPath, AbsPathBuf, PathError};
-use cases::{Case, Fault, error_answer, optional_answer, text_answer};
-use serde_json::{Value, json};
+use cases::{Case, Fault, List, error_answer, optional_answer, text_answer};
+use serde_json::Value;
 use std::alloc::Global;
 use std::cmp::Ordering;
 
@@ -26,8 +26,7 @@ fn of_buf(alloc: Global, case: Case<'_>, call: &str, path: AbsPathBuf) -> Result
 // Whether a component was taken away, and the path that is left.
 fn popped(alloc: Global, mut path: AbsPathBuf) -> Result<Value, Fault> {
     let popped = path.pop();
-    let left = path.as_str();
-    Ok(json!(in alloc; [popped, left])?)
+    List::new(alloc).flag(popped).text(path.as_str()).answer()
 }
 
 fn of_path(alloc: Global, case: Case<'_>, call: &str, path: AbsPath<'_>) -> Result<Value, Fault> {
@@ -80,6 +79,15 @@ fn of_two(alloc: Global, call: &str, path: AbsPath<'_>, other: &str) -> Result<V
 fn rest(alloc: Global, path: AbsPath<'_>, front: AbsPath<'_>) -> Result<Value, Fault> {
     let rest = path.strip_prefix(front);
     optional_answer(alloc, rest.map(|rest| rest.as_str()))
+}
+
+/// An absolute path, which the text has to be.
+pub fn path_of(alloc: Global, text: &str) -> Result<AbsPathBuf, Fault> {
+    match AbsPathBuf::new(alloc, text) {
+        Ok(path) => Ok(path),
+        Err(PathError::NotAbsolute) => Err(Fault::Condition),
+        Err(PathError::OutOfMemory) => Err(Fault::OutOfMemory),
+    }
 }
 
 /// The name of an order.

@@ -2,9 +2,9 @@
 
 use crate::vfs_paths::vfs_path;
 use base_text::{Counter, Ledger, Steps};
-use cases::{Case, Fault, file_number_of, items_of, pair_of, text_answer, text_of};
-use serde_json::{Value, json};
-use std::alloc::Global;
+use cases::{Case, Fault, List, file_number_of, items_of, pair_of, text_of};
+use serde_json::Value;
+use std::alloc::{AllocError, Global};
 use vfs_core::{AnchoredPath, FileId, Vfs, VfsPath};
 use vfs_sets::{FileSet, FileSetConfig};
 
@@ -22,24 +22,35 @@ pub fn answer(alloc: Global, case: Case<'_>) -> Result<Value, Fault> {
 
 // Roots of each set, as virtual paths.
 fn config(alloc: Global, case: Case<'_>) -> Result<FileSetConfig, Fault> {
+    let sets = case.list("roots")?;
     let mut builder = FileSetConfig::builder(alloc);
-    for roots in case.list("roots")? {
-        builder.add_file_set(paths(alloc, items_of(roots, "roots")?)?)?;
+    for roots in sets {
+        builder.add_file_set(paths(alloc, roots)?)?;
     }
     Ok(builder.build()?)
 }
 
-fn paths(alloc: Global, texts: &[Value]) -> Result<Vec<VfsPath>, Fault> {
+fn paths(alloc: Global, roots: &Value) -> Result<Vec<VfsPath>, Fault> {
+    let roots = items_of(roots, "roots")?;
     let mut paths = Vec::new(alloc);
-    for text in texts {
-        paths.push(vfs_path(alloc, text_of(text, "roots")?, true)?)?;
+    for root in roots {
+        paths.push(virtual_path(alloc, root, "roots")?)?;
     }
     Ok(paths)
 }
 
+fn virtual_path(alloc: Global, text: &Value, key: &'static str) -> Result<VfsPath, Fault> {
+    vfs_path(alloc, text_of(text, key)?, true)
+}
+
+// The path of a case, which is a virtual one unless the case says that it is real.
+fn path_of(alloc: Global, case: Case<'_>) -> Result<VfsPath, Fault> {
+    vfs_path(alloc, case.text("path")?, !case.flag("real"))
+}
+
 fn classify(alloc: Global, case: Case<'_>) -> Result<Value, Fault> {
+    let path = path_of(alloc, case)?;
     let config = config(alloc, case)?;
-    let path = vfs_path(alloc, case.text("path")?, !case.flag("real"))?;
     match config.classify_path(&path) {
         Some(set) => Ok(Value::from(set)),
         None => Ok(Value::Null),
@@ -49,32 +60,38 @@ fn classify(alloc: Global, case: Case<'_>) -> Result<Value, Fault> {
 // The set that takes a path, or the number of sets, and whether it was found in so many steps.
 fn classify_counted(alloc: Global, case: Case<'_>) -> Result<Value, Fault> {
     let most_steps = case.number("most_steps")?;
+    let path = path_of(alloc, case)?;
     let config = config(alloc, case)?;
-    let path = vfs_path(alloc, case.text("path")?, !case.flag("real"))?;
     let mut steps = Steps {
         ledger: Counter::new(),
     };
     let set = config.classify_counted(&path, &mut steps);
     let is_within = steps.ledger.count() <= most_steps;
-    Ok(json!(in alloc; [set, is_within])?)
+    List::new(alloc).number(set as u64).flag(is_within).answer()
 }
 
 // The paths of each set's files.
 fn partition(alloc: Global, case: Case<'_>) -> Result<Value, Fault> {
-    let config = config(alloc, case)?;
     let vfs = table(alloc, case)?;
-    let mut sets = Vec::new(alloc);
-    for set in config.partition(alloc, &vfs)?.iter() {
-        sets.push(paths_of(alloc, set)?)?;
+    let config = config(alloc, case)?;
+    sets_answer(alloc, config.partition(alloc, &vfs))
+}
+
+fn sets_answer(alloc: Global, sets: Result<Vec<FileSet>, AllocError>) -> Result<Value, Fault> {
+    let sets = sets?;
+    let mut answers = List::new(alloc);
+    for set in sets.iter() {
+        answers = answers.item(paths_of(alloc, set));
     }
-    Ok(Value::Array(sets))
+    answers.answer()
 }
 
 // A table of empty files.
 fn table(alloc: Global, case: Case<'_>) -> Result<Box<Vfs>, Fault> {
+    let files = case.list("files")?;
     let mut vfs = Box::new(alloc, Vfs::new(alloc, 100))?;
-    for file in case.list("files")? {
-        let path = vfs_path(alloc, text_of(file, "files")?, true)?;
+    for file in files {
+        let path = virtual_path(alloc, file, "files")?;
         let set = vfs.set_file_contents(path, Some(Vec::new(alloc)));
         if set.is_err() {
             return Err(Fault::Member("files"));
@@ -84,27 +101,28 @@ fn table(alloc: Global, case: Case<'_>) -> Result<Box<Vfs>, Fault> {
 }
 
 fn paths_of(alloc: Global, set: &FileSet) -> Result<Value, Fault> {
-    let mut paths = Vec::new(alloc);
+    let mut paths = List::new(alloc);
     for id in set.iter() {
         if let Some(path) = set.path_for_file(&id) {
-            paths.push(text_answer(alloc, path.as_str())?)?;
+            paths = paths.text(path.as_str());
         }
     }
-    Ok(Value::Array(paths))
+    paths.answer()
 }
 
 // The encodings of the roots, each with its set.
 fn roots(alloc: Global, config: &FileSetConfig) -> Result<Value, Fault> {
-    let mut roots = Vec::new(alloc);
-    for (bytes, set) in config.roots(alloc)?.iter() {
-        roots.push(root_answer(alloc, bytes.as_slice(), *set)?)?;
+    let roots = config.roots(alloc)?;
+    let mut answers = List::new(alloc);
+    for (bytes, set) in roots.iter() {
+        answers = answers.item(root_answer(alloc, bytes.as_slice(), *set));
     }
-    Ok(Value::Array(roots))
+    answers.answer()
 }
 
 fn root_answer(alloc: Global, bytes: &[u8], set: u64) -> Result<Value, Fault> {
     let text = String::from_utf8_lossy(alloc, bytes)?;
-    Ok(json!(in alloc; [text.as_str(), set])?)
+    List::new(alloc).text(text.as_str()).number(set).answer()
 }
 
 // A set of files, each a number and a virtual path.
@@ -119,22 +137,21 @@ fn set_of(alloc: Global, files: &[Value]) -> Result<FileSet, Fault> {
 fn insert(alloc: Global, set: &mut FileSet, pair: &Value) -> Result<(), Fault> {
     let (id, path) = pair_of(pair, "files")?;
     let id = file_number_of(id, "files")?;
-    let path = vfs_path(alloc, text_of(path, "files")?, true)?;
+    let path = virtual_path(alloc, path, "files")?;
     set.insert(FileId::from_raw(id), path)?;
     Ok(())
 }
 
 // The number of the file that a path beside a file names.
 fn resolve(alloc: Global, case: Case<'_>) -> Result<Value, Fault> {
-    let set = set_of(alloc, case.list("files")?)?;
-    let anchor = file_number_of(case.member("anchor")?, "anchor")?;
     let path = case.text("path")?;
+    let anchor = file_number_of(case.member("anchor")?, "anchor")?;
     let path = AnchoredPath {
         anchor: FileId::from_raw(anchor),
         path,
     };
-    let file = set.resolve_path(alloc, path)?;
-    match file {
+    let set = set_of(alloc, case.list("files")?)?;
+    match set.resolve_path(alloc, path)? {
         Some(id) => Ok(Value::from(id.index())),
         None => Ok(Value::Null),
     }

@@ -2,9 +2,9 @@
 
 use crate::paths::order_answer;
 use base_text::{AbsPathBuf, PathError};
-use cases::{Case, Fault, error_answer, optional_answer, text_answer};
-use serde_json::{Value, json};
-use std::alloc::Global;
+use cases::{Case, Fault, List, error_answer, optional_answer, text_answer};
+use serde_json::Value;
+use std::alloc::{AllocError, Global};
 use vfs_core::VfsPath;
 
 /// What a call of a path gives.
@@ -66,8 +66,7 @@ fn of_path(alloc: Global, case: Case<'_>, call: &str, path: VfsPath) -> Result<V
 // Whether a component was taken away, and the path that is left.
 fn popped(alloc: Global, mut path: VfsPath) -> Result<Value, Fault> {
     let popped = path.pop();
-    let left = path.as_str();
-    Ok(json!(in alloc; [popped, left])?)
+    List::new(alloc).flag(popped).text(path.as_str()).answer()
 }
 
 fn into_abs_path(alloc: Global, path: VfsPath) -> Result<Value, Fault> {
@@ -80,22 +79,22 @@ fn into_abs_path(alloc: Global, path: VfsPath) -> Result<Value, Fault> {
 fn of_ref(alloc: Global, case: Case<'_>, call: &str, path: &VfsPath) -> Result<Value, Fault> {
     match call {
         "VfsPath::join" => join(alloc, path, case.text("tail")?),
-        "VfsPath::parent" => path_answer(alloc, path.parent(alloc)?),
+        "VfsPath::parent" => path_answer(alloc, path.parent(alloc)),
         "VfsPath::as_path" => as_path(alloc, path),
         "VfsPath::name_and_extension" => name(alloc, path),
         _ => of_two(alloc, case, call, path),
     }
 }
 
-fn path_answer(alloc: Global, path: Option<VfsPath>) -> Result<Value, Fault> {
-    match path {
+fn path_answer(alloc: Global, path: Result<Option<VfsPath>, AllocError>) -> Result<Value, Fault> {
+    match path? {
         Some(path) => text_answer(alloc, path.as_str()),
         None => Ok(Value::Null),
     }
 }
 
 fn join(alloc: Global, path: &VfsPath, tail: &str) -> Result<Value, Fault> {
-    path_answer(alloc, path.join(alloc, tail)?)
+    path_answer(alloc, path.join(alloc, tail))
 }
 
 fn as_path(alloc: Global, path: &VfsPath) -> Result<Value, Fault> {
@@ -105,11 +104,10 @@ fn as_path(alloc: Global, path: &VfsPath) -> Result<Value, Fault> {
 
 // The last component's name and its extension.
 fn name(alloc: Global, path: &VfsPath) -> Result<Value, Fault> {
-    let Some((stem, extension)) = path.name_and_extension() else {
-        return Ok(Value::Null);
-    };
-    let extension = optional_answer(alloc, extension)?;
-    Ok(json!(in alloc; [stem, extension])?)
+    match path.name_and_extension() {
+        Some((stem, extension)) => List::new(alloc).text(stem).optional(extension).answer(),
+        None => Ok(Value::Null),
+    }
 }
 
 // What a call of a path and another gives.

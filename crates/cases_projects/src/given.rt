@@ -25,11 +25,12 @@ pub struct Given {
 
 impl Given {
     pub fn of_case(alloc: Global, case: Case<'_>) -> Result<Given, Fault> {
-        let limits = limits_of(case)?;
-        let runner = runner_of(alloc, case.list("answers")?)?;
+        let (limits, answers) = (limits_of(case)?, case.list("answers")?);
+        let runner = runner_of(alloc, answers)?;
+        let tools = usual_tools(alloc)?;
         Ok(Given {
             limits,
-            tools: usual_tools(alloc)?,
+            tools,
             process_env: Env::new(alloc),
             runner,
             tree: MemoryTree::new(alloc),

@@ -2,14 +2,14 @@
 
 ghost use Rattle.pm_lower.specs.ToRoots.{KindHasNoRustc};
 
-use crate::projects::{limit_name, with_text};
-use crate::values::path_of;
-use base_text::{FileId, Limits, RecordedRunner};
-use cases::{Case, Fault, text_of};
+use crate::loaders::live_loader;
+use crate::values::{limit_name, with_text};
+use base_text::{Limits, RecordedRunner};
+use cases::{Case, Fault, List};
 use crate_graph::{CrateBuilder, CrateGraphBuilder};
-use pm_lower::{LowerError, MapLoader, ProjectWorkspace, ProjectWorkspaceKind};
+use pm_lower::{LowerError, ProjectWorkspace, ProjectWorkspaceKind};
 use pm_sysroot::Ask;
-use serde_json::{Value, json};
+use serde_json::Value;
 use std::alloc::Global;
 use trees::MemoryTree;
 
@@ -25,46 +25,40 @@ pub fn answer(
     let ProjectWorkspaceKind::Cargo { rustc: Err(_), .. } = &project.kind else {
         return Err(Fault::Condition);
     };
-    let mut loader = loader_of(alloc, case.list("live")?)?;
+    let mut loader = live_loader(alloc, case.list("live")?)?;
     match project.to_crate_graph(alloc, &mut loader, limits, ask) {
         Ok((graph, _)) => crates(alloc, &graph),
         Err(error) => refusal(alloc, &error),
     }
 }
 
-// The files that are live, each under its place in the list.
-fn loader_of(alloc: Global, live: &[Value]) -> Result<MapLoader, Fault> {
-    let mut loader = MapLoader::new(alloc);
-    for (place, path) in live.iter().enumerate() {
-        if place > 0x7fff_ffff {
-            return Err(Fault::Condition);
-        }
-        let path = path_of(alloc, text_of(path, "live")?)?;
-        loader.insert(path, FileId::from_raw(place as u32))?;
-    }
-    Ok(loader)
-}
-
 fn crates(alloc: Global, graph: &CrateGraphBuilder) -> Result<Value, Fault> {
-    let mut answers = Vec::new(alloc);
+    let mut answers = List::new(alloc);
     for id in graph.iter() {
         if graph.contains(id) {
-            answers.push(crate_answer(alloc, &graph[id])?)?;
+            answers = answers.item(crate_answer(alloc, &graph[id]));
         }
     }
-    Ok(Value::Array(answers))
+    answers.answer()
 }
 
 fn crate_answer(alloc: Global, krate: &CrateBuilder) -> Result<Value, Fault> {
-    let mut deps = Vec::new(alloc);
-    for dep in krate.basic.dependencies.as_slice() {
-        let name = dep.name.symbol().as_str();
-        deps.push(json!(in alloc; [name, dep.crate_id.into_raw()])?)?;
-    }
-    let deps = Value::Array(deps);
-    Ok(json!(in alloc; [krate.basic.root_file_id.index(), deps])?)
+    List::new(alloc)
+        .number(krate.basic.root_file_id.index() as u64)
+        .item(deps_answer(alloc, krate))
+        .answer()
 }
 
+fn deps_answer(alloc: Global, krate: &CrateBuilder) -> Result<Value, Fault> {
+    let mut answers = List::new(alloc);
+    for dep in krate.basic.dependencies.as_slice() {
+        let answer = List::new(alloc).text(dep.name.symbol().as_str());
+        answers = answers.item(answer.number(dep.crate_id.into_raw() as u64).answer());
+    }
+    answers.answer()
+}
+
+// A refusal by its name, with a text: the bad name, or what there is too much of.
 fn refusal(alloc: Global, error: &LowerError) -> Result<Value, Fault> {
     match error {
         LowerError::BadCrateName(name) => with_text(alloc, "BadCrateName", name.as_str()),

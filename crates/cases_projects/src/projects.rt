@@ -4,10 +4,10 @@ ghost use Rattle.pm_lower.specs.ToRoots.{KindHasNoRustc};
 
 use crate::given::{Given, configure};
 use crate::graphs;
-use crate::values::{manifest_of, paths_answer, roots_answer};
-use base_text::{CfgAtom, Items, Limit, RecordedRunner, Version, write_cfg};
+use crate::values::{limit_name, manifest_of, paths_answer, roots_answer, with_text};
+use base_text::{CfgAtom, Items, RecordedRunner, Version, write_cfg};
 use case_tools::Lines;
-use cases::{Case, Fault, error_answer, optional_answer, text_answer};
+use cases::{Case, Fault, List, error_answer, optional_answer, text_answer};
 use crate_graph::Env;
 use crate_graph::target::{Arch, TargetLoadResult};
 use pm_cargo::CargoWorkspace;
@@ -15,7 +15,7 @@ use pm_config::CargoConfig;
 use pm_lower::{LoadError, ProjectWorkspace, ProjectWorkspaceKind};
 use pm_sysroot::Ask;
 use pm_tools::ProjectManifest;
-use serde_json::{Value, json};
+use serde_json::Value;
 use std::alloc::Global;
 use trees::MemoryTree;
 
@@ -44,7 +44,7 @@ fn with_config(
     manifest: &ProjectManifest,
     config: &CargoConfig,
 ) -> Result<Value, Fault> {
-    let given = Box::new(alloc, Given::of_case(alloc, case)?)?;
+    let given = Given::of_case(alloc, case)?;
     load(alloc, case, manifest, config, &given)
 }
 
@@ -65,10 +65,7 @@ fn load(
     let ask = given.ask(config);
     let mut lines = Lines::new(alloc);
     match ProjectWorkspace::load(alloc, manifest, config, &given.limits, &ask, &mut lines) {
-        Ok(project) => {
-            let project = Box::new(alloc, project)?;
-            of_project(alloc, case, given, &ask, &project, lines)
-        }
+        Ok(project) => of_project(alloc, case, given, &ask, &project, lines),
         Err(error) => refusal(alloc, &error),
     }
 }
@@ -81,10 +78,11 @@ fn of_project(
     project: &ProjectWorkspace,
     lines: Lines,
 ) -> Result<Value, Fault> {
-    match case.text("ask")? {
-        "graph" => graphs::answer(alloc, case, &given.limits, ask, project),
-        "progress" if lines.is_whole => Ok(Value::Array(lines.kept)),
-        question => asked(alloc, question, project),
+    match case.optional_text("ask") {
+        Some("graph") => graphs::answer(alloc, case, &given.limits, ask, project),
+        Some("progress") if lines.is_whole => Ok(Value::Array(lines.kept)),
+        Some(question) => asked(alloc, question, project),
+        None => Err(Fault::Member("ask")),
     }
 }
 
@@ -129,50 +127,58 @@ fn roots(alloc: Global, project: &ProjectWorkspace) -> Result<Value, Fault> {
 
 // How many packages there are, the manifest, the root, and what is known without a question.
 fn summary(alloc: Global, project: &ProjectWorkspace) -> Result<Value, Fault> {
-    let packages = project.n_packages();
-    let manifest = project.manifest_or_root().as_str();
-    let root = project.workspace_root().as_str();
-    let has_manifest = project.manifest().is_some();
-    let (is_json, set_test) = (project.is_json(), project.set_test);
-    Ok(json!(in alloc; [packages, manifest, root, has_manifest, is_json, set_test])?)
+    List::new(alloc)
+        .number(project.n_packages() as u64)
+        .text(project.manifest_or_root().as_str())
+        .text(project.workspace_root().as_str())
+        .flag(project.manifest().is_some())
+        .flag(project.is_json())
+        .flag(project.set_test)
+        .answer()
 }
 
 fn names(alloc: Global, cargo: &CargoWorkspace) -> Result<Value, Fault> {
-    let mut answers = Vec::new(alloc);
+    let mut answers = List::new(alloc);
     for id in cargo.packages() {
         if cargo.has_package(id) {
-            answers.push(text_answer(alloc, cargo[id].name.as_str())?)?;
+            answers = answers.text(cargo[id].name.as_str());
         }
     }
-    Ok(Value::Array(answers))
+    answers.answer()
 }
 
 fn env_answer(alloc: Global, env: &Env) -> Result<Value, Fault> {
-    let mut answers = Vec::new(alloc);
+    let mut answers = List::new(alloc);
     for (name, value) in env.iter() {
-        answers.push(json!(in alloc; [name, value])?)?;
+        answers = answers.item(List::new(alloc).text(name).text(value).answer());
     }
-    Ok(Value::Array(answers))
+    answers.answer()
 }
 
 fn cfgs_answer(alloc: Global, atoms: &Items<CfgAtom>) -> Result<Value, Fault> {
-    let mut answers = Vec::new(alloc);
+    let mut answers = List::new(alloc);
     for atom in atoms.as_slice() {
-        answers.push(Value::String(write_cfg(alloc, atom)?))?;
+        answers = answers.item(cfg_answer(alloc, atom));
     }
-    Ok(Value::Array(answers))
+    answers.answer()
+}
+
+fn cfg_answer(alloc: Global, atom: &CfgAtom) -> Result<Value, Fault> {
+    Ok(Value::String(write_cfg(alloc, atom)?))
 }
 
 fn target_answer(alloc: Global, target: &TargetLoadResult) -> Result<Value, Fault> {
     match target {
         Ok(machine) => {
-            let layout = machine.data_layout.as_str();
             let arch = match machine.arch {
                 Arch::Wasm32 => "wasm32",
                 Arch::Wasm64 => "wasm64",
                 Arch::Other => "other",
             };
-            Ok(json!(in alloc; [layout, arch])?)
+            List::new(alloc)
+                .text(machine.data_layout.as_str())
+                .text(arch)
+                .answer()
         }
         Err(error) => text_answer(alloc, error.0.as_str()),
     }
@@ -190,21 +196,5 @@ fn refusal(alloc: Global, error: &LoadError) -> Result<Value, Fault> {
         LoadError::UnknownPackage(id) => with_text(alloc, "UnknownPackage", id.as_str()),
         LoadError::TooMany(limit) => with_text(alloc, "TooMany", limit_name(*limit)),
         LoadError::OutOfMemory => Err(Fault::OutOfMemory),
-    }
-}
-
-/// A refusal with its text.
-pub fn with_text(alloc: Global, name: &str, text: &str) -> Result<Value, Fault> {
-    Ok(json!(in alloc; { "error": name, "text": text })?)
-}
-
-/// What there is too much of.
-pub fn limit_name(limit: Limit) -> &'static str {
-    match limit {
-        Limit::Bytes => "Bytes",
-        Limit::Paths => "Paths",
-        Limit::Packages => "Packages",
-        Limit::Targets => "Targets",
-        Limit::Crates => "Crates",
     }
 }

@@ -1,12 +1,12 @@
-//! Paths and documents that cases are given, and roots that they give.
+//! Paths and documents that cases are given, and roots, refusals and names that they give.
 
-use base_text::{AbsPathBuf, Items, Limits};
+use base_text::{AbsPathBuf, Edition, Items, Limit, Limits};
 use cargo_meta::Metadata;
-use cases::{Case, Fault, text_answer, text_of};
+use cases::{Case, Fault, List, Object, text_of};
 use crate_graph::Env;
 use pm_cargo::{CargoWorkspace, ManifestPath};
 use pm_roots::PackageRoot;
-use serde_json::{Value, json};
+use serde_json::Value;
 use std::alloc::Global;
 
 /// An absolute path.
@@ -20,11 +20,17 @@ pub fn paths_of(
     case: Case<'_>,
     key: &'static str,
 ) -> Result<Vec<AbsPathBuf>, Fault> {
+    let values = case.list(key)?;
     let mut paths = Vec::new(alloc);
-    for value in case.list(key)? {
-        paths.push(path_of(alloc, text_of(value, key)?)?)?;
+    for value in values {
+        push_path(alloc, &mut paths, text_of(value, key)?)?;
     }
     Ok(paths)
+}
+
+fn push_path(alloc: Global, paths: &mut Vec<AbsPathBuf>, text: &str) -> Result<(), Fault> {
+    paths.push(path_of(alloc, text)?)?;
+    Ok(())
 }
 
 /// The path of a manifest.
@@ -34,14 +40,24 @@ pub fn manifest_of(alloc: Global, text: &str) -> Result<ManifestPath, Fault> {
         .ok_or(Fault::Condition)
 }
 
-/// The workspace of a case's document.
+/// The workspace of a case's document, which is one of a sysroot where the case says so.
 pub fn workspace_of(alloc: Global, case: Case<'_>) -> Result<Box<CargoWorkspace>, Fault> {
-    let manifest = manifest_of(alloc, case.text("manifest")?)?;
+    let (manifest, document) = (case.text("manifest")?, case.member("document")?);
+    let manifest = manifest_of(alloc, manifest)?;
+    match Metadata::of_value(alloc, document) {
+        Ok(meta) => of_metadata(alloc, meta, manifest, case.flag("sysroot")),
+        Err(_) => Err(Fault::Member("document")),
+    }
+}
+
+fn of_metadata(
+    alloc: Global,
+    meta: Metadata,
+    manifest: ManifestPath,
+    is_sysroot: bool,
+) -> Result<Box<CargoWorkspace>, Fault> {
     let limits = Limits::greatest();
-    let Ok(meta) = Metadata::of_value(alloc, case.member("document")?) else {
-        return Err(Fault::Member("document"));
-    };
-    match CargoWorkspace::new(alloc, meta, manifest, Env::new(alloc), false, &limits) {
+    match CargoWorkspace::new(alloc, meta, manifest, Env::new(alloc), is_sysroot, &limits) {
         Ok(workspace) => Ok(Box::new(alloc, workspace)?),
         Err(_) => Err(Fault::Member("document")),
     }
@@ -49,25 +65,55 @@ pub fn workspace_of(alloc: Global, case: Case<'_>) -> Result<Box<CargoWorkspace>
 
 /// The roots, each whether it is local, with what it includes and excludes.
 pub fn roots_answer(alloc: Global, roots: &[PackageRoot]) -> Result<Value, Fault> {
-    let mut answers = Vec::new(alloc);
+    let mut answers = List::new(alloc);
     for root in roots {
-        answers.push(root_answer(alloc, root)?)?;
+        answers = answers.item(root_answer(alloc, root));
     }
-    Ok(Value::Array(answers))
+    answers.answer()
 }
 
 fn root_answer(alloc: Global, root: &PackageRoot) -> Result<Value, Fault> {
-    let include = paths_answer(alloc, &root.include)?;
-    let exclude = paths_answer(alloc, &root.exclude)?;
-    let is_local = root.is_local;
-    Ok(json!(in alloc; { "local": is_local, "include": include, "exclude": exclude })?)
+    Object::new(alloc)
+        .flag("local", root.is_local)
+        .member("include", paths_answer(alloc, &root.include))
+        .member("exclude", paths_answer(alloc, &root.exclude))
+        .answer()
 }
 
 /// Paths, as a list.
 pub fn paths_answer(alloc: Global, paths: &Items<AbsPathBuf>) -> Result<Value, Fault> {
-    let mut answers = Vec::new(alloc);
+    let mut answers = List::new(alloc);
     for path in paths.as_slice() {
-        answers.push(text_answer(alloc, path.as_str())?)?;
+        answers = answers.text(path.as_str());
     }
-    Ok(Value::Array(answers))
+    answers.answer()
+}
+
+/// A refusal with its text.
+pub fn with_text(alloc: Global, name: &str, text: &str) -> Result<Value, Fault> {
+    Object::new(alloc)
+        .text("error", name)
+        .text("text", text)
+        .answer()
+}
+
+/// The year of an edition.
+pub fn edition_name(edition: Edition) -> &'static str {
+    match edition {
+        Edition::Edition2015 => "2015",
+        Edition::Edition2018 => "2018",
+        Edition::Edition2021 => "2021",
+        Edition::Edition2024 => "2024",
+    }
+}
+
+/// What there is too much of.
+pub fn limit_name(limit: Limit) -> &'static str {
+    match limit {
+        Limit::Bytes => "Bytes",
+        Limit::Paths => "Paths",
+        Limit::Packages => "Packages",
+        Limit::Targets => "Targets",
+        Limit::Crates => "Crates",
+    }
 }

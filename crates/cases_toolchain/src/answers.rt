@@ -1,9 +1,9 @@
 //! What answers say.
 
 use base_text::{CfgAtom, TryClone, Version, write_cfg};
-use cases::{Case, Fault, optional_answer, text_answer};
+use cases::{Case, Fault, List, optional_answer};
 use crate_values::target::{Arch, TargetData};
-use serde_json::{Value, json};
+use serde_json::Value;
 use std::alloc::Global;
 use toolchain_answers::{TargetSpec, atoms_of, host_of, spec_of, version_behind};
 
@@ -17,7 +17,7 @@ pub fn answer(alloc: Global, case: Case<'_>) -> Result<Value, Fault> {
         }
         "host_of" => optional_answer(alloc, host_of(text)),
         "atoms_of" => atoms_answer(alloc, atoms_of(alloc, text)?.as_slice()),
-        "spec_of" => match spec_of(alloc, text)? {
+        "spec_of" => match &spec_of(alloc, text)? {
             Some(spec) => specification_answer(alloc, spec),
             None => Ok(Value::Null),
         },
@@ -25,29 +25,35 @@ pub fn answer(alloc: Global, case: Case<'_>) -> Result<Value, Fault> {
     }
 }
 
-// The machine of a specification, where its copy equals it.
-fn specification_answer(alloc: Global, spec: TargetSpec) -> Result<Value, Fault> {
-    if spec.try_clone(alloc)? != spec {
-        return Err(Fault::Condition);
+// The machine of a specification's copy, where that equals it.
+fn specification_answer(alloc: Global, spec: &TargetSpec) -> Result<Value, Fault> {
+    let copy = spec.try_clone(alloc)?;
+    if copy == *spec {
+        machine_answer(alloc, &TargetData::from(copy))
+    } else {
+        Err(Fault::Condition)
     }
-    machine_answer(alloc, &TargetData::from(spec))
 }
 
 /// A version as its text, or null.
 pub fn version_answer(alloc: Global, version: Option<&Version>) -> Result<Value, Fault> {
     match version {
-        Some(version) => text_answer(alloc, version.as_version().to_string(alloc)?.as_str()),
+        Some(version) => Ok(Value::String(version.as_version().to_string(alloc)?)),
         None => Ok(Value::Null),
     }
 }
 
 /// Atoms as their texts.
 pub fn atoms_answer(alloc: Global, atoms: &[CfgAtom]) -> Result<Value, Fault> {
-    let mut texts = Vec::new(alloc);
+    let mut texts = List::new(alloc);
     for atom in atoms {
-        texts.push(text_answer(alloc, write_cfg(alloc, atom)?.as_str())?)?;
+        texts = texts.item(atom_answer(alloc, atom));
     }
-    Ok(Value::Array(texts))
+    texts.answer()
+}
+
+fn atom_answer(alloc: Global, atom: &CfgAtom) -> Result<Value, Fault> {
+    Ok(Value::String(write_cfg(alloc, atom)?))
 }
 
 /// The kind of a machine and its layout.
@@ -57,6 +63,8 @@ pub fn machine_answer(alloc: Global, machine: &TargetData) -> Result<Value, Faul
         Arch::Wasm64 => "Wasm64",
         Arch::Other => "Other",
     };
-    let layout = machine.data_layout.as_str();
-    Ok(json!(in alloc; [arch, layout])?)
+    List::new(alloc)
+        .text(arch)
+        .text(machine.data_layout.as_str())
+        .answer()
 }

@@ -1,20 +1,20 @@
 //! What is known of a toolchain by the answers of its tools.
 
 use crate::answers::{atoms_answer, machine_answer, version_answer};
-use crate::given::PlacedGiven;
+use crate::placed_given::PlacedGiven;
 use base_text::TryClone;
 use case_lines::texts_answer;
 use case_tools::{CaseAsk, optional_version};
-use cases::{Case, Fault, error_answer};
-use serde_json::{Value, json};
+use cases::{Case, Fault, Object, error_answer};
+use serde_json::Value;
 use std::alloc::Global;
 use toolchain_info::{QueryConfig, QueryError, rustc_cfg, target_data, target_tuple, version};
 
 /// What a query gives.
 pub fn answer(alloc: Global, case: Case<'_>) -> Result<Value, Fault> {
+    let (call, target) = (case.text("call")?, case.optional_text("target"));
     let given = PlacedGiven::of_case(alloc, case)?;
-    let target = case.optional_text("target");
-    match case.text("call")? {
+    match call {
         "version::get" => versions(alloc, given.config(), &given.ask()),
         "target_tuple::get" => platforms(alloc, given.config(), target, &given.ask()),
         "target_data::get" => machines(alloc, case, given.config(), target, &given.ask()),
@@ -72,13 +72,12 @@ fn refusal(alloc: Global, error: &QueryError) -> Result<Value, Fault> {
         return Err(Fault::Condition);
     }
     let name = format!(in alloc; "{error}")?;
-    let name = name.as_str();
     match error {
-        QueryError::Failed(line) => {
-            let line = line.as_str();
-            Ok(json!(in alloc; { "error": name, "line": line })?)
-        }
-        QueryError::NoHost | QueryError::BadSpec => error_answer(alloc, name),
+        QueryError::Failed(line) => Object::new(alloc)
+            .text("error", name.as_str())
+            .text("line", line.as_str())
+            .answer(),
+        QueryError::NoHost | QueryError::BadSpec => error_answer(alloc, name.as_str()),
         QueryError::OutOfMemory => Err(Fault::OutOfMemory),
     }
 }

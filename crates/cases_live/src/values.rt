@@ -1,22 +1,29 @@
 //! Scripts as cases give them, and pages as cases show them.
 
-use cases::{Case, Fault, text_of};
+use cases::{Case, Fault, List, text_answer, text_of};
 use serde_json::Value;
 use std::alloc::{AllocError, Global};
 
 /// The words of a case, none without the member.
 pub fn words_of(alloc: Global, case: Case<'_>) -> Result<Vec<String>, Fault> {
+    let list = case.list("words")?;
     let mut words = Vec::new(alloc);
-    for word in case.list("words")? {
-        words.push(String::from_str(alloc, text_of(word, "words")?)?)?;
+    for word in list {
+        words.push(word_of(alloc, word)?)?;
     }
     Ok(words)
 }
 
+fn word_of(alloc: Global, word: &Value) -> Result<String, Fault> {
+    let word = text_of(word, "words")?;
+    Ok(String::from_str(alloc, word)?)
+}
+
 /// A list of numbers, none without the member.
 pub fn numbers_of(alloc: Global, case: Case<'_>, key: &'static str) -> Result<Vec<u64>, Fault> {
+    let list = case.list(key)?;
     let mut numbers = Vec::new(alloc);
-    for number in case.list(key)? {
+    for number in list {
         numbers.push(number.as_u64().ok_or(Fault::Member(key))?)?;
     }
     Ok(numbers)
@@ -25,8 +32,9 @@ pub fn numbers_of(alloc: Global, case: Case<'_>, key: &'static str) -> Result<Ve
 /// The bytes of a script's lines, each a value, which is written, or a text, which stands as it is. Each
 /// ends in a newline, the last one too unless the case says that it is unfinished.
 pub fn script_of(alloc: Global, case: Case<'_>) -> Result<Vec<u8>, Fault> {
+    let lines = case.list("lines")?;
     let mut script = String::new(alloc);
-    for line in case.list("lines")? {
+    for line in lines {
         push_line(alloc, &mut script, line)?;
     }
     let mut script = script.into_bytes();
@@ -45,25 +53,30 @@ fn push_line(alloc: Global, script: &mut String, line: &Value) -> Result<(), All
 }
 
 /// The pages that a sink took, each a value where its text is what is written of that value, else the text.
-pub fn pages_of(alloc: Global, out: &[u8]) -> Result<Value, AllocError> {
+pub fn pages_of(alloc: Global, out: &[u8]) -> Result<Value, Fault> {
     let text = String::from_utf8_lossy(alloc, out)?;
-    let mut pages = Vec::new(alloc);
+    let mut pages = List::new(alloc);
     for line in text.as_str().split_inclusive('\n') {
-        pages.push(page_of(alloc, line)?)?;
+        pages = pages.item(page_of(alloc, line));
     }
-    Ok(Value::Array(pages))
+    pages.answer()
 }
 
-fn page_of(alloc: Global, line: &str) -> Result<Value, AllocError> {
+fn page_of(alloc: Global, line: &str) -> Result<Value, Fault> {
     let written = line.strip_suffix('\n').unwrap_or(line);
     let Ok(value) = Value::from_str(alloc, written) else {
-        return Value::try_from_str(alloc, line);
+        return text_answer(alloc, line);
     };
-    let mut again = value.to_string(alloc)?;
-    again.push_str("\n")?;
-    if again.as_str() == line {
+    if is_written(alloc, &value, line)? {
         Ok(value)
     } else {
-        Value::try_from_str(alloc, line)
+        text_answer(alloc, line)
     }
+}
+
+// Whether a line is what is written of a value.
+fn is_written(alloc: Global, value: &Value, line: &str) -> Result<bool, AllocError> {
+    let mut written = value.to_string(alloc)?;
+    written.push_str("\n")?;
+    Ok(written.as_str() == line)
 }

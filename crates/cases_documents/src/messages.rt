@@ -1,0 +1,68 @@
+//! Lines as messages: the value of each, and what is printed of it.
+
+use crate::names::printed;
+use base_text::TryClone;
+use cargo_msgs::{ArtifactDebuginfo, Message};
+use cases::{Case, Fault, Object};
+use serde_json::Value;
+use std::alloc::Global;
+
+/// What a call on a line gives.
+pub fn answer(alloc: Global, case: Case<'_>) -> Result<Value, Fault> {
+    let (line, call) = (case.text("line")?, case.text("call")?);
+    let message = Box::new(alloc, Message::of_line(alloc, line)?)?;
+    of_message(alloc, call, &message)
+}
+
+fn of_message(alloc: Global, call: &str, message: &Message) -> Result<Value, Fault> {
+    match call {
+        "of_line" => written(alloc, message),
+        "copy" => copied(alloc, message),
+        "printed" => compiler_message(alloc, message),
+        "debuginfo" => debuginfo(alloc, message),
+        _ => Err(Fault::Call),
+    }
+}
+
+/// The value of a message, or the text of a line that is no message.
+pub fn written(alloc: Global, message: &Message) -> Result<Value, Fault> {
+    match message {
+        Message::TextLine(_) => Object::new(alloc)
+            .member("text", value_of(alloc, message))
+            .answer(),
+        _ => value_of(alloc, message),
+    }
+}
+
+fn value_of(alloc: Global, message: &Message) -> Result<Value, Fault> {
+    Ok(message.to_value(alloc)?)
+}
+
+// The value of a message's copy.
+fn copied(alloc: Global, message: &Message) -> Result<Value, Fault> {
+    let copy = Box::new(alloc, message.try_clone(alloc)?)?;
+    written(alloc, &copy)
+}
+
+// What is printed of what the compiler said.
+fn compiler_message(alloc: Global, message: &Message) -> Result<Value, Fault> {
+    match message {
+        Message::CompilerMessage(message) => printed(alloc, message),
+        _ => Err(Fault::Member("line")),
+    }
+}
+
+// What is printed of an artifact's debug information, and whether it is the default.
+fn debuginfo(alloc: Global, message: &Message) -> Result<Value, Fault> {
+    match message {
+        Message::CompilerArtifact(artifact) => {
+            let debuginfo = &artifact.profile.debuginfo;
+            let is_default = *debuginfo == ArtifactDebuginfo::default();
+            Object::new(alloc)
+                .member("printed", printed(alloc, debuginfo))
+                .flag("default", is_default)
+                .answer()
+        }
+        _ => Err(Fault::Member("line")),
+    }
+}

@@ -1,0 +1,177 @@
+//! The messages of streams: of a text, or of bytes, that a source gives.
+
+use crate::messages::written;
+use base_text::FaultSource;
+use cargo_msgs::{ItemFault, Message, MessageIter};
+use cases::{Case, Fault, List, Object, error_answer};
+use serde_json::Value;
+use std::alloc::Global;
+
+/// The items of a stream, or how many there are of each kind.
+pub fn answer(alloc: Global, case: Case<'_>) -> Result<Value, Fault> {
+    let mut messages = messages_of(alloc, case)?;
+    of_stream(alloc, case, &mut messages)
+}
+
+fn of_stream(
+    alloc: Global,
+    case: Case<'_>,
+    messages: &mut MessageIter<FaultSource>,
+) -> Result<Value, Fault> {
+    match case.text("call")? {
+        "items" => items(alloc, messages),
+        "count" => count(alloc, messages),
+        _ => Err(Fault::Call),
+    }
+}
+
+// The messages of the bytes of a case. The source fails at the reads that the case names.
+fn messages_of(alloc: Global, case: Case<'_>) -> Result<MessageIter<FaultSource>, Fault> {
+    let max_line = case.number("max_line")? as usize;
+    let failing = case.list("failing")?;
+    let bytes = stream_bytes(alloc, case)?;
+    let source = FaultSource::new(bytes, numbers(alloc, failing)?);
+    Ok(Message::parse_stream(alloc, source, max_line)?)
+}
+
+// The text so many times, or the bytes.
+fn stream_bytes(alloc: Global, case: Case<'_>) -> Result<Vec<u8>, Fault> {
+    match case.optional_text("text") {
+        Some(text) => repeated(alloc, text, times_of(case)?),
+        None => bytes_of(alloc, case.list("bytes")?),
+    }
+}
+
+// How many times the text stands. Without the member it stands once.
+fn times_of(case: Case<'_>) -> Result<u64, Fault> {
+    match case.find("times") {
+        Some(_) => case.number("times"),
+        None => Ok(1),
+    }
+}
+
+fn repeated(alloc: Global, text: &str, times: u64) -> Result<Vec<u8>, Fault> {
+    let mut bytes = Vec::new(alloc);
+    for _ in 0..times {
+        bytes.extend_from_slice(text.as_bytes())?;
+    }
+    Ok(bytes)
+}
+
+fn bytes_of(alloc: Global, values: &[Value]) -> Result<Vec<u8>, Fault> {
+    let mut bytes = Vec::new(alloc);
+    for value in values {
+        push_byte(&mut bytes, value)?;
+    }
+    Ok(bytes)
+}
+
+fn push_byte(bytes: &mut Vec<u8>, value: &Value) -> Result<(), Fault> {
+    let byte = u8::try_from(number(value)?);
+    bytes.push(byte.ok().ok_or(Fault::Member("bytes"))?)?;
+    Ok(())
+}
+
+fn numbers(alloc: Global, values: &[Value]) -> Result<Vec<u64>, Fault> {
+    let mut numbers = Vec::new(alloc);
+    for value in values {
+        numbers.push(number(value)?)?;
+    }
+    Ok(numbers)
+}
+
+fn number(value: &Value) -> Result<u64, Fault> {
+    value.as_u64().ok_or(Fault::Member("number"))
+}
+
+// All items. After the end there is none.
+fn items(alloc: Global, messages: &mut MessageIter<FaultSource>) -> Result<Value, Fault> {
+    let items = items_to_end(alloc, messages)?;
+    match next_answer(alloc, messages)? {
+        Some(_) => Err(Fault::Condition),
+        None => Ok(items),
+    }
+}
+
+fn items_to_end(alloc: Global, messages: &mut MessageIter<FaultSource>) -> Result<Value, Fault> {
+    let mut items = List::new(alloc);
+    for _ in 0..u64::MAX {
+        match next_answer(alloc, messages)? {
+            Some(answer) => items = items.item(Ok(answer)),
+            None => break,
+        }
+    }
+    items.answer()
+}
+
+fn next_answer(
+    alloc: Global,
+    messages: &mut MessageIter<FaultSource>,
+) -> Result<Option<Value>, Fault> {
+    let item = messages.next();
+    item_answer(alloc, &item)
+}
+
+fn item_answer(
+    alloc: Global,
+    item: &Option<Result<Message, ItemFault>>,
+) -> Result<Option<Value>, Fault> {
+    match item {
+        Some(Ok(message)) => Ok(Some(written(alloc, message)?)),
+        Some(Err(fault)) => Ok(Some(fault_answer(alloc, fault)?)),
+        None => Ok(None),
+    }
+}
+
+fn fault_answer(alloc: Global, fault: &ItemFault) -> Result<Value, Fault> {
+    match fault {
+        ItemFault::OutOfMemory => Err(Fault::OutOfMemory),
+        _ => error_answer(alloc, format!(in alloc; "{fault}")?.as_str()),
+    }
+}
+
+// How many messages, lines of text and refused lines there are.
+#[derive(Clone, Copy)]
+struct Counts {
+    messages: u64,
+    texts: u64,
+    faults: u64,
+}
+
+impl Counts {
+    // Counts an item, and says whether there is one.
+    fn add(&mut self, item: &Option<Result<Message, ItemFault>>) -> Result<bool, Fault> {
+        match item {
+            Some(Ok(Message::TextLine(_))) => self.texts = self.texts.saturating_add(1),
+            Some(Ok(_)) => self.messages = self.messages.saturating_add(1),
+            Some(Err(ItemFault::OutOfMemory)) => return Err(Fault::OutOfMemory),
+            Some(Err(_)) => self.faults = self.faults.saturating_add(1),
+            None => return Ok(false),
+        }
+        Ok(true)
+    }
+}
+
+// Counts the next item, and says whether there was one.
+fn count_next(messages: &mut MessageIter<FaultSource>, counts: &mut Counts) -> Result<bool, Fault> {
+    let item = messages.next();
+    counts.add(&item)
+}
+
+fn count(alloc: Global, messages: &mut MessageIter<FaultSource>) -> Result<Value, Fault> {
+    let mut counts = Counts {
+        messages: 0,
+        texts: 0,
+        faults: 0,
+    };
+    for _ in 0..u64::MAX {
+        if !count_next(messages, &mut counts)? {
+            break;
+        }
+    }
+    Object::new(alloc)
+        .number("messages", counts.messages)
+        .number("texts", counts.texts)
+        .number("faults", counts.faults)
+        .answer()
+}

@@ -1,0 +1,39 @@
+//! What words ask for.
+
+use crate::config::config_answer;
+use crate::values::words_of;
+use base_text::TryClone;
+use cases::{Case, Fault, Object};
+use live_input::{Command, LiveConfig, WordsError};
+use serde_json::Value;
+use std::alloc::Global;
+
+/// The configuration that the words of a case set, and null where they are wrong.
+pub fn answer(alloc: Global, case: Case<'_>) -> Result<Value, Fault> {
+    let words = words_of(alloc, case)?;
+    match Command::of_words(alloc, words.as_slice()) {
+        Ok(command) => {
+            let command = Box::new(alloc, command)?;
+            copied(alloc, &command)
+        }
+        Err(WordsError::Usage) => Ok(Value::Null),
+        Err(WordsError::OutOfMemory) => Err(Fault::OutOfMemory),
+    }
+}
+
+// The configuration of a copy.
+fn copied(alloc: Global, command: &Command) -> Result<Value, Fault> {
+    let config = command.try_clone(alloc)?.into_config();
+    let config = Box::new(alloc, config)?;
+    compared(alloc, &config)
+}
+
+// A configuration, and whether it is that of no words.
+fn compared(alloc: Global, config: &LiveConfig) -> Result<Value, Fault> {
+    let first = Box::new(alloc, LiveConfig::new(alloc)?)?;
+    Object::new(alloc)
+        .member("config", config_answer(alloc, config))
+        .flag("is_first", *config == *first)
+        .flag("fits", config.fits())
+        .answer()
+}

@@ -1,0 +1,67 @@
+//! Reads the document of a case as a workspace, and lowers it with the files that are live.
+
+mod columns;
+mod crates;
+
+use crate::loaders::live_loader;
+use crate::values::{limit_name, workspace_of};
+use base_text::{Limits, Text};
+use cases::{Case, Fault, Object, number_of};
+use crate_graph::target::TargetLoadError;
+use crate_graph::{CrateGraphBuilder, CrateWorkspaceData};
+use pm_rows::{LowerError, lower_cargo};
+use serde_json::Value;
+use std::alloc::Global;
+use std::rc::Rc;
+
+/// What a case asks of the graph of its document, or why there is none.
+pub fn answer(alloc: Global, case: Case<'_>) -> Result<Value, Fault> {
+    if case.text("call")? != "lower_cargo" {
+        return Err(Fault::Call);
+    }
+    match &lower(alloc, case)? {
+        Ok(graph) => crates::answer(alloc, case, graph),
+        Err(error) => refusal(alloc, error),
+    }
+}
+
+fn lower(alloc: Global, case: Case<'_>) -> Result<Result<CrateGraphBuilder, LowerError>, Fault> {
+    let limits = limits_of(case)?;
+    let workspace = workspace_of(alloc, case)?;
+    let mut loader = live_loader(alloc, case.list("live")?)?;
+    let shared = workspace_data(alloc)?;
+    Ok(lower_cargo(alloc, &workspace, &shared, &mut loader, &limits))
+}
+
+// The limits of a case. The limit of crates is the greatest where it is left out.
+fn limits_of(case: Case<'_>) -> Result<Limits, Fault> {
+    let mut limits = Limits::greatest();
+    if let Some(crates) = case.find("limit") {
+        limits.crates = number_of(crates, "limit")?;
+    }
+    Ok(limits)
+}
+
+fn workspace_data(alloc: Global) -> Result<Rc<CrateWorkspaceData>, Fault> {
+    let text = Text::of_str(alloc, "bad target spec")?;
+    let data = CrateWorkspaceData {
+        target: Err(TargetLoadError(text)),
+        toolchain: None,
+    };
+    Ok(Rc::new(alloc, data)?)
+}
+
+// A refusal by its name, with the name or with what there is too much of.
+fn refusal(alloc: Global, error: &LowerError) -> Result<Value, Fault> {
+    match error {
+        LowerError::BadCrateName(name) => Object::new(alloc)
+            .text("error", "BadCrateName")
+            .text("name", name.as_str())
+            .answer(),
+        LowerError::TooMany(limit) => Object::new(alloc)
+            .text("error", "TooMany")
+            .text("of", limit_name(*limit))
+            .answer(),
+        LowerError::OutOfMemory => Err(Fault::OutOfMemory),
+    }
+}

@@ -1,0 +1,98 @@
+//! What a workspace is asked: by paths, by the names of its packages and by their features.
+
+use crate::values::manifest_of;
+use base_text::AbsPathBuf;
+use cases::{Case, Fault, List, number_of};
+use pm_cargo::{CargoWorkspace, ManifestPath, Package};
+use serde_json::Value;
+use std::alloc::Global;
+
+/// The answer to a question.
+pub fn answer(
+    alloc: Global,
+    case: Case<'_>,
+    workspace: &CargoWorkspace,
+    question: &str,
+) -> Result<Value, Fault> {
+    match question {
+        "package_flag" => package_flag(alloc, case, workspace),
+        "parent_manifests" => parent_manifests(alloc, case, workspace),
+        "target_by_root" => target_by_root(alloc, case, workspace),
+        "workspace_features" => workspace_features(alloc, workspace),
+        "is_virtual_workspace" => Ok(Value::from(workspace.is_virtual_workspace())),
+        "rustc_private" => Ok(Value::from(workspace.requires_rustc_private())),
+        "directories" => directories(alloc, workspace),
+        "given" => given(alloc, workspace),
+        _ => Err(Fault::Member("ask")),
+    }
+}
+
+fn package_flag(alloc: Global, case: Case<'_>, workspace: &CargoWorkspace) -> Result<Value, Fault> {
+    let id = Package::from_raw(number_of(case.member("of")?, "of")?);
+    if !workspace.has_package(id) {
+        return Err(Fault::Condition);
+    }
+    Ok(Value::String(workspace.package_flag(alloc, &workspace[id])?))
+}
+
+fn parent_manifests(
+    alloc: Global,
+    case: Case<'_>,
+    workspace: &CargoWorkspace,
+) -> Result<Value, Fault> {
+    let manifest = manifest_of(alloc, case.text("of")?)?;
+    match &workspace.parent_manifests(alloc, &manifest)? {
+        Some(found) => manifests(alloc, found.as_slice()),
+        None => Ok(Value::Null),
+    }
+}
+
+fn manifests(alloc: Global, manifests: &[ManifestPath]) -> Result<Value, Fault> {
+    let mut answers = List::new(alloc);
+    for manifest in manifests {
+        answers = answers.text(manifest.as_path().as_str());
+    }
+    answers.answer()
+}
+
+fn target_by_root(
+    alloc: Global,
+    case: Case<'_>,
+    workspace: &CargoWorkspace,
+) -> Result<Value, Fault> {
+    let Ok(root) = AbsPathBuf::new(alloc, case.text("of")?) else {
+        return Err(Fault::Condition);
+    };
+    match workspace.target_by_root(root.as_path()) {
+        Some(target) => Ok(Value::from(target.into_raw())),
+        None => Ok(Value::Null),
+    }
+}
+
+fn workspace_features(alloc: Global, workspace: &CargoWorkspace) -> Result<Value, Fault> {
+    let features = workspace.workspace_features(alloc)?;
+    let mut answers = List::new(alloc);
+    for feature in &features {
+        answers = answers.text(feature.as_str());
+    }
+    answers.answer()
+}
+
+fn directories(alloc: Global, workspace: &CargoWorkspace) -> Result<Value, Fault> {
+    let build = workspace.build_directory();
+    List::new(alloc)
+        .text(workspace.workspace_root().as_str())
+        .text(workspace.target_directory().as_str())
+        .optional(build.map(|directory| directory.as_str()))
+        .answer()
+}
+
+// The manifest that a workspace was read with, whether it is that of the standard library, and whether its
+// environment is empty.
+fn given(alloc: Global, workspace: &CargoWorkspace) -> Result<Value, Fault> {
+    List::new(alloc)
+        .text(workspace.manifest_path().as_path().as_str())
+        .flag(workspace.is_sysroot())
+        .flag(workspace.env().is_empty())
+        .answer()
+}

@@ -1,0 +1,37 @@
+//! The environments that configurations give.
+
+use crate::given::given_of;
+use crate::origins::text_of_lines;
+use cases::{Case, Fault, List};
+use crate_values::Env;
+use pm_tools::{CargoConfigFile, cargo_config_env};
+use serde_json::Value;
+use std::alloc::Global;
+
+/// The environment of the configuration of a case, where it has one.
+pub fn answer(alloc: Global, case: Case<'_>) -> Result<Value, Fault> {
+    let given = given_of(alloc, case)?;
+    let config = config_of(alloc, case)?;
+    match cargo_config_env(alloc, config.as_ref(), &given.ask()) {
+        Ok(env) => env_answer(alloc, &env),
+        Err(_) => Err(Fault::OutOfMemory),
+    }
+}
+
+// The configuration of a case: its lines as one text, if it has some.
+fn config_of(alloc: Global, case: Case<'_>) -> Result<Option<CargoConfigFile>, Fault> {
+    if case.find("lines").is_none() {
+        return Ok(None);
+    }
+    let text = text_of_lines(alloc, case.list("lines")?)?;
+    Ok(Some(CargoConfigFile::from_text(text)))
+}
+
+/// An environment as it is compared: its variables with their values.
+pub fn env_answer(alloc: Global, env: &Env) -> Result<Value, Fault> {
+    let mut pairs = List::new(alloc);
+    for (name, value) in env.iter() {
+        pairs = pairs.item(List::new(alloc).text(name).text(value).answer());
+    }
+    pairs.answer()
+}

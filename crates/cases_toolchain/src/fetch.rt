@@ -1,0 +1,127 @@
+//! Fetching metadata from recorded answers.
+
+use crate::config::metadata_config;
+use crate::tools::root_of;
+use base_text::{RecordedRunner, TryClone};
+use cargo_meta::{Error, Metadata};
+use case_lines::{absolute, line_answer, runner_of};
+use case_tools::{Lines, manifest_of};
+use cases::{Case, Fault, Object};
+use pm_config::{Progress, Quiet};
+use pm_fetch::FetchMetadata;
+use serde_json::Value;
+use std::alloc::{AllocError, Global};
+
+/// What a call on a question for metadata gives.
+pub fn answer(alloc: Global, case: Case<'_>) -> Result<Value, Fault> {
+    let call = case.text("call")?;
+    let runner = runner_of(alloc, case.list("answers")?)?;
+    let fetch = fetch_of(alloc, case, &runner)?;
+    match call {
+        "FetchMetadata::new" => line_answer(alloc, fetch.question()),
+        "FetchMetadata::exec" => exec(alloc, case, fetch, &runner),
+        _ => Err(Fault::Call),
+    }
+}
+
+// The question of a case, about a manifest from a directory.
+fn fetch_of(
+    alloc: Global,
+    case: Case<'_>,
+    runner: &RecordedRunner,
+) -> Result<Box<FetchMetadata>, Fault> {
+    let (manifest, dir) = (case.text("manifest")?, case.text("dir")?);
+    let no_deps = case.flag("no_deps");
+    let root = root_of(alloc, case)?;
+    let config = metadata_config(alloc, case)?;
+    let manifest = manifest_of(alloc, manifest)?;
+    let dir = absolute(alloc, dir, "dir")?;
+    let dir = dir.as_path();
+    let fetch = FetchMetadata::new(alloc, &manifest, dir, &config, &root, no_deps, runner);
+    boxed(alloc, fetch)
+}
+
+fn boxed(
+    alloc: Global,
+    fetch: Result<FetchMetadata, AllocError>,
+) -> Result<Box<FetchMetadata>, Fault> {
+    Ok(Box::new(alloc, fetch?)?)
+}
+
+// What is fetched, and the lines of progress; a copy fetches quietly what its original does.
+fn exec(
+    alloc: Global,
+    case: Case<'_>,
+    fetch: Box<FetchMetadata>,
+    runner: &RecordedRunner,
+) -> Result<Value, Fault> {
+    let locked = case.flag("locked");
+    let copy = Box::new(alloc, fetch.try_clone(alloc)?)?;
+    let quietly = fetched(alloc, copy, locked, runner, &mut Quiet)?;
+    let mut lines = Lines::new(alloc);
+    let fetched = fetched(alloc, fetch, locked, runner, &mut lines);
+    Object::new(alloc)
+        .member("fetched", equal_to(fetched, &quietly))
+        .member("lines", lines_answer(lines))
+        .answer()
+}
+
+// An answer that has to be equal to another.
+fn equal_to(answer: Result<Value, Fault>, other: &Value) -> Result<Value, Fault> {
+    let answer = answer?;
+    if answer == *other {
+        Ok(answer)
+    } else {
+        Err(Fault::Condition)
+    }
+}
+
+fn lines_answer(lines: Lines) -> Result<Value, Fault> {
+    let Lines { kept, is_whole } = lines;
+    if is_whole {
+        Ok(Value::Array(kept))
+    } else {
+        Err(Fault::Condition)
+    }
+}
+
+fn fetched<P: Progress>(
+    alloc: Global,
+    fetch: Box<FetchMetadata>,
+    locked: bool,
+    runner: &RecordedRunner,
+    progress: &mut P,
+) -> Result<Value, Fault> {
+    match &Box::into_inner(fetch).exec(alloc, locked, runner, progress) {
+        Ok((metadata, error)) => metadata_answer(alloc, metadata, error),
+        Err(error) => error_answer(alloc, error),
+    }
+}
+
+// How many packages the metadata has and whether it has a graph, and the error beside it.
+fn metadata_answer(
+    alloc: Global,
+    metadata: &Metadata,
+    error: &Option<Error>,
+) -> Result<Value, Fault> {
+    Object::new(alloc)
+        .number("packages", metadata.packages.len() as u64)
+        .flag("resolved", metadata.resolve.is_some())
+        .member("beside", beside_answer(alloc, error))
+        .answer()
+}
+
+fn beside_answer(alloc: Global, error: &Option<Error>) -> Result<Value, Fault> {
+    match error {
+        Some(error) => error_answer(alloc, error),
+        None => Ok(Value::Null),
+    }
+}
+
+// An error, as it is printed.
+fn error_answer(alloc: Global, error: &Error) -> Result<Value, Fault> {
+    match error {
+        Error::OutOfMemory => Err(Fault::OutOfMemory),
+        _ => Ok(Value::String(format!(in alloc; "{error}")?)),
+    }
+}
