@@ -3,7 +3,7 @@
 ghost use Rattle.std.specs.Prelude.{◌≡◌};
 ghost use Rattle.serde_json.specs.View.{members_view};
 ghost use Rattle.json_fields.specs.Outcome.{Gives};
-ghost use Rattle.cargo_msgs.specs.Artifact.{artifact_at, artifact_data, artifact_from, profile_at, profile_data};
+ghost use Rattle.cargo_msgs.specs.Artifact.{artifact_at, artifact_data, artifact_from, build_from, profile_at, profile_data};
 ghost use Rattle.cargo_msgs.specs.laws.Artifact.{artifact-round_trips, profile-round_trips};
 
 use crate::debuginfo::ArtifactDebuginfo;
@@ -116,24 +116,51 @@ impl ReadJson for Artifact {
     }
 }
 
+// How an artifact was built, and its files.
+#[derive(Drop)]
+struct ArtifactBuild {
+    profile: ArtifactProfile,
+    features: Items<Text>,
+    filenames: Items<Text>,
+    executable: Option<Text>,
+    fresh: bool,
+}
+
+#[tactic(auto, unfolding(crate::specs::Artifact::build_from, json_fields::specs::Fields::required, json_fields::specs::Fields::optional))]
+fn read_build(alloc: Global, fields: &Map<String, Value>) -> Result<ArtifactBuild, ReadError>
+    ensures exact { Gives result (build_from (members_view fields.now.entries)) }
+{
+    Ok(ArtifactBuild {
+        profile: required(alloc, fields, "profile")?,
+        features: required(alloc, fields, "features")?,
+        filenames: required(alloc, fields, "filenames")?,
+        executable: optional(alloc, fields, "executable")?,
+        fresh: required(alloc, fields, "fresh")?,
+    })
+}
+
 /// An artifact of an object's members.
-#[tactic(auto, unfolding(crate::specs::Artifact::artifact_from, json_fields::specs::Fields::required, json_fields::specs::Fields::optional, json_fields::specs::Fields::defaulted))]
+#[tactic(auto, using(crate::proofs::Parts::artifact_in_parts), unfolding(json_fields::specs::Fields::required, json_fields::specs::Fields::defaulted))]
 pub(crate) fn read_artifact(
     alloc: Global,
     fields: &Map<String, Value>,
 ) -> Result<Artifact, ReadError>
     ensures exact { Gives result (artifact_from (members_view fields.now.entries)) }
 {
+    let package_id = required(alloc, fields, "package_id")?;
     let no_manifest = Text::new(String::new(alloc));
+    let manifest_path = defaulted(alloc, fields, "manifest_path", no_manifest)?;
+    let target = required(alloc, fields, "target")?;
+    let build = read_build(alloc, fields)?;
     Ok(Artifact {
-        package_id: required(alloc, fields, "package_id")?,
-        manifest_path: defaulted(alloc, fields, "manifest_path", no_manifest)?,
-        target: required(alloc, fields, "target")?,
-        profile: required(alloc, fields, "profile")?,
-        features: required(alloc, fields, "features")?,
-        filenames: required(alloc, fields, "filenames")?,
-        executable: optional(alloc, fields, "executable")?,
-        fresh: required(alloc, fields, "fresh")?,
+        package_id,
+        manifest_path,
+        target,
+        profile: build.profile,
+        features: build.features,
+        filenames: build.filenames,
+        executable: build.executable,
+        fresh: build.fresh,
     })
 }
 

@@ -70,14 +70,13 @@ pub(crate) fn read_build_script(
 ) -> Result<BuildScript, ReadError>
     ensures exact { Gives result (build_script_from (members_view fields.now.entries)) }
 {
-    let no_directory = Text::new(String::new(alloc));
     Ok(BuildScript {
         package_id: required(alloc, fields, "package_id")?,
         linked_libs: required(alloc, fields, "linked_libs")?,
         linked_paths: required(alloc, fields, "linked_paths")?,
         cfgs: required(alloc, fields, "cfgs")?,
         env: required(alloc, fields, "env")?,
-        out_dir: defaulted(alloc, fields, "out_dir", no_directory)?,
+        out_dir: defaulted(alloc, fields, "out_dir", Text::new(String::new(alloc)))?,
     })
 }
 

@@ -95,9 +95,7 @@ fn workspace(alloc: Global, version: &str) -> Result<CrateWorkspaceData, Fail> {
     })
 }
 
-#[test]
-fn a_crate_of_a_builder_shares_its_workspace(rt: HostRuntime) -> Result<(), Fail> {
-    let alloc = rt.alloc();
+fn builder(alloc: Global) -> Result<Box<CrateBuilder>, Fail> {
     let shared = Shared::new(Rc::new(alloc, workspace(alloc, "1.90.0")?)?);
     let extra = ExtraCrateData {
         version: None,
@@ -111,8 +109,13 @@ fn a_crate_of_a_builder_shares_its_workspace(rt: HostRuntime) -> Result<(), Fail
         Env::new(alloc),
         shared,
     );
-    let krate = Box::new(alloc, krate)?;
-    let copy = Box::new(alloc, krate.try_clone(alloc)?)?;
+    Ok(Box::new(alloc, krate)?)
+}
+
+#[test]
+fn a_crate_of_a_builder_shares_its_workspace(rt: HostRuntime) -> Result<(), Fail> {
+    let krate = builder(rt.alloc())?;
+    let copy = Box::new(rt.alloc(), krate.try_clone(rt.alloc())?)?;
     assert!(rt; *copy == *krate);
     assert!(rt; krate.ws_data().is_atleast_187());
     Ok(())
@@ -127,10 +130,11 @@ fn a_target_that_is_not_known_is_printed_and_copied(rt: HostRuntime) -> Result<(
     Ok(())
 }
 
-#[test]
-fn a_refusal_is_copied_with_its_path(rt: HostRuntime) -> Result<(), Fail> {
-    let alloc = rt.alloc();
-    let mut graph = CrateGraphBuilder::new(alloc, 1);
+// A graph of one crate.
+fn graph_of_one(alloc: Global) -> Result<Box<CrateGraphBuilder>, Fail> {
+    let dir = AbsPathBuf::new(alloc, "/w")?;
+    let data = Rc::new(alloc, workspace(alloc, "1.90.0")?)?;
+    let mut graph = Box::new(alloc, CrateGraphBuilder::new(alloc, 1))?;
     let _id = graph.add_crate_root(
         FileId::from_raw(1),
         Edition::CURRENT,
@@ -142,19 +146,30 @@ fn a_refusal_is_copied_with_its_path(rt: HostRuntime) -> Result<(), Fail> {
         CrateOrigin::Lang(LangCrateOrigin::Core),
         Vec::new(alloc),
         TargetKind::Bin,
-        AbsPathBuf::new(alloc, "/w")?,
-        Rc::new(alloc, workspace(alloc, "1.90.0")?)?,
+        dir,
+        data,
     )?;
+    Ok(graph)
+}
+
+// Why the crate cannot depend on itself.
+fn refusal(alloc: Global) -> Result<Box<AddDepError>, Fail> {
     let id = CrateBuilderId::from_raw(0);
-    let name = name(alloc, "dep")?;
+    let dep = Dependency::new(name(alloc, "dep")?, id);
+    let mut graph = graph_of_one(alloc)?;
     if !graph.contains(id) {
         return Err(Fail::from("no such crate"));
     }
-    match graph.add_dep(id, Dependency::new(name, id)) {
+    match graph.add_dep(id, dep) {
         Ok(()) => Err(Fail::from("it was not refused")),
-        Err(error) => {
-            assert!(rt; error.try_clone(alloc)? == error);
-            Ok(())
-        }
+        Err(error) => Ok(Box::new(alloc, error)?),
     }
+}
+
+#[test]
+fn a_refusal_is_copied_with_its_path(rt: HostRuntime) -> Result<(), Fail> {
+    let error = refusal(rt.alloc())?;
+    let copy = Box::new(rt.alloc(), error.try_clone(rt.alloc())?)?;
+    assert!(rt; *copy == *error);
+    Ok(())
 }

@@ -1,5 +1,5 @@
 -- A document is read step by step: the first step that is refused refuses the workspace, and else the workspace holds what each step gave.
-use Rattle.std.proofs.Common.{◌≡◌, ℕ, List, Bool, Option, Ok, ap}
+use Rattle.std.proofs.Common.{◌≡◌, ℕ, List, Bool, Option, Ok, Err, ap, refl, sym, ◌∙◌}
 use Rattle.outside.specs.declared.limits.Limits.{Limits}
 use Rattle.cargo_meta.specs.declared.metadata.Metadata.{Metadata}
 use Rattle.pm_reading.specs.Links.{linked_contents}
@@ -10,8 +10,9 @@ use Rattle.pm_reading.specs.declared.contents.Contents.{Contents}
 use Rattle.pm_reading.specs.declared.workspace_error.WorkspaceError.{WorkspaceError}
 use Rattle.pm_reading.proofs.ReadingLemmas.{refuses_on}
 use Rattle.pm_members.specs.Members.{with_all_member_deps}
-use Rattle.pm_cargo.specs.ReadWorkspace.{read_workspace}
+use Rattle.pm_cargo.specs.ReadWorkspace.{directories_of, read_workspace}
 use Rattle.pm_cargo.specs.Workspace.{Workspace}
+use Rattle.pm_cargo.specs.declared.cargo_workspace.Directories.{Directories}
 
 module _ (manifest : List ℕ) (env : List (List ℕ × List ℕ)) (is_sysroot : Bool) where
   -- the workspace of what is read
@@ -29,40 +30,43 @@ module _ (manifest : List ℕ) (env : List (List ℕ × List ℕ)) (is_sysroot :
 
   -- the workspace of what may be refused
   abbrev read_steps : Reading (List ℕ) → Reading (List ℕ) → Reading (Option (List ℕ)) → Reading Contents → Reading Workspace
-  read_steps root target build contents = root >>= λ r. target >>= λ t. build >>= λ b. contents >>= λ c. Ok (made r t b c)
+  read_steps root target build contents = root >>= λ r. target >>= λ t. build >>= λ b. contents >>= λ c.
+      Ok (made r t b c)
+
+  -- the workspace of its directories and its contents
+  abbrev pub made_in : Directories → Contents → Workspace
+  made_in d = made d.workspace_root d.target_directory d.build_directory
+
+  -- the same, where the directories are read first
+  abbrev read_parts : Reading Directories → Reading Contents → Reading Workspace
+  read_parts directories contents = directories >>= λ d. contents >>= λ c. Ok (made_in d c)
+
+  abbrev directories_read : Reading (List ℕ) → Reading (List ℕ) → Reading (Option (List ℕ)) → Reading Directories
+  directories_read root target build = root >>= λ r. target >>= λ t. build >>= λ b.
+      Ok (record { workspace_root = r; target_directory = t; build_directory = b })
+
+  in_parts : (root target : Reading (List ℕ)) (build : Reading (Option (List ℕ))) (contents : Reading Contents)
+      → read_steps root target build contents ≡ read_parts (directories_read root target build) contents
+  in_parts (Err e) target build contents = refl
+  in_parts (Ok r) (Err e) build contents = refl
+  in_parts (Ok r) (Ok t) (Err e) contents = refl
+  in_parts (Ok r) (Ok t) (Ok b) contents = refl
 
   module _ (document : Metadata) (limits : Limits) where
-    abbrev root_of : Reading (List ℕ)
-    root_of = absolute_path document.workspace_root
-
-    abbrev target_of : Reading (List ℕ)
-    target_of = absolute_path document.target_directory
-
-    abbrev build_of : Reading (Option (List ℕ))
-    build_of = optional_path document.build_directory
-
     abbrev contents_read : Reading Contents
     contents_read = linked_contents document.workspace_members limits document.packages (nodes_of document.resolve)
 
-    pub read-no_root : (e : WorkspaceError) → Refuses e root_of → Refuses e (read_workspace document manifest env is_sysroot limits)
-    unfolding read_workspace
-    read-no_root e h = refuses_on e root_of _ (λ x is. ap (λ r. read_steps r target_of build_of contents_read) is) h
+    read-parts : read_workspace document manifest env is_sysroot limits ≡ read_parts (directories_of document) contents_read
+    unfolding read_workspace directories_of
+    read-parts = in_parts (absolute_path document.workspace_root) (absolute_path document.target_directory) (optional_path document.build_directory) contents_read
 
-    pub read-no_target : (e : WorkspaceError) (root : List ℕ) → root_of ≡ Ok root → Refuses e target_of → Refuses e (read_workspace document manifest env is_sysroot limits)
-    unfolding read_workspace
-    read-no_target e root p h = refuses_on e target_of _ (λ x is. (λ i. read_steps (p i) (is i) build_of contents_read)) h
+    pub read-no_directories : (e : WorkspaceError) → Refuses e (directories_of document) → Refuses e (read_workspace document manifest env is_sysroot limits)
+    read-no_directories e h = refuses_on e (directories_of document) _ (λ x is. read-parts ∙ ap (λ d. read_parts d contents_read) is) h
 
-    pub read-no_build : (e : WorkspaceError) (root target : List ℕ) → root_of ≡ Ok root → target_of ≡ Ok target → Refuses e build_of
-        → Refuses e (read_workspace document manifest env is_sysroot limits)
-    unfolding read_workspace
-    read-no_build e root target p q h = refuses_on e build_of _ (λ x is. (λ i. read_steps (p i) (q i) (is i) contents_read)) h
-
-    pub read-no_contents : (e : WorkspaceError) (root target : List ℕ) (build : Option (List ℕ)) → root_of ≡ Ok root → target_of ≡ Ok target → build_of ≡ Ok build
+    pub read-no_contents : (e : WorkspaceError) (directories : Directories) → directories_of document ≡ Ok directories
         → Refuses e contents_read → Refuses e (read_workspace document manifest env is_sysroot limits)
-    unfolding read_workspace
-    read-no_contents e root target build p q s h = refuses_on e contents_read _ (λ x is. (λ i. read_steps (p i) (q i) (s i) (is i))) h
+    read-no_contents e directories p h = refuses_on e contents_read _ (λ x is. read-parts ∙ (λ i. read_parts (p i) (is i))) h
 
-    pub read-all : (root target : List ℕ) (build : Option (List ℕ)) (contents : Contents) → root_of ≡ Ok root → target_of ≡ Ok target → build_of ≡ Ok build
-        → contents_read ≡ Ok contents → read_workspace document manifest env is_sysroot limits ≡ Ok (made root target build contents)
-    unfolding read_workspace
-    read-all root target build contents p q s t = (λ i. read_steps (p i) (q i) (s i) (t i))
+    pub read-all : (directories : Directories) (contents : Contents) → directories_of document ≡ Ok directories
+        → contents_read ≡ Ok contents → read_workspace document manifest env is_sysroot limits ≡ Ok (made_in directories contents)
+    read-all directories contents p t = read-parts ∙ (λ i. read_parts (p i) (t i))

@@ -8,6 +8,15 @@ use Rattle.pm_reading.specs.Packages.{absolute_path, optional_path}
 use Rattle.pm_reading.specs.Reading.{Reading, ◌>>=◌}
 use Rattle.pm_members.specs.Members.{with_all_member_deps}
 use Rattle.pm_cargo.specs.Workspace.{Workspace}
+use Rattle.pm_cargo.specs.declared.cargo_workspace.Directories.{Directories}
+
+-- the directories of a document, each of which must be absolute
+unfoldable pub directories_of : Metadata → Reading Directories
+directories_of document = do
+  root ← absolute_path document.workspace_root
+  target ← absolute_path document.target_directory
+  build ← optional_path document.build_directory
+  Ok (record { workspace_root = root; target_directory = target; build_directory = build })
 
 -- the workspace of a document, of its manifest, with an environment: each directory must be absolute, and then the packages with
 -- their targets and what the nodes give them are read; last each member gets the members that it depends on

@@ -5,7 +5,7 @@ ghost use Rattle.std.specs.Prelude.{◌≡◌, ◌↔◌, ◌<◌, IfOk, IsTrue,
 ghost use Rattle.std.specs.List.{range_with_len};
 ghost use Rattle.base_text.specs.AbsPath.{abs_text};
 ghost use Rattle.base_text.specs.Arena.{number_of};
-ghost use Rattle.pm_cargo.specs.ReadWorkspace.{read_workspace};
+ghost use Rattle.pm_cargo.specs.ReadWorkspace.{directories_of, read_workspace};
 ghost use Rattle.pm_reading.specs.Links.{linked_contents};
 ghost use Rattle.pm_reading.specs.Nodes.{nodes_of};
 ghost use Rattle.pm_reading.specs.Presence.{HoldsItsIds};
@@ -76,6 +76,29 @@ impl Model for CargoWorkspace {
     }) };
 }
 
+// The directories that a workspace is read with.
+#[derive(Drop)]
+struct Directories {
+    workspace_root: AbsPathBuf,
+    target_directory: AbsPathBuf,
+    build_directory: Option<AbsPathBuf>,
+}
+
+// The directories of a document.
+#[tactic(auto, unfolding(crate::specs::ReadWorkspace::directories_of))]
+fn directories_of(alloc: Global, meta: &Metadata) -> Result<Directories, WorkspaceError>
+    ensures { Gives result (directories_of meta.now) }
+{
+    let workspace_root = absolute_path(alloc, meta.workspace_root.as_str())?;
+    let target_directory = absolute_path(alloc, meta.target_directory.as_str())?;
+    let build_directory = optional_path(alloc, &meta.build_directory)?;
+    Ok(Directories {
+        workspace_root,
+        target_directory,
+        build_directory,
+    })
+}
+
 // The packages and targets of a document.
 fn contents_of(alloc: Global, meta: Metadata, limits: &Limits) -> Result<Contents, WorkspaceError>
     ensures exact { Gives result (linked_contents meta.workspace_members limits.now meta.packages
@@ -99,16 +122,14 @@ impl CargoWorkspace {
         ensures { Gives result
             (read_workspace meta ws_manifest_path cargo_env is_sysroot limits.now) }
     {
-        let workspace_root = absolute_path(alloc, meta.workspace_root.as_str())?;
-        let target_directory = absolute_path(alloc, meta.target_directory.as_str())?;
-        let build_directory = optional_path(alloc, &meta.build_directory)?;
+        let directories = directories_of(alloc, &meta)?;
         let contents = contents_of(alloc, meta, limits)?;
         Ok(CargoWorkspace {
             packages: with_all_member_deps(alloc, contents.packages)?,
             targets: contents.targets,
-            workspace_root,
-            target_directory,
-            build_directory,
+            workspace_root: directories.workspace_root,
+            target_directory: directories.target_directory,
+            build_directory: directories.build_directory,
             manifest_path: ws_manifest_path,
             env: cargo_env,
             is_sysroot,

@@ -56,8 +56,8 @@ impl FetchMetadata {
         ensures { IfOk result (λ fetch. fetch ≡ fetch_of cargo_toml.now (abs_text dir.entry)
             config.now tool_root.now no_deps (R.answers runner.now)) }
     {
-        let mut command = metadata_command(alloc, cargo_toml, dir, config, tool_root)?;
         let options = metadata_options(alloc, cargo_toml, config)?;
+        let mut command = metadata_command(alloc, cargo_toml, dir, config, tool_root)?;
         let full = full_line(alloc, &mut command, &options)?;
         limit_to_members(&mut command, options);
         let light = ask(alloc, &command, runner)?;
@@ -135,8 +135,20 @@ fn full_output<R: Runner, P: Progress>(
         (answer_of (R.answers runner.now) (locked_question full locked)) }
 {
     let line = with_lockfile_kept(alloc, full, locked)?;
+    line_output(alloc, &line, runner, progress)
+}
+
+// What the command of a line wrote.
+fn line_output<R: Runner, P: Progress>(
+    alloc: Global,
+    line: &CommandLine,
+    runner: &R,
+    progress: &mut P,
+) -> Result<Output, Error>
+    ensures { HasOutput result line.now (answer_of (R.answers runner.now) line.now) }
+{
     progress.line("cargo metadata: started");
-    let answer = runner.ask(alloc, &line)?;
+    let answer = runner.ask(alloc, line)?;
     if let Some(output) = &answer {
         report(alloc, output, progress)?;
     }
@@ -144,7 +156,7 @@ fn full_output<R: Runner, P: Progress>(
     match answer {
         Some(output) => Ok(output),
         None => Err(Error::Io {
-            line: line_text(alloc, &line)?,
+            line: line_text(alloc, line)?,
         }),
     }
 }

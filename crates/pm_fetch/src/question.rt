@@ -3,7 +3,7 @@
 ghost use Rattle.std.specs.Prelude.{◌≡◌, [], ◌++◌, false, codes, IfOk, OnOk, Some, unwrap_or};
 ghost use Rattle.cargo_meta.specs.Command.{with_variable};
 ghost use Rattle.base_text.specs.AbsPath.{abs_text};
-ghost use Rattle.pm_fetch.specs.Questions.{enables_all, leaves_default_out, named_features, with_variables};
+ghost use Rattle.pm_fetch.specs.Questions.{enables_all, leaves_default_out, named_features, question_variables, with_variables};
 ghost use Rattle.pm_fetch.specs.Settings.{settings_of};
 
 use base_text::{AbsPath, Text, TryClone};
@@ -30,10 +30,35 @@ pub(crate) fn metadata_command(
         .cargo_path(start.program)
         .current_dir(start.dir)
         .manifest_path(manifest);
-    set_features(alloc, &mut command, &config.features)?;
-    install_nothing(alloc, &mut command)?;
-    set_variables(alloc, &mut command, start.env.into_inner())?;
+    set_question(
+        alloc,
+        &mut command,
+        &config.features,
+        start.env.into_inner(),
+    )?;
     Ok(command)
+}
+
+// Sets which features are enabled and these variables, of a command that says nothing of either yet.
+fn set_question(
+    alloc: Global,
+    command: &mut MetadataCommand,
+    features: &CargoFeatures,
+    variables: Vec<(Text, Option<Text>)>,
+) -> Result<(), AllocError>
+    requires all { command.old.all_features ≡ false }
+    requires default { command.old.no_default_features ≡ false }
+    requires env { command.old.env ≡ [] }
+    ensures { OnOk result (command.new ≡ record command.old {
+      features = command.old.features ++ named_features features.now;
+      all_features = enables_all features.now;
+      no_default_features = leaves_default_out features.now;
+      env = question_variables variables.items;
+    }) }
+{
+    set_features(alloc, command, features)?;
+    install_nothing(alloc, command)?;
+    set_variables(alloc, command, variables)
 }
 
 // Sets which features are enabled, of a command that says nothing of it yet.

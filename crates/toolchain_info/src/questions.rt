@@ -78,11 +78,11 @@ pub(crate) fn cfg_questions<R: Runner, T: Tree>(
     ensures { IfOk result (λ questions. questions ≡ spec.cfg_questions config.entry
         (option_copied target.entry) (means_of R.answers T.files ask.now)) }
 {
-    let first = cargo_cfg_question(alloc, config, target, ask)?;
     let words = rustc_cfg_words(alloc, target)?;
     let last = config
         .sysroot()
         .question(alloc, Tool::Rustc, config.dir(), words, ask)?;
+    let first = cargo_cfg_question(alloc, config, target, ask)?;
     Ok(Questions { first, last })
 }
 
@@ -127,12 +127,12 @@ pub(crate) fn spec_questions<R: Runner, T: Tree>(
         (option_copied target.entry) (option_copied version.entry)
         (means_of R.answers T.files ask.now)) }
 {
-    let first = cargo_spec_question(alloc, config, target, version, ask)?;
     let words = rustc_spec_words(alloc, target)?;
     let line = config
         .sysroot()
         .question(alloc, Tool::Rustc, config.dir(), words, ask)?;
     let last = set_variable(alloc, line, "RUSTC_BOOTSTRAP", "1")?;
+    let first = cargo_spec_question(alloc, config, target, version, ask)?;
     Ok(Questions { first, last })
 }
 

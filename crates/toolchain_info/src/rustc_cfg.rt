@@ -26,8 +26,12 @@ pub fn get<R: Runner, T: Tree>(
     ensures { IfOk result (λ atoms. atoms ≡ cfg_answer config.entry (option_copied target.entry)
         (means_of R.answers T.files ask.now)) }
 {
-    let questions = cfg_questions(alloc, config, target, ask)?;
-    match answer_to(alloc, &questions, ask.runner) {
+    let answer = answer_to(
+        alloc,
+        &cfg_questions(alloc, config, target, ask)?,
+        ask.runner,
+    );
+    match answer {
         Ok(text) => atoms_of(alloc, text.as_str()),
         Err(QueryError::OutOfMemory) => Err(AllocError),
         Err(_) => Ok(Items::empty(alloc)),

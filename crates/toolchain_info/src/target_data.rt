@@ -29,8 +29,12 @@ pub fn get<R: Runner, T: Tree>(
     ensures { Answers result (data_answer config.entry (option_copied target.entry)
         (option_copied version.entry) (means_of R.answers T.files ask.now)) }
 {
-    let questions = spec_questions(alloc, config, target, version, ask)?;
-    let text = answer_to(alloc, &questions, ask.runner)?;
+    let answer = answer_to(
+        alloc,
+        &spec_questions(alloc, config, target, version, ask)?,
+        ask.runner,
+    );
+    let text = answer?;
     match spec_of(alloc, text.as_str())? {
         Some(spec) => Ok(TargetData::from(spec)),
         None => Err(QueryError::BadSpec),

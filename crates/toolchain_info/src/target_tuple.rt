@@ -67,8 +67,8 @@ fn host<R: Runner, T: Tree>(
 ) -> Result<Text, QueryError>
     ensures { Answers result (host_answer config.entry (means_of R.answers T.files ask.now)) }
 {
-    let questions = host_questions(alloc, config, ask)?;
-    let text = answer_to(alloc, &questions, ask.runner)?;
+    let answer = answer_to(alloc, &host_questions(alloc, config, ask)?, ask.runner);
+    let text = answer?;
     match host_of(text.as_str()) {
         Some(host) => Ok(Text::of_str(alloc, host)?),
         None => Err(QueryError::NoHost),

@@ -23,7 +23,7 @@ pub fn get<R: Runner, T: Tree>(
 ) -> Result<Option<Version>, QueryError>
     ensures { Answers result (version_answer config.entry (means_of R.answers T.files ask.now)) }
 {
-    let questions = version_questions(alloc, config, ask)?;
-    let text = answer_to(alloc, &questions, ask.runner)?;
+    let answer = answer_to(alloc, &version_questions(alloc, config, ask)?, ask.runner);
+    let text = answer?;
     Ok(version_behind(alloc, config.front(), text.as_str())?)
 }

@@ -5,7 +5,7 @@ use std::alloc::{AllocError, Global};
 use std::process::Abort;
 use std::test::Fail;
 use vfs_core::{AnchoredPathBuf, Change, ChangeKind, ChangedFile, FileId, VfsPath};
-use vfs_sets::{FileSet, FileSetConfig};
+use vfs_sets::{FileSet, FileSetConfig, FileSetConfigBuilder};
 
 fn copied<T: TryClone>(alloc: Global, value: &T) -> Result<T, AllocError> {
     value.try_clone(alloc)
@@ -50,28 +50,34 @@ fn a_changed_file_says_what_its_change_is(rt: HostRuntime) -> Result<(), Fail> {
 #[test]
 fn a_copy_of_a_set_is_equal(rt: HostRuntime) -> Result<(), Fail> {
     let alloc = rt.alloc();
-    let mut set = FileSet::new(alloc);
+    let mut set = Box::new(alloc, FileSet::new(alloc))?;
     set.insert(FileId::from_raw(1), real(&rt, alloc, "/a"))?;
-    let copy = copied(alloc, &set)?;
-    assert!(rt; copy == set);
+    let copy = Box::new(alloc, copied::<FileSet>(alloc, &set)?)?;
+    assert!(rt; *copy == *set);
     set.insert(FileId::from_raw(2), real(&rt, alloc, "/b"))?;
-    assert!(rt; copy != set && set.len() == 2);
+    assert!(rt; *copy != *set && set.len() == 2);
     Ok(())
+}
+
+// A builder with one root.
+fn builder_of(alloc: Global, root: VfsPath) -> Result<FileSetConfigBuilder, AllocError> {
+    let mut roots = Vec::new(alloc);
+    roots.push(root)?;
+    let mut builder = FileSetConfig::builder(alloc);
+    builder.add_file_set(roots)?;
+    Ok(builder)
 }
 
 #[test]
 fn a_copy_of_roots_places_alike(rt: HostRuntime) -> Result<(), Fail> {
     let alloc = rt.alloc();
-    let mut builder = FileSetConfig::builder(alloc);
-    let mut roots = Vec::new(alloc);
-    roots.push(real(&rt, alloc, "/p"))?;
-    builder.add_file_set(roots)?;
-    let builder = copied(alloc, &builder)?;
+    let builder = copied(alloc, &builder_of(alloc, real(&rt, alloc, "/p"))?)?;
     assert_eq!(rt; builder.len(), 1);
-    let config = builder.build()?;
+    let config = Box::new(alloc, builder.build()?)?;
+    let copy = Box::new(alloc, copied::<FileSetConfig>(alloc, &config)?)?;
     let path = real(&rt, alloc, "/p/x");
-    assert_eq!(rt; copied(alloc, &config)?.classify_path(&path), Some(0));
-    let none = FileSetConfig::new(alloc)?;
+    assert_eq!(rt; copy.classify_path(&path), Some(0));
+    let none = Box::new(alloc, FileSetConfig::new(alloc)?)?;
     assert_eq!(rt; none.classify_path(&path), None);
     Ok(())
 }
