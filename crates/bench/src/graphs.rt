@@ -56,18 +56,39 @@ impl Kind {
             _ => None,
         }
     }
+
+    /// How many crates a graph of the kind has where the command line does not say it.
+    pub fn count(self) -> u32 {
+        match self {
+            Kind::Forward | Kind::Backward => CHAIN,
+            Kind::Layers => LAYERS * WIDTH,
+            Kind::Joined => JOINED,
+            Kind::Set | Kind::SetApart => SET,
+        }
+    }
 }
 
-/// Builds a graph, and returns how many crates its first one reaches.
-pub fn build(alloc: Global, kind: Kind) -> Result<usize> {
-    let graph = match kind {
-        Kind::Forward => chain(alloc, crates(alloc, CHAIN, false)?, true)?,
-        Kind::Backward => chain(alloc, crates(alloc, CHAIN, false)?, false)?,
-        Kind::Layers => layers(alloc)?,
-        Kind::Joined => joined(alloc)?,
-        Kind::Set => return set(alloc, true),
-        Kind::SetApart => return set(alloc, false),
-    };
+/// Builds a graph, and returns how many crates its first one reaches. Layers have a size of their own, each
+/// chain has so many crates.
+pub fn build(alloc: Global, kind: Kind, count: u32) -> Result<usize> {
+    match kind {
+        Kind::Set => set(alloc, count, true),
+        Kind::SetApart => set(alloc, count, false),
+        _ => reached(alloc, &*graph(alloc, kind, count)?),
+    }
+}
+
+fn graph(alloc: Global, kind: Kind, count: u32) -> Result<Box<CrateGraphBuilder>> {
+    match kind {
+        Kind::Backward => chain(alloc, count, false, false),
+        Kind::Layers => layers(alloc),
+        Kind::Joined => joined(alloc, count),
+        _ => chain(alloc, count, false, true),
+    }
+}
+
+// How many crates the first one reaches.
+fn reached(alloc: Global, graph: &CrateGraphBuilder) -> Result<usize> {
     let first = CrateBuilderId::from_raw(0);
     if !graph.contains(first) {
         bail!("no crates");
@@ -76,9 +97,20 @@ pub fn build(alloc: Global, kind: Kind) -> Result<usize> {
     Ok(reached.len())
 }
 
-// Lets each crate of a graph depend on the next.
-fn chain(alloc: Global, crates: CrateGraphBuilder, forward: bool) -> Result<CrateGraphBuilder> {
-    let mut graph = crates;
+// A chain: each crate depends on the next.
+fn chain(
+    alloc: Global,
+    count: u32,
+    own_files: bool,
+    forward: bool,
+) -> Result<Box<CrateGraphBuilder>> {
+    let mut graph = crates(alloc, count, own_files)?;
+    link(alloc, &mut graph, forward)?;
+    Ok(graph)
+}
+
+// Lets each crate depend on the next, from the front of the chain or from its end.
+fn link(alloc: Global, graph: &mut CrateGraphBuilder, forward: bool) -> Result<()> {
     let count = graph.len() as u32;
     for place in 1..count {
         let from = if forward {
@@ -86,24 +118,24 @@ fn chain(alloc: Global, crates: CrateGraphBuilder, forward: bool) -> Result<Crat
         } else {
             count - 1 - place
         };
-        depend(alloc, &mut graph, from, from + 1)?;
+        depend(alloc, graph, from, from + 1)?;
     }
-    Ok(graph)
+    Ok(())
 }
 
-fn joined(alloc: Global) -> Result<CrateGraphBuilder> {
-    let mut graph = chain(alloc, crates(alloc, JOINED, false)?, true)?;
-    let other = chain(alloc, crates(alloc, JOINED, false)?, true)?;
+fn joined(alloc: Global, count: u32) -> Result<Box<CrateGraphBuilder>> {
+    let mut graph = chain(alloc, count, false, true)?;
+    let other = chain(alloc, count, false, true)?;
     let mut proc_macros = ProcMacroPaths::new(alloc);
-    graph.extend(alloc, other, &mut proc_macros)?;
+    graph.extend(alloc, Box::into_inner(other), &mut proc_macros)?;
     Ok(graph)
 }
 
 // Sets a chain in a database, and returns how many crates its first one reaches there.
-fn set(alloc: Global, own_files: bool) -> Result<usize> {
-    let graph = chain(alloc, crates(alloc, SET, own_files)?, true)?;
-    let mut db = InputDb::new(alloc, Nonce::invalid());
-    let ids = set_in_db(alloc, graph, &mut db)?;
+fn set(alloc: Global, count: u32, own_files: bool) -> Result<usize> {
+    let mut db = Box::new(alloc, InputDb::new(alloc, Nonce::invalid()))?;
+    let graph = chain(alloc, count, own_files, true)?;
+    let ids = set_in_db(alloc, Box::into_inner(graph), &mut *db)?;
     let Some(first) = ids.get(&CrateBuilderId::from_raw(0)) else {
         bail!("no crates");
     };
@@ -111,26 +143,32 @@ fn set(alloc: Global, own_files: bool) -> Result<usize> {
     if !db.has_crate(first) {
         bail!("no such crate");
     }
-    let reached = first.transitive_deps(alloc, &db)?;
+    let reached = first.transitive_deps(alloc, &*db)?;
     Ok(reached.len())
 }
 
-fn layers(alloc: Global) -> Result<CrateGraphBuilder> {
+fn layers(alloc: Global) -> Result<Box<CrateGraphBuilder>> {
     let mut graph = crates(alloc, LAYERS * WIDTH, false)?;
     for layer in 0..LAYERS - 1 {
-        for from in 0..WIDTH {
-            for to in 0..WIDTH {
-                let base = layer * WIDTH;
-                depend(alloc, &mut graph, base + from, base + WIDTH + to)?;
-            }
-        }
+        link_layer(alloc, &mut graph, layer * WIDTH)?;
     }
     Ok(graph)
 }
 
+// Lets each crate of a layer depend on all of the next one.
+fn link_layer(alloc: Global, graph: &mut CrateGraphBuilder, base: u32) -> Result<()> {
+    for from in 0..WIDTH {
+        for to in 0..WIDTH {
+            let (source, target) = (base.saturating_add(from), base.saturating_add(WIDTH + to));
+            depend(alloc, graph, source, target)?;
+        }
+    }
+    Ok(())
+}
+
 // A graph of so many crates that depend on nothing, of one root file or each of a root file of its own.
-fn crates(alloc: Global, count: u32, own_files: bool) -> Result<CrateGraphBuilder> {
-    let mut graph = CrateGraphBuilder::new(alloc, count);
+fn crates(alloc: Global, count: u32, own_files: bool) -> Result<Box<CrateGraphBuilder>> {
+    let mut graph = Box::new(alloc, CrateGraphBuilder::new(alloc, count))?;
     for place in 0..count {
         let file = if own_files { place } else { 1 };
         if file > 0x7fff_ffff {

@@ -9,8 +9,8 @@ use std::alloc::Global;
 
 /// How many crates the project of a document has, once it is read.
 pub fn read(alloc: Global, text: &str) -> Result<usize> {
-    let data = of_text::<ProjectJsonData>(alloc, text)?;
     let base = AbsPathBuf::new(alloc, "/g")?;
+    let data = of_text::<ProjectJsonData>(alloc, text)?;
     let project = ProjectJson::new(alloc, None, base.as_path(), data, &Limits::greatest())?;
     Ok(project.n_crates())
 }

@@ -19,7 +19,7 @@ use std::process::ExitCode;
 use std::{env, io};
 
 const USAGE: &str =
-    "usage: bench metadata STEP | bench workspace | bench load | bench lower | bench json-project | bench messages | bench graphs KIND | bench partition SETS TIMES";
+    "usage: bench metadata STEP | bench workspace | bench load | bench lower | bench json-project | bench messages | bench graphs KIND [COUNT] | bench partition SETS TIMES";
 
 fn main(rt: HostRuntime) -> io::Result<ExitCode> {
     let mut words = env::args(&rt)?.skip(1);
@@ -31,7 +31,7 @@ fn main(rt: HostRuntime) -> io::Result<ExitCode> {
         Some("lower") => run_lower(&rt),
         Some("json-project") => run_json_project(&rt),
         Some("messages") => run_messages(&rt),
-        Some("graphs") => run_graphs(&rt, first),
+        Some("graphs") => run_graphs(&rt, first, second),
         Some("partition") => run_partition(&rt, first, second),
         _ => refuse(&rt),
     }
@@ -86,10 +86,23 @@ fn run_messages<R: Input + Print + Eprint + AllocGlobal>(rt: &R) -> io::Result<E
 fn run_graphs<R: Print + Eprint + AllocGlobal>(
     rt: &R,
     word: Option<String>,
+    count: Option<String>,
 ) -> io::Result<ExitCode> {
-    match word.as_ref().and_then(|word| Kind::of_word(word.as_str())) {
-        Some(kind) => report(rt, build(rt.alloc(), kind)),
+    let Some(kind) = word.as_ref().and_then(|word| Kind::of_word(word.as_str())) else {
+        return refuse(rt);
+    };
+    match count_of(kind, count) {
+        Some(count) => report(rt, build(rt.alloc(), kind, count)),
         None => refuse(rt),
+    }
+}
+
+/// How many crates a graph has: what the word says, else what is usual. Layers have one size.
+fn count_of(kind: Kind, word: Option<String>) -> Option<u32> {
+    match word {
+        None => Some(kind.count()),
+        Some(_) if kind == Kind::Layers => None,
+        Some(word) => word.as_str().parse::<u32>().ok(),
     }
 }
 

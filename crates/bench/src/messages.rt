@@ -17,9 +17,9 @@ pub fn count(alloc: Global, text: String) -> Result<usize> {
         let Some(message) = messages.next() else {
             break;
         };
-        match message? {
-            Message::TextLine(_) => {}
-            _ => read = read.saturating_add(1),
+        let message = message?;
+        if !matches!(&message, Message::TextLine(_)) {
+            read = read.saturating_add(1);
         }
     }
     Ok(read)

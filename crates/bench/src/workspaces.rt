@@ -20,10 +20,10 @@ pub fn build(alloc: Global, text: &str) -> Result<usize> {
 
 /// The workspace of a document.
 pub fn workspace(alloc: Global, text: &str) -> Result<CargoWorkspace> {
-    let metadata = of_text::<Metadata>(alloc, text)?;
     let manifest = manifest(alloc)?;
     let limits = Limits::greatest();
     let env = Env::new(alloc);
+    let metadata = of_text::<Metadata>(alloc, text)?;
     Ok(CargoWorkspace::new(alloc, metadata, manifest, env, false, &limits)?)
 }
 
