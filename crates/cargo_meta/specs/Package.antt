@@ -12,10 +12,11 @@ use Rattle.cargo_meta.specs.NewPackage.{new_package}
 use Rattle.cargo_values.specs.Target.{target_at, target_data}
 use Rattle.cargo_values.specs.declared.kinds.Edition.TheVariants.{E2015}
 use Rattle.cargo_meta.specs.declared.package.Package.{Package}
+use Rattle.cargo_meta.specs.declared.package_rows.PackageHead.{PackageHead}
 
--- the first eight rows, of a package that is otherwise a new one
-unfoldable pub head_from : Members → Reading Package
-head_from ms = do
+-- the first eight rows
+unfoldable pub head_rows : Members → Reading PackageHead
+head_rows ms = do
   name ← required (codes "name") text_at ms
   version ← required (codes "version") version_at ms
   authors ← defaulted (codes "authors") [] (list_at text_at) ms
@@ -24,13 +25,32 @@ head_from ms = do
   description ← optional (codes "description") text_at ms
   dependencies ← required (codes "dependencies") (list_at dependency_at) ms
   license ← optional (codes "license") text_at ms
-  Ok (record (new_package name version id []) {
+  Ok (record {
+    name = name;
+    version = version;
     authors = authors;
+    id = id;
     source = source;
     description = description;
     dependencies = dependencies;
     license = license;
   })
+
+-- the package of its first rows, which is otherwise a new one
+abbrev pub of_head : PackageHead → Package
+of_head h = record (new_package h.name h.version h.id []) {
+  authors = h.authors;
+  source = h.source;
+  description = h.description;
+  dependencies = h.dependencies;
+  license = h.license;
+}
+
+-- the first eight rows, read into a package
+unfoldable pub head_from : Members → Reading Package
+head_from ms = do
+  head ← head_rows ms
+  Ok (of_head head)
 
 -- the next eight rows of a package
 unfoldable pub body_from : Package → Members → Reading Package

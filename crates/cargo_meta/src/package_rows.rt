@@ -3,20 +3,33 @@
 ghost use Rattle.std.specs.Prelude.{◌≡◌, OnOk};
 ghost use Rattle.serde_json.specs.View.{members_view};
 ghost use Rattle.json_fields.specs.Outcome.{Gives};
-ghost use Rattle.cargo_meta.specs.Package.{body_from, body_set, head_from, head_set, tail_from, tail_set};
+ghost use Rattle.cargo_meta.specs.Package.{body_from, body_set, head_from, head_rows, head_set, of_head, tail_from, tail_set};
 
 use crate::package::{Package, new_package};
-use base_text::{Text, Version};
-use cargo_values::Edition;
+use base_text::{Items, Text, Version};
+use cargo_values::{Dependency, Edition, PackageId, PackageName, Source};
 use json_fields::{
     AnyValue, BareVersion, ReadError, defaulted, listed, optional, required, set, set_unless_null,
 };
 use serde_json::{Map, Value};
 use std::alloc::{AllocError, Global};
 
-#[tactic(auto, unfolding(crate::specs::Package::head_from, json_fields::specs::Fields::required, json_fields::specs::Fields::optional, json_fields::specs::Fields::defaulted))]
-pub(crate) fn read_head(alloc: Global, fields: &Map<String, Value>) -> Result<Package, ReadError>
-    ensures exact { Gives result (head_from (members_view fields.now.entries)) }
+// What the first eight rows of a package give.
+#[derive(Drop)]
+struct PackageHead {
+    name: PackageName,
+    version: Version,
+    authors: Items<Text>,
+    id: PackageId,
+    source: Option<Source>,
+    description: Option<Text>,
+    dependencies: Items<Dependency>,
+    license: Option<Text>,
+}
+
+#[tactic(auto, unfolding(crate::specs::Package::head_rows, json_fields::specs::Fields::required, json_fields::specs::Fields::optional, json_fields::specs::Fields::defaulted))]
+fn read_head_rows(alloc: Global, fields: &Map<String, Value>) -> Result<PackageHead, ReadError>
+    ensures exact { Gives result (head_rows (members_view fields.now.entries)) }
 {
     let name = required(alloc, fields, "name")?;
     let version = required(alloc, fields, "version")?;
@@ -26,16 +39,39 @@ pub(crate) fn read_head(alloc: Global, fields: &Map<String, Value>) -> Result<Pa
     let description = optional(alloc, fields, "description")?;
     let dependencies = required(alloc, fields, "dependencies")?;
     let license = optional(alloc, fields, "license")?;
-    let path = Text::new(String::new(alloc));
-    let package = new_package(alloc, name, version, id, path);
-    Ok(Package {
+    Ok(PackageHead {
+        name,
+        version,
         authors,
+        id,
         source,
         description,
         dependencies,
         license,
-        ..package
     })
+}
+
+// The package of its first rows, which is otherwise a new one.
+fn of_head(alloc: Global, head: PackageHead) -> Package
+    ensures { result ≡ of_head head }
+{
+    let path = Text::new(String::new(alloc));
+    Package {
+        authors: head.authors,
+        source: head.source,
+        description: head.description,
+        dependencies: head.dependencies,
+        license: head.license,
+        ..new_package(alloc, head.name, head.version, head.id, path)
+    }
+}
+
+#[tactic(auto, unfolding(crate::specs::Package::head_from))]
+pub(crate) fn read_head(alloc: Global, fields: &Map<String, Value>) -> Result<Package, ReadError>
+    ensures exact { Gives result (head_from (members_view fields.now.entries)) }
+{
+    let rows = read_head_rows(alloc, fields)?;
+    Ok(of_head(alloc, rows))
 }
 
 #[tactic(auto, unfolding(crate::specs::Package::body_from, json_fields::specs::Fields::required, json_fields::specs::Fields::optional, json_fields::specs::Fields::defaulted))]

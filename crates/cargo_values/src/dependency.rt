@@ -28,17 +28,17 @@ pub struct Dependency {
 impl TryClone for Dependency {
     fn try_clone(&self, alloc: Global) -> Result<Self, AllocError> {
         Ok(Dependency {
-            name: self.name.try_clone(alloc)?,
-            source: self.source.try_clone(alloc)?,
-            req: self.req.try_clone(alloc)?,
             kind: self.kind,
             optional: self.optional,
             uses_default_features: self.uses_default_features,
+            name: self.name.try_clone(alloc)?,
             features: self.features.try_clone(alloc)?,
             target: self.target.try_clone(alloc)?,
             rename: self.rename.try_clone(alloc)?,
             registry: self.registry.try_clone(alloc)?,
             path: self.path.try_clone(alloc)?,
+            source: self.source.try_clone(alloc)?,
+            req: self.req.try_clone(alloc)?,
         })
     }
 }

@@ -74,10 +74,10 @@ impl ToolRoot {
 impl TryClone for ToolRoot {
     fn try_clone(&self, alloc: Global) -> Result<Self, AllocError> {
         Ok(ToolRoot {
-            tools: self.tools.try_clone(alloc)?,
             root: self.root.try_clone(alloc)?,
             rustc: self.rustc.try_clone(alloc)?,
             toolchain_set: self.toolchain_set,
+            tools: self.tools.try_clone(alloc)?,
         })
     }
 }

@@ -86,14 +86,14 @@ pub(crate) fn copy_head(alloc: Global, from: &Crate) -> Result<CrateHead, AllocE
     ensures { IfOk result (λ head. head ≡ head_of from.now) }
 {
     Ok(CrateHead {
-        display_name: from.display_name.try_clone(alloc)?,
+        is_workspace_member: from.is_workspace_member,
         root_module: from.root_module.try_clone(alloc)?,
         version: from.version.try_clone(alloc)?,
         proc_macro_dylib_path: from.proc_macro_dylib_path.try_clone(alloc)?,
-        is_workspace_member: from.is_workspace_member,
+        proc_macro_cwd: from.proc_macro_cwd.try_clone(alloc)?,
         include: from.include.try_clone(alloc)?,
         exclude: from.exclude.try_clone(alloc)?,
-        proc_macro_cwd: from.proc_macro_cwd.try_clone(alloc)?,
+        display_name: from.display_name.try_clone(alloc)?,
     })
 }
 

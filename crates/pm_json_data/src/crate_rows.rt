@@ -71,14 +71,14 @@ pub(crate) fn copy_head(alloc: Global, from: &CrateData) -> Result<CrateHead, Al
     ensures { IfOk result (λ head. head ≡ head_of from.now) }
 {
     Ok(CrateHead {
-        display_name: from.display_name.try_clone(alloc)?,
-        root_module: from.root_module.try_clone(alloc)?,
         edition: from.edition,
-        version: from.version.try_clone(alloc)?,
-        deps: from.deps.try_clone(alloc)?,
+        root_module: from.root_module.try_clone(alloc)?,
+        display_name: from.display_name.try_clone(alloc)?,
+        target: from.target.try_clone(alloc)?,
         cfg_groups: from.cfg_groups.try_clone(alloc)?,
         cfg: from.cfg.try_clone(alloc)?,
-        target: from.target.try_clone(alloc)?,
+        deps: from.deps.try_clone(alloc)?,
+        version: from.version.try_clone(alloc)?,
     })
 }
 

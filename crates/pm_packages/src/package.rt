@@ -164,13 +164,13 @@ impl PackageData {
 
 impl TryClone for PackageData {
     fn try_clone(&self, alloc: Global) -> Result<Self, AllocError> {
-        let version = self.version.try_clone(alloc)?;
         let name = self.name.try_clone(alloc)?;
         let manifest = self.manifest.try_clone(alloc)?;
         let id = self.id.try_clone(alloc)?;
-        let rust_version = self.rust_version.try_clone(alloc)?;
         let metadata = self.metadata.try_clone(alloc)?;
         let all_member_deps = self.all_member_deps.try_clone(alloc)?;
+        let version = self.version.try_clone(alloc)?;
+        let rust_version = self.rust_version.try_clone(alloc)?;
         let lists = self.copy_lists(alloc)?;
         let texts = self.copy_texts(alloc)?;
         Ok(PackageData {

@@ -16,8 +16,8 @@ pub struct ProjectJsonFromCommand {
 impl TryClone for ProjectJsonFromCommand {
     fn try_clone(&self, alloc: Global) -> Result<Self, AllocError> {
         Ok(ProjectJsonFromCommand {
-            json_data: self.json_data.try_clone(alloc)?,
             buildfile: self.buildfile.try_clone(alloc)?,
+            json_data: self.json_data.try_clone(alloc)?,
         })
     }
 }

@@ -11,7 +11,7 @@ use Rattle.json_fields.specs.Laws.TextForms.{bare-round_trips, version-round_tri
 use Rattle.json_fields.specs.RoundTrip.{IsKept, RoundTrips}
 use Rattle.cargo_values.specs.Kinds.{edition_of}
 use Rattle.cargo_meta.specs.NewPackage.{new_package}
-use Rattle.cargo_meta.specs.Package.{body_from, body_set, head_from, head_set, package_at, package_data, package_from, package_members, tail_from, tail_set}
+use Rattle.cargo_meta.specs.Package.{body_from, body_set, head_from, head_rows, head_set, of_head, package_at, package_data, package_from, package_members, tail_from, tail_set}
 use Rattle.cargo_values.specs.declared.kinds.Edition.TheVariants.{E2015}
 use Rattle.cargo_meta.specs.declared.package.Package.{Package}
 use Rattle.cargo_values.specs.laws.Dependency.{dependency-round_trips}
@@ -60,9 +60,9 @@ record TailKept (may_float : Bool) (n : ℕ) (p : Package) : Type 0 where
   pub written : (ws : Members) → AreWritten may_float n ws → AreWritten may_float n (tail_set p ws)
 
 module _ (ms : Members) {n : ℕ} (within : AreWithin n ms) (low : 3 ≤ n) (some : 1 ≤ n) (none : 0 ≤ n) where
-  head-kept : ReadsAs (head_from ms) (HeadKept (members_have_float ms) n)
-  unfolding head_from head_set
-  head-kept =
+  head_rows-kept : ReadsAs (head_rows ms) (λ h. HeadKept (members_have_float ms) n (of_head h))
+  unfolding head_from head_rows head_set
+  head_rows-kept =
       and_then (required-kept text-round_trips none within (codes "name")) λ name name_h.
       and_then (required-kept version-round_trips none within (codes "version")) λ version version_h.
       and_then (listed-kept text-round_trips none some within (codes "authors")) λ authors authors_h.
@@ -85,6 +85,10 @@ module _ (ms : Members) {n : ℕ} (within : AreWithin n ms) (low : 3 ≤ n) (som
             (set_member-written (codes "name") name_h
             before)))))));
       })
+
+  head-kept : ReadsAs (head_from ms) (HeadKept (members_have_float ms) n)
+  unfolding head_from
+  head-kept = and_then head_rows-kept λ h kept. at_last kept
 
   body-kept : (h : Package) → HeadKept (members_have_float ms) n h → ReadsAs (body_from h ms) (λ p. HeadKept (members_have_float ms) n p × BodyKept (members_have_float ms) n p)
   unfolding body_from body_set head_set
