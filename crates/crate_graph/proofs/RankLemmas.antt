@@ -12,48 +12,9 @@ use Rattle.graph_base.proofs.MarkLemmas.{pushed_old}
 use Rattle.graph_base.proofs.ReachLemmas.{in_range_with_edge, in_range_with_node, none_in}
 use Rattle.graph_order.specs.Insertion.{MakesRoom}
 use Rattle.graph_order.specs.Order.{IsOrder, IsOrderOf, Ranking, empty_order, with_next_node, with_next_nodes}
-use Rattle.graph_order.proofs.OrderLemmas.{length-with_next_nodes, next_more}
+use Rattle.graph_order.proofs.OrderLemmas.{length-with_next_nodes, next_more, order-with_next_node}
 
 -- ---- one more crate
-
-last_of : (xs : List ℕ) (x n : ℕ) → n ≡ length xs → get_or (xs ++ x ∷ []) n 0 ≡ x
-last_of [] x zero at = refl
-last_of [] x (suc n) at = absurd (omega (arith, at))
-last_of (y ∷ ys) x zero at = absurd (omega (arith, at))
-last_of (y ∷ ys) x (suc n) at = last_of ys x n (omega (arith, at))
-
-pub order-with_next_node : (order : Ranking) → IsOrder order → length order.nodes + 1 < 2 ^ 32 → IsOrder (with_next_node order)
-order-with_next_node order is short =
-    let count = length order.nodes in
-    let long : length (with_next_node order).nodes ≡ length order.nodes + 1 = length_push order.nodes count in
-    let rank_old : (n : ℕ) → n < length order.nodes → get_or (with_next_node order).ranks n 0 ≡ get_or order.ranks n 0 = λ n below. pushed_old order.ranks count n (omega (arith, below, is.long)) in
-    let rank_new : (n : ℕ) → n ≡ length order.nodes → get_or (with_next_node order).ranks n 0 ≡ length order.nodes = λ n at. last_of order.ranks count n (omega (arith, at, is.long)) in
-    let node_old : (r : ℕ) → r < length order.nodes → get_or (with_next_node order).nodes r 0 ≡ get_or order.nodes r 0 = λ r below. pushed_old order.nodes count r below in
-    let node_new : (r : ℕ) → r ≡ length order.nodes → get_or (with_next_node order).nodes r 0 ≡ length order.nodes = λ r at. last_of order.nodes count r at in
-    record {
-      short = omega (arith, short, long);
-      long = omega (arith, length_push order.ranks count, long, is.long);
-      ranks_within = λ n below. elim (cases_lt n (length order.nodes)) [
-        | inl old ↦ omega (arith, rank_old n old, is.ranks_within n old, long)
-        | inr new ↦ omega (arith, rank_new n (omega (arith, new, below, long)), long)
-      ];
-      nodes_within = λ r below. elim (cases_lt r (length order.nodes)) [
-        | inl old ↦ omega (arith, node_old r old, is.nodes_within r old, long)
-        | inr new ↦ omega (arith, node_new r (omega (arith, new, below, long)), long)
-      ];
-      node_of_rank = λ n below. elim (cases_lt n (length order.nodes)) [
-        | inl old ↦ ap (λ z. get_or (with_next_node order).nodes z 0) (rank_old n old) ∙ node_old _ (is.ranks_within n old) ∙ is.node_of_rank n old
-        | inr new ↦
-            let at : n ≡ length order.nodes = omega (arith, new, below, long) in
-            ap (λ z. get_or (with_next_node order).nodes z 0) (rank_new n at) ∙ node_new _ refl ∙ sym at
-      ];
-      rank_of_node = λ r below. elim (cases_lt r (length order.nodes)) [
-        | inl old ↦ ap (λ z. get_or (with_next_node order).ranks z 0) (node_old r old) ∙ rank_old _ (is.nodes_within r old) ∙ is.rank_of_node r old
-        | inr new ↦
-            let at : r ≡ length order.nodes = omega (arith, new, below, long) in
-            ap (λ z. get_or (with_next_node order).ranks z 0) (node_new r at) ∙ rank_new _ refl ∙ sym at
-      ];
-    }
 
 -- the new node has no edges
 node_edge : (g : List (List ℕ)) (x y : ℕ) → HasEdge (with_node g) x y → HasEdge g x y

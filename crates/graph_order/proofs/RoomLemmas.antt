@@ -1,150 +1,193 @@
--- A band whose linked nodes went first makes room for an edge from its lowest node to its highest.
-use Rattle.std.proofs.Common.{◌≡◌, ℕ, ◌+◌, ◌-◌, ◌<◌, ◌≤◌, inl, inr, true, false, List, length, get_or, is_some, refl, sym, ap, ◌∙◌, subst, arith}
-use Rattle.std.proofs.lemmas.Bool.{cases_lt, false≢true}
-use Rattle.graph_base.specs.Edges.{HasEdge, IsInRange}
-use Rattle.graph_base.specs.Reach.{Reaches}
+-- What a node reaches down to another goes below that one: then an edge from it to the first leads down.
+use Rattle.std.proofs.Common.{◌≡◌, ℕ, ◌<◌, ◌≤◌, ◌⊎◌, inl, inr, List, [], length, get_or, refl, ap, subst, arith}
+use Rattle.std.specs.List.{AllPairs, Contains}
+use Rattle.std.proofs.lemmas.Bool.{cases_lt, cases_order}
+use Rattle.std.proofs.lemmas.List.{get_or_default}
+use Rattle.graph_base.specs.Edges.{IsInRange}
+use Rattle.graph_base.specs.Reach.{Reaches, itself}
 use Rattle.graph_base.proofs.KeptLemmas.{edge_within}
-use Rattle.graph_order.specs.Band.{IsSearched, Links, link_at}
+use Rattle.graph_base.proofs.ReachLemmas.{reaches_edge}
 use Rattle.graph_order.specs.Insertion.{GivesRoom, MakesRoom}
 use Rattle.graph_order.specs.Order.{Descends, IsOrder, Ranking}
-use Rattle.graph_order.specs.Placing.{IsPlacementOf, IsReordered, Placement, new_offset, no_placement}
-use Rattle.graph_order.proofs.BandLemmas.{linked_reaches, reaches_falls}
-use Rattle.graph_order.proofs.OffsetLemmas.{linked_or_not, offset_within, offsets_apart, offsets_no, offsets_yes}
-use Rattle.graph_order.proofs.PlacingLemmas.{new_rank_above, new_rank_below, new_rank_inside, none_fits, placement_fits, placement_reorders, unmoved}
+use Rattle.graph_order.specs.Placing.{FitsOrder, IsMoved, IsOther, Placement, Rearranges, no_placement, placement_of}
+use Rattle.graph_order.proofs.EachOnceLemmas.{has_or_not, place_in}
+use Rattle.graph_order.proofs.RankLemmas.{same_node, same_rank}
+use Rattle.graph_order.proofs.SearchLemmas.{reaches_falls}
 
--- an edge that leads down already
-room_already : (g : List (List ℕ)) (order : Ranking) (from to : ℕ) → Descends order.ranks g → get_or order.ranks to 0 < get_or order.ranks from 0 → MakesRoom g from to order order
-room_already g order from to down lower = record {
-  count = refl;
-  room = lower;
-  descends = down;
-  below = λ n there under. refl;
-  above = λ n there over. refl;
-  first = λ m n between_m between_n reached apart. absurd (omega (arith, between_m.1, between_m.2, lower));
-  reached_order = λ m n between_m between_n reached_m reached_n before. before;
-  other_order = λ m n between_m between_n apart_m apart_n before. before;
+-- ---- orders after a placement
+
+-- a node that moves is there, and above the one that it goes below
+moved_in : (p : Placement) (old : Ranking) (n : ℕ) → FitsOrder p old → IsMoved p n → (n < length old.nodes) × (get_or old.ranks p.below 0 < get_or old.ranks n 0)
+moved_in p old n fits moved =
+    let k = place_in p.nodes n moved in
+    (subst (λ z. z < length old.nodes) k.2 (fits.within k.0 0 k.1), subst (λ z. get_or old.ranks p.below 0 < get_or old.ranks z 0) k.2 (fits.above k.0 0 k.1))
+
+moved_or_other : (p : Placement) (old : Ranking) (n : ℕ) → n < length old.nodes → IsMoved p n ⊎ IsOther p old n
+moved_or_other p old n there = elim (has_or_not p.nodes n) [
+  | inl moved ↦ inl moved
+  | inr stays ↦ inr (there, stays)
+]
+
+module _ (p : Placement) (old new : Ranking) (is : IsOrder old) (fits : FitsOrder p old) (r : Rearranges p old new) where
+  -- of two others, the one that is below the other then was so before
+  others_back : (m n : ℕ) → IsOther p old m → IsOther p old n → get_or new.ranks m 0 < get_or new.ranks n 0 → get_or old.ranks m 0 < get_or old.ranks n 0
+  others_back m n m_is n_is less = elim (cases_order (get_or old.ranks m 0) (get_or old.ranks n 0)) [
+    | inl same ↦ absurd (omega (arith, less, ap (λ z. get_or new.ranks z 0) (same_node old m n is m_is.0 n_is.0 same)))
+    | inr apart ↦ elim apart [
+      | inl before ↦ before
+      | inr behind ↦ absurd (omega (arith, less, r.others n m n_is m_is behind))
+    ]
+  ]
+
+  -- nodes below the one that is named keep their ranks
+  pub rank_below : (n : ℕ) → n < length old.nodes → get_or old.ranks n 0 < get_or old.ranks p.below 0 → get_or new.ranks n 0 ≡ get_or old.ranks n 0
+  rank_below n there under =
+      let other : IsOther p old n = (there, λ moved. omega (arith, under, (moved_in p old n fits moved).1)) in
+      same_rank old new is r.order r.count n there
+      (λ m m_in less.
+      let m_other : IsOther p old m = (m_in, λ moved. omega (arith, under, less, (moved_in p old m fits moved).1)) in
+      r.others m n m_other other less)
+      (λ m m_in less. elim (moved_or_other p old m m_in) [
+        | inl moved ↦ absurd (omega (arith, less, r.down n m other moved under))
+        | inr m_other ↦ others_back m n m_other other less
+      ])
+
+  -- nodes above all that move keep their ranks
+  pub rank_above : (n : ℕ) → n < length old.nodes → get_or old.ranks p.below 0 ≤ get_or old.ranks n 0
+      → ((m : ℕ) → IsMoved p m → get_or old.ranks m 0 < get_or old.ranks n 0) → get_or new.ranks n 0 ≡ get_or old.ranks n 0
+  rank_above n there from over =
+      let other : IsOther p old n = (there, λ moved. omega (arith, over n moved)) in
+      same_rank old new is r.order r.count n there
+      (λ m m_in less. elim (moved_or_other p old m m_in) [
+        | inl moved ↦ r.up m n moved other from
+        | inr m_other ↦ r.others m n m_other other less
+      ])
+      (λ m m_in less. elim (moved_or_other p old m m_in) [
+        | inl moved ↦ over m moved
+        | inr m_other ↦ others_back m n m_other other less
+      ])
+
+-- ---- where no node moves
+
+none_moved : (below n : ℕ) → IsMoved (no_placement below) n → ⊥
+none_moved below n c = omega (arith, c.1)
+
+-- nothing changes where no node moves
+pub rearranged_none : (p : Placement) (order : Ranking) → p.nodes ≡ [] → IsOrder order → Rearranges p order order
+rearranged_none p order empty is =
+    let none : (n : ℕ) → IsMoved p n → ⊥ = λ n c. omega (arith, c.1, ap length empty) in
+    record {
+      order = is;
+      count = refl;
+      moved = λ m n m_moved n_moved less. absurd (none m m_moved);
+      others = λ m n m_other n_other less. less;
+      up = λ m n m_moved n_other from. absurd (none m m_moved);
+      down = λ m n m_other n_moved under. absurd (none n n_moved);
+    }
+
+pub none_fits : (order : Ranking) (below : ℕ) → IsOrder order → below < length order.nodes → FitsOrder (no_placement below) order
+none_fits order below is there = record {
+  order = is;
+  mark = there;
+  within = λ k d inside. absurd (omega (arith, inside));
+  above = λ k d inside. absurd (omega (arith, inside));
+  ascending = λ i j d before inside. absurd (omega (arith, inside));
 }
 
-pub gives_none : (g : List (List ℕ)) (order : Ranking) (from to : ℕ) → IsOrder order → Descends order.ranks g → get_or order.ranks to 0 < get_or order.ranks from 0 → GivesRoom g from to order no_placement
-gives_none g order from to is down lower = record {
-  fits = none_fits order is;
-  room = λ new r. subst (MakesRoom g from to order) (sym (unmoved order new r)) (room_already g order from to down lower);
+pub gives_none : (g : List (List ℕ)) (order : Ranking) (from to : ℕ) → IsOrder order → IsInRange g → length order.nodes ≡ length g → Descends order.ranks g
+    → from < length order.nodes → to < length order.nodes → get_or order.ranks to 0 < get_or order.ranks from 0 → GivesRoom g from to order (no_placement from)
+gives_none g order from to is in_range count down from_in to_in lower = record {
+  fits = none_fits order from is from_in;
+  room = λ new r.
+      let other : (n : ℕ) → n < length order.nodes → IsOther (no_placement from) order n = λ n there. (there, none_moved from n) in
+      let keeps : (m n : ℕ) → m < length order.nodes → n < length order.nodes → get_or order.ranks m 0 < get_or order.ranks n 0 → get_or new.ranks m 0 < get_or new.ranks n 0 =
+      λ m n m_in n_in less. r.others m n (other m m_in) (other n n_in) less in
+      let fits = none_fits order from is from_in in
+      record {
+        count = r.count;
+        room = keeps to from to_in from_in lower;
+        descends = λ a b e. keeps b a (omega (arith, count, in_range a b e)) (omega (arith, count, edge_within g a b e)) (down a b e);
+        below = λ n there under. rank_below (no_placement from) order new is fits r n there under;
+        above = λ n there over. elim (cases_lt (get_or order.ranks n 0) (get_or order.ranks from 0)) [
+          | inl under ↦ rank_below (no_placement from) order new is fits r n there under
+          | inr up ↦ rank_above (no_placement from) order new is fits r n there up (λ m moved. absurd (none_moved from m moved))
+        ];
+        first = λ m n between_m between_n reached apart. absurd (omega (arith, between_m.1, between_m.2, lower));
+        reached_order = λ m n between_m between_n reached_m reached_n before. absurd (omega (arith, between_m.1, between_m.2, lower));
+        other_order = λ m n between_m between_n apart_m apart_n before. absurd (omega (arith, between_m.1, between_m.2, lower));
+      };
 }
 
 pub apart_already : (g : List (List ℕ)) (order : Ranking) (from to : ℕ) → Descends order.ranks g → get_or order.ranks to 0 < get_or order.ranks from 0 → Reaches g to from → ⊥
 apart_already g order from to down lower reaches = omega (arith, lower, reaches_falls order.ranks g to from down reaches)
 
-module _ (g : List (List ℕ)) (old : Ranking) (from to : ℕ) (links : Links)
-    (order : IsOrder old) (in_range : IsInRange g) (count : length old.nodes ≡ length g) (down : Descends old.ranks g)
-    (from_there : from < length old.nodes) (to_there : to < length old.nodes) (up : get_or old.ranks from 0 ≤ get_or old.ranks to 0)
-    (s : IsSearched g old (get_or old.ranks from 0) (get_or old.ranks to 0) links) where
-  abbrev low : ℕ
-  low = get_or old.ranks from 0
+-- ---- where what is reached moves
 
-  -- the node of the last offset is the one that the search began at
-  last_node : get_or old.nodes (low + (length links - 1)) 0 ≡ to
-  last_node = ap (λ z. get_or old.nodes z 0) (omega (arith, s.long, up)) ∙ order.node_of_rank to to_there
+-- a list of what a node reaches from the rank of another on, in the order of the ranks
+pub record IsReachedPart (g : List (List ℕ)) (order : Ranking) (from to : ℕ) (nodes : List ℕ) : Type 0 where
+  pub within : (n : ℕ) → Contains nodes n → n < length order.nodes
+  pub above : (n : ℕ) → Contains nodes n → get_or order.ranks from 0 < get_or order.ranks n 0
+  pub reached : (n : ℕ) → Contains nodes n → Reaches g to n
+  pub all : (n : ℕ) → Reaches g to n → get_or order.ranks from 0 ≤ get_or order.ranks n 0 → Contains nodes n
+  pub ascending : AllPairs (λ m n. get_or order.ranks m 0 < get_or order.ranks n 0) nodes
 
-  -- the node of an offset
-  node_at : (n : ℕ) → n < length old.nodes → low ≤ get_or old.ranks n 0 → get_or old.nodes (low + (get_or old.ranks n 0 - low)) 0 ≡ n
-  node_at n there above = ap (λ z. get_or old.nodes z 0) (omega (arith, above)) ∙ order.node_of_rank n there
+module _ (g : List (List ℕ)) (old : Ranking) (from to : ℕ) (nodes : List ℕ)
+    (is : IsOrder old) (in_range : IsInRange g) (count : length old.nodes ≡ length g) (down : Descends old.ranks g)
+    (from_in : from < length old.nodes) (to_in : to < length old.nodes) (up : get_or old.ranks from 0 ≤ get_or old.ranks to 0)
+    (part : IsReachedPart g old from to nodes) (apart : Reaches g to from → ⊥) where
+  part_fits : FitsOrder (placement_of from nodes) old
+  part_fits = record {
+    order = is;
+    mark = from_in;
+    within = λ k d inside. part.within (get_or nodes k d) (k, inside, get_or_default nodes k (get_or nodes k d) d inside);
+    above = λ k d inside. part.above (get_or nodes k d) (k, inside, get_or_default nodes k (get_or nodes k d) d inside);
+    ascending = part.ascending;
+  }
 
-  start_linked : is_some (link_at links (get_or old.ranks to 0 - low)) ≡ true
-  start_linked = subst (λ k. is_some (link_at links k) ≡ true) (omega (arith, s.long, up)) s.linked.begun
+  -- what is reached does not lie above `to`
+  under_to : (n : ℕ) → Contains nodes n → get_or old.ranks n 0 ≤ get_or old.ranks to 0
+  under_to n c = reaches_falls old.ranks g to n down (part.reached n c)
 
-  pub linked_if_reached : (n : ℕ) → low ≤ get_or old.ranks n 0 → Reaches g to n → is_some (link_at links (get_or old.ranks n 0 - low)) ≡ true
-  linked_if_reached n above r =
-      linked_reaches g old low (get_or old.ranks to 0) links to n order in_range count down s to_there up (omega arith) start_linked above r
+  module _ (new : Ranking) (r : Rearranges (placement_of from nodes) old new) where
+    other : (n : ℕ) → n < length old.nodes → (Reaches g to n → ⊥) → IsOther (placement_of from nodes) old n
+    other n there apart_n = (there, λ moved. apart_n (part.reached n moved))
 
-  pub reached_if_linked : (n : ℕ) → n < length old.nodes → low ≤ get_or old.ranks n 0 → get_or old.ranks n 0 ≤ get_or old.ranks to 0
-      → is_some (link_at links (get_or old.ranks n 0 - low)) ≡ true → Reaches g to n
-  reached_if_linked n there above below is =
-      let r = s.linked.reached (get_or old.ranks n 0 - low) (omega (arith, s.long, above, below)) is in
-      subst (λ z. Reaches g z n) last_node (subst (λ z. Reaches g (get_or old.nodes (low + (length links - 1)) 0) z) (node_at n there above) r)
-
-  unlinked : (n : ℕ) → n < length old.nodes → low ≤ get_or old.ranks n 0 → get_or old.ranks n 0 ≤ get_or old.ranks to 0
-      → (Reaches g to n → ⊥) → is_some (link_at links (get_or old.ranks n 0 - low)) ≡ false
-  unlinked n there above below apart = elim (linked_or_not links (get_or old.ranks n 0 - low)) [
-    | inl is ↦ absurd (apart (reached_if_linked n there above below is))
-    | inr is ↦ is
-  ]
-
-  room_made : (new : Ranking) → IsReordered links low old new → is_some (link_at links 0) ≡ false → MakesRoom g from to old new
-  room_made new r free =
-      let at : (n : ℕ) → n < length old.nodes → low ≤ get_or old.ranks n 0 → get_or old.ranks n 0 ≤ get_or old.ranks to 0
-      → get_or new.ranks n 0 ≡ low + new_offset links (get_or old.ranks n 0 - low) =
-      λ n there above below. r.ranks n there ∙ new_rank_inside links low _ above (omega (arith, s.long, below)) in
-      let under : (n : ℕ) → n < length old.nodes → get_or old.ranks n 0 < low → get_or new.ranks n 0 ≡ get_or old.ranks n 0 =
-      λ n there lower. r.ranks n there ∙ new_rank_below links low _ lower in
-      let over : (n : ℕ) → n < length old.nodes → get_or old.ranks to 0 < get_or old.ranks n 0 → get_or new.ranks n 0 ≡ get_or old.ranks n 0 =
-      λ n there higher. r.ranks n there ∙ new_rank_above links low _ (omega (arith, s.long, higher)) in
-      let first_free : is_some (link_at links (get_or old.ranks from 0 - low)) ≡ false = subst (λ k. is_some (link_at links k) ≡ false) (omega arith) free in
-      record {
-        count = r.count;
-        room =
-            let apart = offsets_apart links (get_or old.ranks to 0 - low) (get_or old.ranks from 0 - low) (omega (arith, s.long, up)) start_linked first_free in
-            omega (arith, at to to_there up (omega arith), at from from_there (omega arith) up, apart);
-        descends = λ a b edge.
-            let a_there : a < length old.nodes = omega (arith, count, edge_within g a b edge) in
-            let b_there : b < length old.nodes = omega (arith, count, in_range a b edge) in
-            let lower = down a b edge in
-            elim (cases_lt (get_or old.ranks a 0) low) [
-              | inl below ↦ omega (arith, under a a_there below, under b b_there (omega (arith, lower, below)), lower)
-              | inr above ↦ elim (cases_lt (get_or old.ranks to 0) (get_or old.ranks a 0)) [
-                | inl higher ↦ elim (cases_lt (get_or old.ranks b 0) low) [
-                  | inl b_below ↦ omega (arith, over a a_there higher, under b b_there b_below, lower)
-                  | inr b_above ↦ elim (cases_lt (get_or old.ranks to 0) (get_or old.ranks b 0)) [
-                    | inl b_higher ↦ omega (arith, over a a_there higher, over b b_there b_higher, lower)
-                    | inr b_inside ↦
-                        let offset = offset_within links (get_or old.ranks b 0 - low) (omega (arith, s.long, b_above, b_inside)) in
-                        omega (arith, over a a_there higher, at b b_there b_above b_inside, offset, s.long, higher)
-                  ]
-                ]
-                | inr inside ↦ elim (cases_lt (get_or old.ranks b 0) low) [
-                  | inl b_below ↦ omega (arith, at a a_there above inside, under b b_there b_below)
-                  | inr b_above ↦
-                      let b_inside : get_or old.ranks b 0 ≤ get_or old.ranks to 0 = omega (arith, lower, inside) in
-                      let j = get_or old.ranks b 0 - low in
-                      let k = get_or old.ranks a 0 - low in
-                      let before : j < k = omega (arith, lower, b_above) in
-                      let within : k < length links = omega (arith, s.long, above, inside) in
-                      let less : new_offset links j < new_offset links k = elim (linked_or_not links k) [
-                        | inl is ↦ offsets_yes links j k before within
-                            (s.linked.followed k b (omega arith) within is (subst (λ z. HasEdge g z b) (sym (node_at a a_there above)) edge) b_above) is
-                        | inr is ↦ elim (linked_or_not links j) [
-                          | inl is_b ↦ offsets_apart links j k (omega (arith, before, within)) is_b is
-                          | inr is_b ↦ offsets_no links j k before within is_b is
-                        ]
-                      ] in
-                      omega (arith, at a a_there above inside, at b b_there b_above b_inside, less)
-                ]
+    edges_fall : Descends new.ranks g
+    edges_fall a b e =
+        let a_in : a < length old.nodes = omega (arith, count, edge_within g a b e) in
+        let b_in : b < length old.nodes = omega (arith, count, in_range a b e) in
+        let lower = down a b e in
+        elim (moved_or_other (placement_of from nodes) old a a_in) [
+          | inl a_moved ↦
+              let b_reached : Reaches g to b = reaches_edge g to a b (part.reached a a_moved) e in
+              elim (cases_lt (get_or old.ranks b 0) (get_or old.ranks from 0)) [
+                | inl under ↦ r.down b a (b_in, λ moved. omega (arith, under, part.above b moved)) a_moved under
+                | inr over ↦ r.moved b a (part.all b b_reached over) a_moved lower
               ]
-            ];
-        below = λ n there lower. under n there lower;
-        above = λ n there higher. over n there higher;
-        first = λ m n between_m between_n reached apart.
-            let less = offsets_apart links (get_or old.ranks m 0 - low) (get_or old.ranks n 0 - low) (omega (arith, s.long, between_m.1, between_m.2))
-            (linked_if_reached m between_m.1 reached) (unlinked n between_n.0 between_n.1 between_n.2 apart) in
-            omega (arith, at m between_m.0 between_m.1 between_m.2, at n between_n.0 between_n.1 between_n.2, less);
-        reached_order = λ m n between_m between_n reached_m reached_n before.
-            let less = offsets_yes links (get_or old.ranks m 0 - low) (get_or old.ranks n 0 - low) (omega (arith, before, between_m.1)) (omega (arith, s.long, between_n.1, between_n.2))
-            (linked_if_reached m between_m.1 reached_m) (linked_if_reached n between_n.1 reached_n) in
-            omega (arith, at m between_m.0 between_m.1 between_m.2, at n between_n.0 between_n.1 between_n.2, less);
-        other_order = λ m n between_m between_n apart_m apart_n before.
-            let less = offsets_no links (get_or old.ranks m 0 - low) (get_or old.ranks n 0 - low) (omega (arith, before, between_m.1)) (omega (arith, s.long, between_n.1, between_n.2))
-            (unlinked m between_m.0 between_m.1 between_m.2 apart_m) (unlinked n between_n.0 between_n.1 between_n.2 apart_n) in
-            omega (arith, at m between_m.0 between_m.1 between_m.2, at n between_n.0 between_n.1 between_n.2, less);
-      }
+          | inr a_other ↦ elim (moved_or_other (placement_of from nodes) old b b_in) [
+            | inl b_moved ↦
+                let over : get_or old.ranks from 0 ≤ get_or old.ranks a 0 = omega (arith, lower, part.above b b_moved) in
+                r.up b a b_moved a_other over
+            | inr b_other ↦ r.others b a b_other a_other lower
+          ]
+        ]
 
-  pub gives_placement : (p : Placement) → IsPlacementOf links low old p → is_some (link_at links 0) ≡ false → GivesRoom g from to old p
-  gives_placement p is free =
-      let fits : low + length links ≤ length old.nodes = omega (arith, s.long, order.ranks_within to to_there) in
-      record {
-        fits = placement_fits old links low order fits p is;
-        room = λ new r. room_made new (placement_reorders old links low order fits p is new r) free;
-      }
+    from_level : get_or old.ranks from 0 ≤ get_or old.ranks from 0
+    from_level = omega arith
 
-  pub apart_from : is_some (link_at links 0) ≡ false → Reaches g to from → ⊥
-  apart_from free r =
-      let is = linked_if_reached from (omega arith) r in
-      false≢true (sym free ∙ subst (λ k. is_some (link_at links k) ≡ true) (omega arith) is)
+    room_made : MakesRoom g from to old new
+    room_made = record {
+      count = r.count;
+      room = r.up to from (part.all to itself up) (other from from_in apart) from_level;
+      descends = edges_fall;
+      below = λ n there under. rank_below (placement_of from nodes) old new is part_fits r n there under;
+      above = λ n there over.
+          let from_under : get_or old.ranks from 0 ≤ get_or old.ranks n 0 = omega (arith, up, over) in
+          rank_above (placement_of from nodes) old new is part_fits r n there from_under (λ m moved. omega (arith, over, under_to m moved));
+      first = λ m n between_m between_n reached apart_n. r.up m n (part.all m reached between_m.1) (other n between_n.0 apart_n) between_n.1;
+      reached_order = λ m n between_m between_n reached_m reached_n before. r.moved m n (part.all m reached_m between_m.1) (part.all n reached_n between_n.1) before;
+      other_order = λ m n between_m between_n apart_m apart_n before. r.others m n (other m between_m.0 apart_m) (other n between_n.0 apart_n) before;
+    }
+
+  pub gives_placement : GivesRoom g from to old (placement_of from nodes)
+  gives_placement = record { fits = part_fits; room = room_made }

@@ -3,18 +3,16 @@ use Rattle.std.proofs.Common.{◌≡◌, ℕ, Bool, zero, suc, ◌+◌, ◌<◌,
 use Rattle.std.specs.Prelude.{filter, slice_index, slice_index_or, ◌==◌, ◌||◌}
 use Rattle.std.specs.List.{All, AllPairs, Contains, cons_option, filter_map, range_with_len}
 use Rattle.std.proofs.lemmas.Bool.{cases_Bool, cases_eq, cases_order, eq-eqb, ne_eqb, or_right}
-use Rattle.std.proofs.lemmas.Bool.Decides.{Decides-eqb}
 use Rattle.std.proofs.lemmas.List.{append-nil, get_or_default, get_or-map, length-map, take_more}
 use Rattle.std.proofs.lemmas.List.Elements.{All-from_get_or, All-get_or, All-head, All-tail, filter_map-append, filter_passes}
 use Rattle.std.proofs.lemmas.List.Folds.{list_any_at, list_any_more}
 use Rattle.std.proofs.lemmas.List.FromFn.{get_or-map-range_with_len, length-map-range_with_len, map-range_with_len_more}
 use Rattle.std.proofs.lemmas.List.Kept.{AllPairs-filter}
-use Rattle.std.proofs.lemmas.Map.Made.{IsDistinct-from_AllPairs, is_member-Decides}
-use Rattle.std.proofs.lemmas.Map.Steps.{le-length_from_below, length-le_from_distinct_below}
 use Rattle.graph_base.specs.Kept.{is_named, kept_below}
 use Rattle.graph_base.proofs.KeptLemmas.{below_less, below_tells, in_range_kept, length-kept_rows, old_edge}
 use Rattle.graph_order.specs.Order.{IsOrder, Ranking}
-use Rattle.graph_order.specs.Suborder.{FitsKept, HasEachOnce, IsInverse, KeepsRanks, kept_nodes, new_number}
+use Rattle.graph_order.specs.Suborder.{FitsKept, HasEachOnce, KeepsRanks, kept_nodes, new_number}
+use Rattle.graph_order.proofs.EachOnceLemmas.{as_many}
 
 -- ---- the new numbers
 
@@ -75,14 +73,6 @@ contains_filter p (y ∷ ys) x is (suc i, within, at) =
 contains_map : (f : ℕ → ℕ) (xs : List ℕ) (x y : ℕ) → f x ≡ y → Contains xs x → Contains (map f xs) y
 contains_map f xs x y is c =
     (c.0, omega (arith, c.1, length-map xs f), get_or-map f xs c.0 x y c.1 ∙ ap f c.2 ∙ is)
-
--- numbers that differ and are those below a count are as many
-as_many : (xs : List ℕ) (count : ℕ) → AllPairs (λ m n. m ≢ n) xs → All (λ n. n < count) xs → ((n : ℕ) → n < count → Contains xs n) → length xs ≡ count
-as_many xs count once within all =
-    let few : length xs ≤ count = length-le_from_distinct_below xs count (IsDistinct-from_AllPairs Decides-eqb xs once)
-    (λ q is. let c = (is_member-Decides Decides-eqb xs q).0 is in subst (λ n. n < count) c.2 (All-get_or (λ n. n < count) xs c.0 q c.1 within)) in
-    let many : count ≤ length xs = le-length_from_below xs count (λ q below. (is_member-Decides Decides-eqb xs q).1 (all q below)) in
-    omega (arith, few, many)
 
 -- ---- the nodes that are kept
 
@@ -185,23 +175,6 @@ module _ (keep : List ℕ) (order : Ranking) (is : IsOrder order) (known : (n : 
           omega (arith, less, ap (λ z. slice_index new.ranks z) edge.from_is, ap (λ z. slice_index new.ranks z) edge.to_is);
     }
 
--- ---- the ranks of nodes that stand each once
-
-order_of_inverse : (nodes ranks : List ℕ) → length nodes < 2 ^ 32 → HasEachOnce nodes → IsInverse nodes ranks → IsOrder (record { ranks = ranks; nodes = nodes })
-order_of_inverse nodes ranks short each inverse =
-    let place : (n : ℕ) → n < length nodes → (r : ℕ) × (r < length nodes) × (slice_index nodes r ≡ n) × (slice_index ranks n ≡ r) = λ n there.
-    let c = each.all n there in
-    let at : slice_index nodes c.0 ≡ n = sym (get_or_default nodes c.0 n 0 c.1) ∙ c.2 in
-    (c.0, c.1, at, ap (λ z. slice_index ranks z) (sym at) ∙ inverse.rank_of_node c.0 c.1) in
-    record {
-      short = short;
-      long = inverse.long;
-      ranks_within = λ n there. let p = place n there in omega (arith, p.1, p.3);
-      nodes_within = λ r there. each.within r 0 there;
-      node_of_rank = λ n there. let p = place n there in ap (λ z. slice_index nodes z) p.3 ∙ p.2;
-      rank_of_node = inverse.rank_of_node;
-    }
-
 -- ---- marks
 
 -- an item of a list is named by it
@@ -286,6 +259,3 @@ module _ (keep : List ℕ) (order : Ranking) (is : IsOrder order) (known : (n : 
 
   pub short : length nodes < 2 ^ 32
   short = omega (arith, ap length nodes_left, short_left keep order is known)
-
-  pub order_left : (ranks : List ℕ) → IsInverse nodes ranks → IsOrder (record { ranks = ranks; nodes = nodes })
-  order_left ranks inverse = order_of_inverse nodes ranks short each_once inverse

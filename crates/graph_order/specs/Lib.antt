@@ -1,5 +1,9 @@
-pub mod Band
 pub mod Insertion
+pub mod Labels
+pub mod Listing
+pub mod Moving
 pub mod Order
 pub mod Placing
+pub mod Search
+pub mod Spots
 pub mod Suborder

@@ -6,9 +6,9 @@ ghost use Rattle.graph_base.specs.Reach.{IsPathBack, Reaches};
 ghost use Rattle.graph_order.specs.Insertion.{GivesRoom, most_visits};
 ghost use Rattle.graph_order.specs.Order.{Descends};
 
-use crate::band::{path_back, search};
 use crate::order::Order;
 use crate::placing::Placement;
+use crate::search::{label_of, path_back, search};
 use graph_base::Graph;
 use outside::{Ledger, Steps};
 use std::alloc::{AllocError, Global};
@@ -38,15 +38,18 @@ impl Order {
         ensures steps { L.count steps.new.ledger
             ≤ L.count steps.old.ledger + most_visits self.now from to }
     {
-        let low = self.ranks[from as usize] as usize;
-        let high = self.ranks[to as usize] as usize;
+        let labels = self.labels.as_slice();
+        let low = label_of(labels, from);
+        let high = label_of(labels, to);
         if high < low {
-            return Ok(Ok(Placement::none(alloc)));
+            return Ok(Ok(Placement::none(alloc, from)));
         }
-        let links = search(alloc, graph, self, low, high, steps)?;
-        if links[0].is_some() {
-            return Ok(Err(path_back(alloc, self, low, links.as_slice())?));
+        let found = search(alloc, graph, labels, from, to, steps)?;
+        if found.contains_key(&low) {
+            let path = path_back(alloc, labels, &found, from, to)?;
+            return Ok(Err(path));
         }
-        Ok(Ok(self.placement(alloc, low, links.as_slice())?))
+        let placement = Placement::of_found(alloc, &found, from)?;
+        Ok(Ok(placement))
     }
 }

@@ -1,11 +1,16 @@
 //! An order of a graph's nodes in which every edge leads down, kept while edges are added: an edge that
-//! fits the order costs a comparison, and any other a search among the ranks between its two nodes.
+//! fits the order costs a comparison, and any other a search among the nodes between its two that the
+//! edge's target reaches.
 #![tactic(auto)]
 
-mod band;
+mod entries;
 mod insertion;
+mod listing;
+mod moving;
 pub mod order;
 pub mod placing;
+mod search;
+mod spots;
 mod suborder;
 
 pub use order::Order;

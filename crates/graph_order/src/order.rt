@@ -1,27 +1,38 @@
-//! The order itself: the rank of each node, and the node of each rank.
+//! The order itself: each node has a label, and the ranks are the order of the labels.
 
 ghost use Rattle.std.specs.Prelude.{◌≡◌, ◌+◌, ◌<◌, ◌^◌, length, slice_index, IfOk, OnErr, OnOk};
+ghost use Rattle.std.specs.BTreeMap as tree;
+ghost use Rattle.graph_order.specs.Labels.{IsLabelled, labels_below, next_label, ranking};
 ghost use Rattle.graph_order.specs.Order.{IsOrder, empty_order, with_next_node, with_next_nodes};
 
+use crate::entries::put;
 use base_values::TryClone;
 use std::alloc::{AllocError, Global};
+use std::collections::BTreeMap;
 use std::marker::Model;
+
+const FIRST: u64 = 1 << 62;
+
+pub(crate) const STEP: u64 = 1 << 31;
 
 /// The ranks of a graph's nodes, which are numbered from 0 on.
 #[derive(Drop)]
 pub struct Order {
-    pub(crate) ranks: Vec<u32>,
-    pub(crate) nodes: Vec<u32>,
+    pub(crate) labels: Vec<u64>,
+    pub(crate) index: BTreeMap<u64, u32>,
+    // The lowest of the nodes that moved last. It guides where labels are taken, and says nothing.
+    pub(crate) moved: u32,
 }
 
 impl Model for Order {
+    ghost use Rattle.graph_order.specs.Labels as kept;
     ghost use Rattle.graph_order.specs.Order as seen;
 
     ghost Value = { seen.Ranking };
 
-    ghost view = { λ a. record { ranks = a.ranks.items; nodes = a.nodes.items } };
+    ghost view = { λ a. kept.ranking a.labels.items a.index };
 
-    ghost invariant = { λ a. seen.IsOrder (record { ranks = a.ranks.items; nodes = a.nodes.items }) };
+    ghost invariant = { λ a. kept.IsLabelled a.labels.items a.index };
 }
 
 impl Order {
@@ -29,9 +40,12 @@ impl Order {
     pub fn new(alloc: Global) -> Order
         ensures { result ≡ empty_order }
     {
+        let labels = Vec::new(alloc);
+        let index = BTreeMap::new(alloc);
         Order {
-            ranks: Vec::new(alloc),
-            nodes: Vec::new(alloc),
+            labels,
+            index,
+            moved: 0,
         }
     }
 
@@ -40,23 +54,16 @@ impl Order {
         ensures length { result ≡ length self.now.nodes }
         ensures order { IsOrder self.now }
     {
-        self.nodes.len()
+        self.index.len()
     }
 
-    /// The rank of a node.
+    /// The rank of a node. It is counted, over all nodes of lower ranks.
     pub fn rank(&self, node: u32) -> u32
         requires { node < length self.now.nodes }
         ensures { result ≡ slice_index self.now.ranks node }
     {
-        self.ranks[node as usize]
-    }
-
-    /// The node of a rank.
-    pub fn node(&self, rank: u32) -> u32
-        requires { rank < length self.now.nodes }
-        ensures { result ≡ slice_index self.now.nodes rank }
-    {
-        self.nodes[rank as usize]
+        let label = self.labels[node as usize];
+        count_below(&self.index, label)
     }
 
     /// Puts the next node in, which gets the highest rank.
@@ -65,18 +72,7 @@ impl Order {
         ensures ok { OnOk result (self.new ≡ with_next_node self.old) }
         ensures err { OnErr result (self.new ≡ self.old) }
     {
-        self.ranks.reserve(1)?;
-        self.nodes.reserve(1)?;
-        let next = self.nodes.len() as u32;
-        match self.ranks.push(next) {
-            Ok(_) => {}
-            Err(_) => unreachable!(),
-        }
-        match self.nodes.push(next) {
-            Ok(_) => {}
-            Err(_) => unreachable!(),
-        }
-        Ok(())
+        push_next(&mut self.labels, &mut self.index)
     }
 
     /// The order with so many more nodes, which get the highest ranks in the order of their numbers.
@@ -94,8 +90,47 @@ impl Order {
 
 impl TryClone for Order {
     fn try_clone(&self, alloc: Global) -> Result<Self, AllocError> {
-        let ranks = self.ranks.to_vec(alloc)?;
-        let nodes = self.nodes.to_vec(alloc)?;
-        Ok(Order { ranks, nodes })
+        let nodes = self.nodes(alloc)?;
+        Order::of_nodes(alloc, &nodes, self.moved)
     }
+}
+
+// The next node gets the next label.
+fn push_next(labels: &mut Vec<u64>, index: &mut BTreeMap<u64, u32>) -> Result<(), AllocError>
+    requires labelled { IsLabelled labels.old.items index.old }
+    requires short { length labels.old.items + 1 < 2 ^ 32 }
+    ensures labelled { IsLabelled labels.new.items index.new }
+    ensures ok { OnOk result (ranking labels.new.items index.new
+        ≡ with_next_node (ranking labels.old.items index.old)) }
+    ensures err { OnErr result (ranking labels.new.items index.new
+        ≡ ranking labels.old.items index.old) }
+{
+    labels.reserve(1)?;
+    let next = labels.len();
+    let label = next_label(next);
+    put(index, label, next as u32)?;
+    labels.push_reserved(label);
+    Ok(())
+}
+
+// How many nodes have a lower label.
+fn count_below(index: &BTreeMap<u64, u32>, label: u64) -> u32
+    requires { tree.btree_map_len index.now < 2 ^ 32 }
+    ensures { result ≡ labels_below (tree.keys index.now) label }
+{
+    let mut below = 0;
+    for (other, _) in index.iter() {
+        if *other < label {
+            below += 1;
+        }
+    }
+    below
+}
+
+// The label that the next node gets, where there are so many: it is above theirs.
+pub(crate) fn next_label(count: usize) -> u64
+    requires { count < 2 ^ 32 }
+    ensures { result ≡ next_label count }
+{
+    FIRST + STEP * (count as u64)
 }

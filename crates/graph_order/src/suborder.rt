@@ -3,7 +3,7 @@
 ghost use Rattle.std.specs.Prelude.{◌≡◌, ◌<◌, ◌^◌, ℕ, None, true, false, length, map, slice_index_or, IfOk};
 ghost use Rattle.std.specs.List.{All, filter_map, range_with_len};
 ghost use Rattle.graph_base.specs.Kept.{is_named};
-ghost use Rattle.graph_order.specs.Suborder.{FitsKept, HasEachOnce, IsInverse, KeepsRanks};
+ghost use Rattle.graph_order.specs.Suborder.{FitsKept, KeepsRanks};
 ghost use Rattle.graph_order.specs.Suborder.{kept_nodes, new_number};
 
 use crate::order::Order;
@@ -59,19 +59,6 @@ fn numbered(alloc: Global, numbers: &[Option<u32>], nodes: &[u32]) -> Result<Vec
     Ok(kept)
 }
 
-// The rank of each node, by the node of each rank.
-fn ranks_of(alloc: Global, nodes: &[u32]) -> Result<Vec<u32>, AllocError>
-    requires short { length nodes.now < 2 ^ 32 }
-    requires once { HasEachOnce nodes.now }
-    ensures { IfOk result (λ ranks. IsInverse nodes.now ranks.items) }
-{
-    let mut ranks = vec![in alloc; 0; nodes.len()]?;
-    for (rank, node) in nodes.iter().enumerate() {
-        ranks[*node as usize] = rank as u32;
-    }
-    Ok(ranks)
-}
-
 impl Order {
     /// The order of the named nodes alone. Each gets a new number, which is how many named nodes have a
     /// lower one, and they keep the order of their ranks.
@@ -82,9 +69,9 @@ impl Order {
         ensures ranks { IfOk result (KeepsRanks keep.now self.now) }
         ensures fits { IfOk result (FitsKept keep.now self.now) }
     {
-        let numbers = new_numbers(alloc, keep, self.nodes.len())?;
-        let nodes = numbered(alloc, &numbers, &self.nodes)?;
-        let ranks = ranks_of(alloc, &nodes)?;
-        Ok(Order { ranks, nodes })
+        let nodes = self.nodes(alloc)?;
+        let numbers = new_numbers(alloc, keep, nodes.len())?;
+        let kept = numbered(alloc, &numbers, &nodes)?;
+        Order::of_nodes(alloc, &kept, 0)
     }
 }

@@ -1,18 +1,22 @@
 //! A dependency is added where it closes no cycle. The ranks of its two crates often tell; else a search
 //! among the ranks between them decides.
 
-ghost use Rattle.std.specs.Prelude.{◌≡◌, ◌+◌, ◌<◌, ◌≤◌, [], ◌∷◌, ◌++◌, length, map, IfErr, IfOk, OnErr, OnOk};
+ghost use Rattle.std.specs.Prelude.{◌≡◌, ◌+◌, ◌-◌, ◌<◌, ◌≤◌, [], ◌∷◌, ◌++◌, length, map, take};
+ghost use Rattle.std.specs.Prelude.{IfErr, IfOk, OnErr, OnOk};
 ghost use Rattle.base_text.specs.Arena.{number_of};
 ghost use Rattle.graph_base.specs.Reach.{IsPathBack, Reaches};
 ghost use Rattle.graph_order.specs.Insertion.{most_visits};
+ghost use Rattle.graph_order.specs.Placing.{FitsOrder, Rearranges};
 ghost use Rattle.crate_graph.specs.Cyclic.{names, numbers, shown_of};
 ghost use Rattle.crate_graph.specs.Refused.{IfCyclic};
-ghost use Rattle.crate_graph.specs.Graph.{AddsDependency, HasDependency, edges, target_of};
+ghost use Rattle.crate_graph.specs.Graph.{AddsDependency, HasDependency, LosesDependency};
+ghost use Rattle.crate_graph.specs.Graph.{edges, target_of};
 
 use crate::cyclic::{AddDepError, CyclicDependenciesError};
 use crate::graph::CrateGraphBuilder;
 use base_text::Items;
 use crate_values::{CrateBuilder, CrateBuilderId, DependencyBuilder};
+use graph_order::{Order, Placement};
 use outside::{Counter, Ledger, Steps};
 use std::alloc::{AllocError, Global};
 use std::mem;
@@ -68,8 +72,14 @@ impl CrateGraphBuilder {
         let (source, target) = (from.into_raw(), dep.crate_id.into_raw());
         match self.order.room_for(alloc, self, source, target, steps)? {
             Ok(placement) => {
-                append(alloc, &mut self.crates, from, dep)?;
-                self.order.apply(placement);
+                append_and_apply(
+                    alloc,
+                    &mut self.crates,
+                    &mut self.order,
+                    from,
+                    dep,
+                    placement,
+                )?;
                 Ok(())
             }
             Err(path) => Err(self.cyclic(alloc, &path)),
@@ -87,6 +97,51 @@ impl CrateGraphBuilder {
             Err(error) => AddDepError::from(error),
         }
     }
+}
+
+// Puts a dependency behind those of a crate, and nodes of the order in their places. A failure leaves both.
+fn append_and_apply(
+    alloc: Global,
+    crates: &mut Vec<CrateBuilder>,
+    order: &mut Order,
+    from: CrateBuilderId,
+    dep: DependencyBuilder,
+    placement: Placement,
+) -> Result<(), AllocError>
+    requires from { number_of from < length crates.old.items }
+    requires fits { FitsOrder placement order.old }
+    ensures ok { OnOk result
+        (HasDependency crates.old.items crates.new.items (number_of from) dep) }
+    ensures moved { OnOk result (Rearranges placement order.old order.new) }
+    ensures crates_same { OnErr result (crates.new.items ≡ crates.old.items) }
+    ensures order_same { OnErr result (order.new ≡ order.old) }
+{
+    append(alloc, crates, from, dep)?;
+    match order.apply(placement) {
+        Ok(_) => Ok(()),
+        Err(error) => {
+            take_back(alloc, crates, from);
+            Err(error)
+        }
+    }
+}
+
+// Takes the last dependency of a crate out again.
+fn take_back(alloc: Global, crates: &mut Vec<CrateBuilder>, from: CrateBuilderId)
+    requires { number_of from < length crates.old.items }
+    ensures { LosesDependency crates.old.items crates.new.items (number_of from) }
+{
+    let krate = &mut crates[from.into_raw() as usize];
+    take_last(alloc, &mut krate.basic.dependencies);
+}
+
+// Takes the last dependency out.
+fn take_last(alloc: Global, list: &mut Items<DependencyBuilder>)
+    ensures { list.new ≡ take (length list.old - 1) list.old }
+{
+    let mut items = mem::replace(list, Items::empty(alloc)).into_inner();
+    drop(items.pop());
+    *list = Items::new(items);
 }
 
 // Puts a dependency behind those of a crate.

@@ -18,19 +18,20 @@ invariant_of-self-in-Ok g c =
     let old = c.args.self.now.crates in
     let from = number_of c.args.from in
     let to = target_of c.args.dep in
-    let new = c.apply.new.self in
+    let new = c.append_and_apply.new.order in
+    let now = c.append_and_apply.new.crates.items in
     let made = subst (λ graph. IsWellMade graph.crates c.self.inside.limit) c.self.view_is c.self.invariant.well_made in
     let ranks = subst (λ graph. IsOrderOf graph.order (edges graph.crates)) c.self.view_is c.self.invariant.ranks in
-    let has = subst (λ graph. HasDependency graph.crates c.append.new.crates.items (number_of c.args.from) c.args.dep) c.self.view_is c.in_ok-append-in-Ok.ensures.ok in
+    let has = subst (λ graph. HasDependency graph.crates now (number_of c.args.from) c.args.dep) c.self.view_is c.in_ok-append_and_apply-in-Ok.ensures.ok in
     let apart : Reaches (edges c.args.self.now.crates) (target_of c.args.dep) (number_of c.args.from) → ⊥ = search rules in
     let gives : GivesRoom (edges c.args.self.now.crates) (number_of c.args.from) (target_of c.args.dep) c.args.self.now.order c.in-Ok.placement = search rules in
-    let moved : Rearranges c.in-Ok.placement c.args.self.now.order c.apply.new.self = subst (λ graph. Rearranges c.in-Ok.placement graph.order c.apply.new.self) c.self.view_is c.apply.ensures in
+    let moved : Rearranges c.in-Ok.placement c.args.self.now.order new = subst (λ graph. Rearranges c.in-Ok.placement graph.order new) c.self.view_is c.in_ok-append_and_apply-in-Ok.ensures.moved in
     let from_in : number_of c.args.from < length (edges c.args.self.now.crates) = omega (arith, c.requires.from, length-edges c.args.self.now.crates) in
     let to_in : target_of c.args.dep < length (edges c.args.self.now.crates) = omega (arith, c.requires.to, length-edges c.args.self.now.crates) in
-    let room = ranked-with_edge c.args.self.now.order new (edges old) from to ranks from_in to_in (gives.fits.order new moved) (gives.room new moved) in
+    let room = ranked-with_edge c.args.self.now.order new (edges old) from to ranks from_in to_in moved.order (gives.room new moved) in
     record {
-      well_made = well_made-with_dependency old c.append.new.crates.items from c.args.dep c.requires.from has c.self.inside.limit made
+      well_made = well_made-with_dependency old now from c.args.dep c.requires.from has c.self.inside.limit made
           (in_range_with_edge (edges old) from to from_in to_in made.in_range)
           (acyclic_with_edge (edges old) from to from_in made.acyclic apart);
-      ranks = subst (IsOrderOf new) (sym (edges-with_dependency old c.append.new.crates.items from c.args.dep c.requires.from has)) room;
+      ranks = subst (IsOrderOf new) (sym (edges-with_dependency old now from c.args.dep c.requires.from has)) room;
     }
