@@ -74,6 +74,12 @@ head_from base stated = do
     proc_macro_cwd = option_map (absolute_from base) stated.proc_macro_cwd;
   })
 
+-- what of a crate is read on the base, and all of its atoms
+abbrev pub parts_from : List ℕ → Groups → CrateData → Reading (CrateHead × List CfgAtom)
+parts_from base groups stated = do
+  head ← head_from base stated
+  Ok (head, cfgs_of groups stated.cfg_groups stated.cfg)
+
 -- what is taken as it is stated, with the atoms of the groups and the crate's own
 abbrev pub tail_with : CrateData → List CfgAtom → CrateTail
 tail_with stated cfg = record {

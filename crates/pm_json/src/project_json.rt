@@ -1,7 +1,8 @@
 //! A project as a document and a base directory make it.
 
-ghost use Rattle.std.specs.Prelude.{◌≡◌, None, option_map};
+ghost use Rattle.std.specs.Prelude.{◌≡◌, IfOk, None, option_map};
 ghost use Rattle.base_text.specs.AbsPath.{abs_text};
+ghost use Rattle.pm_json.specs.Crates.{absolute_from};
 ghost use Rattle.pm_json.specs.Project as project;
 ghost use Rattle.pm_json.specs.Project.{project_of};
 ghost use Rattle.pm_json.specs.Refusals.{Gives};
@@ -9,7 +10,7 @@ ghost use Rattle.pm_json.specs.Refusals.{Gives};
 use crate::krate::Crate;
 use crate::reading::{absolute, read_crates};
 use crate::workspace_json_error::WorkspaceJsonError;
-use base_text::{AbsPath, AbsPathBuf, Boxed, Items, Limit, Limits, TryClone};
+use base_text::{AbsPath, AbsPathBuf, Boxed, Items, Limit, Limits, Text, TryClone};
 use pm_json_data::{ProjectJsonData, Runnable};
 use pm_packages::ManifestPath;
 use std::alloc::{AllocError, Global};
@@ -49,18 +50,52 @@ impl ProjectJson {
         if json_data.crates.len() > limits.crates as usize {
             return Err(WorkspaceJsonError::TooMany(Limit::Crates));
         }
+        let Directories {
+            sysroot,
+            sysroot_src,
+            project_root,
+        } = Directories::new(alloc, base, &json_data.sysroot, &json_data.sysroot_src)?;
         let stated = json_data.crates;
         let crates = read_crates(alloc, base, &json_data.cfg_groups, stated)?;
-        let sysroot_src = absolute(alloc, base, &json_data.sysroot_src)?;
         let sysroot_project = read_sysroot(alloc, &sysroot_src, json_data.sysroot_project, limits)?;
         Ok(ProjectJson {
-            sysroot: absolute(alloc, base, &json_data.sysroot)?,
+            sysroot,
             sysroot_src,
             sysroot_project,
-            project_root: base.to_path_buf(alloc)?,
+            project_root,
             manifest,
             crates,
             runnables: json_data.runnables,
+        })
+    }
+}
+
+// The directories of a project.
+#[derive(Drop)]
+struct Directories {
+    sysroot: Option<AbsPathBuf>,
+    sysroot_src: Option<AbsPathBuf>,
+    project_root: AbsPathBuf,
+}
+
+impl Directories {
+    // The directories that a document states, on the base, and the base.
+    fn new(
+        alloc: Global,
+        base: AbsPath<'_>,
+        sysroot: &Option<Text>,
+        sysroot_src: &Option<Text>,
+    ) -> Result<Directories, AllocError>
+        ensures { IfOk result (λ directories. directories ≡ record {
+          sysroot = option_map (absolute_from (abs_text base.entry)) sysroot.now;
+          sysroot_src = option_map (absolute_from (abs_text base.entry)) sysroot_src.now;
+          project_root = abs_text base.entry;
+        }) }
+    {
+        Ok(Directories {
+            sysroot: absolute(alloc, base, sysroot)?,
+            sysroot_src: absolute(alloc, base, sysroot_src)?,
+            project_root: base.to_path_buf(alloc)?,
         })
     }
 }

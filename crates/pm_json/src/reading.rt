@@ -1,12 +1,12 @@
 //! Crates of a document, read on a base directory.
 
-ghost use Rattle.std.specs.Prelude.{◌≡◌, ◌++◌, IfOk, OnOk, flat_map, map, option_map};
+ghost use Rattle.std.specs.Prelude.{◌≡◌, ◌++◌, [], IfOk, OnOk, flat_map, map, option_map};
 ghost use Rattle.base_text.specs.AbsPath.{abs_text};
 ghost use Rattle.base_text.specs.Paths.{parent_text};
 ghost use Rattle.crate_values.specs.Names.{shown_as};
 ghost use Rattle.json_fields.specs.Versions.{version_text};
 ghost use Rattle.pm_json.specs.Crates as crates;
-ghost use Rattle.pm_json.specs.Crates.{absolute_from, cfgs_of, crates_of, folder_of_parent, group_names, head_from};
+ghost use Rattle.pm_json.specs.Crates.{absolute_from, cfgs_of, crates_of, folder_of_parent, group_names, head_from, is_member, parts_from};
 ghost use Rattle.pm_json.specs.Refusals.{Gives};
 
 use crate::crate_parts::{CrateHead, CrateTail, crate_of};
@@ -50,11 +50,34 @@ fn read_crate(
 ) -> Result<Crate, WorkspaceJsonError>
     ensures exact { Gives result (crates.crate_of (abs_text base.entry) groups.now stated) }
 {
-    let head = read_head(alloc, base, &stated)?;
+    let (head, cfg) = read_parts(alloc, base, groups, &mut stated)?;
+    Ok(crate_of(head, CrateTail::new(stated, cfg)))
+}
+
+// What of a crate is read on the base, and all of its atoms, which are moved.
+fn read_parts(
+    alloc: Global,
+    base: AbsPath<'_>,
+    groups: &ByText<Items<CfgAtom>>,
+    stated: &mut CrateData,
+) -> Result<(CrateHead, Items<CfgAtom>), WorkspaceJsonError>
+    ensures exact { Gives result (parts_from (abs_text base.entry) groups.now stated.old) }
+    ensures rest { OnOk result (stated.new ≡ record stated.old { cfg_groups = []; cfg = [] }) }
+{
+    let head = read_head(alloc, base, stated)?;
     let names = mem::replace(&mut stated.cfg_groups, Items::empty(alloc));
     let own = mem::replace(&mut stated.cfg, Items::empty(alloc));
-    let cfg = all_cfgs(alloc, groups, names, own)?;
-    Ok(crate_of(head, CrateTail::new(stated, cfg)))
+    Ok((head, all_cfgs(alloc, groups, names, own)?))
+}
+
+// Whether a crate is a member: as it is stated, else where its root module lies below the base.
+fn is_member(stated: Option<bool>, base: AbsPath<'_>, root: AbsPath<'_>) -> bool
+    ensures { result ≡ is_member stated (abs_text base.entry) (abs_text root.entry) }
+{
+    match stated {
+        Some(stated) => stated,
+        None => root.starts_with(base),
+    }
 }
 
 // What of a crate is read on the base.
@@ -68,19 +91,16 @@ fn read_head(
 {
     let root_module = base.absolutize(alloc, stated.root_module.as_str())?;
     let folders = read_folders(alloc, base, root_module.as_path(), &stated.source)?;
-    let is_workspace_member = match stated.is_workspace_member {
-        Some(stated) => stated,
-        None => root_module.as_path().starts_with(base),
-    };
+    let is_workspace_member = is_member(stated.is_workspace_member, base, root_module.as_path());
     Ok(CrateHead {
-        display_name: shown_name(alloc, &stated.display_name)?,
-        root_module,
         version: written_version(alloc, &stated.version)?,
         proc_macro_dylib_path: absolute(alloc, base, &stated.proc_macro_dylib_path)?,
+        proc_macro_cwd: absolute(alloc, base, &stated.proc_macro_cwd)?,
+        display_name: shown_name(alloc, &stated.display_name)?,
+        root_module,
         is_workspace_member,
         include: folders.include,
         exclude: folders.exclude,
-        proc_macro_cwd: absolute(alloc, base, &stated.proc_macro_cwd)?,
     })
 }
 
