@@ -35,7 +35,11 @@ pub fn live_top<S: ByteSource, K: ByteSink, E: ByteSink>(
         → CompletesAs (state_for words.now first_state) all result }
 {
     match Live::new(alloc) {
-        Ok(mut live) => live_cli(alloc, words, &mut live, input, out, err),
+        Ok(mut live) => {
+            let status = live_cli(alloc, words, &mut live, input, out, err);
+            drop(live);
+            status
+        }
         Err(_) => LiveError::OutOfMemory.status(),
     }
 }
