@@ -19,18 +19,20 @@ fn is_least<T: Ord>(value: &T, others: &[T]) -> bool {
 fn values_get_the_next_numbers_and_keep_their_order(rt: HostRuntime) -> Result<(), Fail> {
     let mut arena: Arena<Letter, char> = Arena::new(rt.alloc());
     let x = arena.alloc('x')?;
-    assert_eq!(rt; arena.len(), 1);
+    assert_eq!(rt; (x.into_raw(), arena.len()), (0, 1));
     let y = arena.alloc('y')?;
-    assert_eq!(rt; (x.into_raw(), y.into_raw()), (0, 1));
+    assert_eq!(rt; y.into_raw(), 1);
     assert_eq!(rt; arena.get(y), Some(&'y'));
     assert_eq!(rt; arena.get(Idx::from_raw(2)), None);
     if let Some(value) = arena.get_mut(x) {
         *value = 'z';
     }
-    let mut numbered = arena.iter();
-    assert_eq!(rt; numbered.next(), Some((x, &'z')));
-    assert_eq!(rt; numbered.next(), Some((y, &'y')));
-    assert_eq!(rt; numbered.next(), None);
+    let mut rows = arena.iter();
+    assert_eq!(rt;
+        (rows.next(), rows.next()),
+        (Some((x, &'z')), Some((y, &'y')))
+    );
+    assert_eq!(rt; rows.next(), None);
     Ok(())
 }
 
@@ -59,13 +61,17 @@ fn arenas_of_equal_values_are_equal(rt: HostRuntime) -> Result<(), Fail> {
 fn an_insertion_gives_the_value_that_was_there(rt: HostRuntime) -> Result<(), Fail> {
     let mut map: ArenaMap<Letter, char> = ArenaMap::new(rt.alloc());
     let id = Idx::from_raw(0);
-    assert_eq!(rt; map.insert(id, 'x')?, None);
-    assert_eq!(rt; map.insert(id, 'y')?, Some('x'));
+    assert_eq!(rt;
+        (map.insert(id, 'x')?, map.insert(id, 'y')?),
+        (None, Some('x'))
+    );
     if let Some(value) = map.get_mut(id) {
         *value = 'z';
     }
-    assert_eq!(rt; map.get(id), Some(&'z'));
-    assert_eq!(rt; map.get(Idx::from_raw(1)), None);
+    assert_eq!(rt;
+        (map.get(id), map.get(Idx::from_raw(1))),
+        (Some(&'z'), None)
+    );
     Ok(())
 }
 
@@ -80,9 +86,17 @@ fn the_current_edition_is_the_last(rt: HostRuntime) -> Result<(), Fail> {
 fn a_name_is_shown_as_its_text(rt: HostRuntime) -> Result<(), Fail> {
     let name = Symbol::new(String::from_str(rt.alloc(), "serde")?);
     assert_eq!(rt; name.as_str(), "serde");
-    assert_eq!(rt; format!(in rt.alloc(); "{name}")?.as_str(), "serde");
-    assert!(rt; name.try_clone(rt.alloc())? < Symbol::of_str(rt.alloc(), "syn")?);
+    assert!(rt; is_shown_as(rt.alloc(), &name, "serde")?);
+    assert!(rt; is_before(rt.alloc(), &name, "syn")?);
     Ok(())
+}
+
+fn is_shown_as(alloc: Global, name: &Symbol, text: &str) -> Result<bool, AllocError> {
+    Ok(format!(in alloc; "{name}")?.as_str() == text)
+}
+
+fn is_before(alloc: Global, name: &Symbol, other: &str) -> Result<bool, AllocError> {
+    Ok(name.try_clone(alloc)? < Symbol::of_str(alloc, other)?)
 }
 
 #[test]
@@ -139,38 +153,50 @@ fn a_copy_is_equal_and_hashed_alike(rt: HostRuntime) -> Result<(), Fail> {
     let copy = path.as_path().to_path_buf(alloc)?.try_clone(alloc)?;
     assert_eq!(rt; path, copy);
     assert!(rt; path.as_path() == copy.as_path());
-    let mut owned = DefaultHasher::new();
-    path.hash(&mut owned);
-    let mut borrowed = DefaultHasher::new();
-    copy.as_path().hash(&mut borrowed);
-    assert_eq!(rt; owned.finish(), borrowed.finish());
-    assert_eq!(rt;
-        format!(in alloc; "{path} {}", copy.as_path())?.as_str(),
-        "/a/b /a/b"
-    );
+    assert_eq!(rt; hash_of(&path), hash_of(&copy.as_path()));
+    let printed = format!(in alloc; "{path} {}", copy.as_path())?;
+    assert_eq!(rt; printed.as_str(), "/a/b /a/b");
     Ok(())
+}
+
+fn hash_of<T: Hash>(value: &T) -> u64 {
+    let mut hasher = DefaultHasher::new();
+    value.hash(&mut hasher);
+    hasher.finish()
 }
 
 fn copied<T: TryClone>(alloc: Global, value: &T) -> Result<T, AllocError> {
     value.try_clone(alloc)
 }
 
-#[test]
-fn a_recorded_answer_is_copied(rt: HostRuntime) -> Result<(), Fail> {
-    let alloc = rt.alloc();
-    let line = CommandLine {
+fn has_equal_copy<T: TryClone + PartialEq + Drop>(
+    alloc: Global,
+    value: &T,
+) -> Result<bool, AllocError> {
+    Ok(value.try_clone(alloc)? == *value)
+}
+
+fn line(alloc: Global) -> Result<CommandLine, AllocError> {
+    Ok(CommandLine {
         program: Text::of_str(alloc, "cargo")?,
         words: Items::empty(alloc),
         dir: Text::of_str(alloc, "/a")?,
         env: Items::empty(alloc),
-    };
-    assert!(rt; copied(alloc, &line)? == line);
-    let output = Output {
+    })
+}
+
+fn output(alloc: Global) -> Result<Output, AllocError> {
+    Ok(Output {
         ok: true,
         out: Text::of_str(alloc, "out")?,
         err: Text::of_str(alloc, "")?,
-    };
-    assert!(rt; copied(alloc, &output)? == output);
+    })
+}
+
+#[test]
+fn a_recorded_answer_is_copied(rt: HostRuntime) -> Result<(), Fail> {
+    assert!(rt; has_equal_copy(rt.alloc(), &line(rt.alloc())?)?);
+    assert!(rt; has_equal_copy(rt.alloc(), &output(rt.alloc())?)?);
     Ok(())
 }
 

@@ -65,14 +65,14 @@ fn parse(alloc: Global, text: &str) -> Result<String, ReadError> {
 
 /// How many packages the document has, once it is read.
 fn read(alloc: Global, text: &str) -> Result<String, ReadError> {
-    let metadata = of_text::<Metadata>(alloc, text)?;
+    let metadata = Box::new(alloc, of_text::<Metadata>(alloc, text)?)?;
     let packages = metadata.packages.as_slice().len();
     Ok(format!(in alloc; "{packages}")?)
 }
 
 /// The text of the document, once it is read and written.
 fn written_again(alloc: Global, text: &str) -> Result<String, ReadError> {
-    let metadata = of_text::<Metadata>(alloc, text)?;
+    let metadata = Box::new(alloc, of_text::<Metadata>(alloc, text)?)?;
     let value = metadata.to_value(alloc)?;
     Ok(value.to_string(alloc)?)
 }

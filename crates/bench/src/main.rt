@@ -24,16 +24,29 @@ const USAGE: &str =
 fn main(rt: HostRuntime) -> io::Result<ExitCode> {
     let mut words = env::args(&rt)?.skip(1);
     let (what, first, second) = (words.next(), words.next(), words.next());
-    match what.as_ref().map(|word| word.as_str()) {
-        Some("metadata") => run_metadata(&rt, first),
-        Some("workspace") => run_workspace(&rt),
-        Some("load") => run_load(&rt),
-        Some("lower") => run_lower(&rt),
-        Some("json-project") => run_json_project(&rt),
-        Some("messages") => run_messages(&rt),
-        Some("graphs") => run_graphs(&rt, first, second),
-        Some("partition") => run_partition(&rt, first, second),
-        _ => refuse(&rt),
+    run(&rt, text_of(&what), text_of(&first), text_of(&second))
+}
+
+fn text_of(word: &Option<String>) -> Option<&str> {
+    word.as_ref().map(|word| word.as_str())
+}
+
+fn run<R: Input + Print + Eprint + AllocGlobal>(
+    rt: &R,
+    what: Option<&str>,
+    first: Option<&str>,
+    second: Option<&str>,
+) -> io::Result<ExitCode> {
+    match what {
+        Some("metadata") => run_metadata(rt, first),
+        Some("workspace") => run_workspace(rt),
+        Some("load") => run_load(rt),
+        Some("lower") => run_lower(rt),
+        Some("json-project") => run_json_project(rt),
+        Some("messages") => run_messages(rt),
+        Some("graphs") => run_graphs(rt, first, second),
+        Some("partition") => run_partition(rt, first, second),
+        _ => refuse(rt),
     }
 }
 
@@ -44,9 +57,9 @@ fn refuse<R: Eprint + AllocGlobal>(rt: &R) -> io::Result<ExitCode> {
 
 fn run_metadata<R: Input + Print + Eprint + AllocGlobal>(
     rt: &R,
-    word: Option<String>,
+    word: Option<&str>,
 ) -> io::Result<ExitCode> {
-    match word.as_ref().and_then(|word| Step::of_word(word.as_str())) {
+    match word.and_then(Step::of_word) {
         Some(step) => documents::run(rt, step),
         None => refuse(rt),
     }
@@ -85,10 +98,10 @@ fn run_messages<R: Input + Print + Eprint + AllocGlobal>(rt: &R) -> io::Result<E
 /// Builds a graph, and prints how many crates its first one reaches.
 fn run_graphs<R: Print + Eprint + AllocGlobal>(
     rt: &R,
-    word: Option<String>,
-    count: Option<String>,
+    word: Option<&str>,
+    count: Option<&str>,
 ) -> io::Result<ExitCode> {
-    let Some(kind) = word.as_ref().and_then(|word| Kind::of_word(word.as_str())) else {
+    let Some(kind) = word.and_then(Kind::of_word) else {
         return refuse(rt);
     };
     match count_of(kind, count) {
@@ -98,19 +111,19 @@ fn run_graphs<R: Print + Eprint + AllocGlobal>(
 }
 
 /// How many crates a graph has: what the word says, else what is usual. Layers have one size.
-fn count_of(kind: Kind, word: Option<String>) -> Option<u32> {
+fn count_of(kind: Kind, word: Option<&str>) -> Option<u32> {
     match word {
         None => Some(kind.count()),
         Some(_) if kind == Kind::Layers => None,
-        Some(word) => word.as_str().parse::<u32>().ok(),
+        Some(word) => word.parse::<u32>().ok(),
     }
 }
 
 /// Partitions files, and prints how many the last set takes.
 fn run_partition<R: Print + Eprint + AllocGlobal>(
     rt: &R,
-    sets: Option<String>,
-    times: Option<String>,
+    sets: Option<&str>,
+    times: Option<&str>,
 ) -> io::Result<ExitCode> {
     match (number_of(sets), number_of(times)) {
         (Some(sets), Some(times)) => report(rt, partition(rt.alloc(), sets, times)),
@@ -118,8 +131,8 @@ fn run_partition<R: Print + Eprint + AllocGlobal>(
     }
 }
 
-fn number_of(word: Option<String>) -> Option<u32> {
-    word.and_then(|word| word.as_str().parse::<u32>().ok())
+fn number_of(word: Option<&str>) -> Option<u32> {
+    word.and_then(|word| word.parse::<u32>().ok())
 }
 
 /// Prints a number, or an error.

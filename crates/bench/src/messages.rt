@@ -18,7 +18,9 @@ pub fn count(alloc: Global, text: String) -> Result<usize> {
             break;
         };
         let message = message?;
-        if !matches!(&message, Message::TextLine(_)) {
+        let is_text = matches!(&message, Message::TextLine(_));
+        drop(message);
+        if !is_text {
             read = read.saturating_add(1);
         }
     }

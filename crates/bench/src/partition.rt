@@ -22,8 +22,8 @@ pub fn partition(alloc: Global, sets: u32, times: u32) -> Result<usize> {
     Ok(rest)
 }
 
-fn files(alloc: Global) -> Result<Vfs> {
-    let mut files = Vfs::new(alloc, FILES);
+fn files(alloc: Global) -> Result<Box<Vfs>> {
+    let mut files = Box::new(alloc, Vfs::new(alloc, FILES))?;
     for number in 0..FILES {
         let text = format!(in alloc; "/w/p{number}/src/lib.rs")?;
         let contents = Vec::new(alloc);

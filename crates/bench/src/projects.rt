@@ -56,7 +56,11 @@ fn count_packages(
     };
     let limits = Limits::greatest();
     match ProjectWorkspace::load(alloc, manifest, config, &limits, &ask, &mut Quiet) {
-        Ok(project) => Ok(project.n_packages()),
+        Ok(project) => {
+            let count = project.n_packages();
+            drop(project);
+            Ok(count)
+        }
         Err(error) => bail!("{error}"),
     }
 }

@@ -46,10 +46,14 @@ impl Given {
 
     // Takes what a case gives, but for the tools.
     fn read(&mut self, alloc: Global, case: Case<'_>) -> Result<(), Fault> {
-        let root = optional_path(alloc, case, "root")?;
-        self.sysroot = Sysroot::new(root, optional_path(alloc, case, "src")?);
+        self.sysroot = sysroot_of(alloc, case)?;
         self.process_env = env_of(alloc, case.list("process")?)?;
         self.extra_env = variables(alloc, case.list("extra")?)?;
+        self.read_outside(alloc, case)
+    }
+
+    // Takes the answers and the files of a case.
+    fn read_outside(&mut self, alloc: Global, case: Case<'_>) -> Result<(), Fault> {
         self.runner = runner_of(alloc, case.list("answers")?)?;
         self.tree = tree_of(alloc, case.list("files")?)?;
         Ok(())
@@ -64,6 +68,11 @@ impl Given {
             extra_env: &self.extra_env,
         }
     }
+}
+
+fn sysroot_of(alloc: Global, case: Case<'_>) -> Result<Sysroot, Fault> {
+    let root = optional_path(alloc, case, "root")?;
+    Ok(Sysroot::new(root, optional_path(alloc, case, "src")?))
 }
 
 /// The tools by their usual names.

@@ -150,8 +150,11 @@ fn resolve(alloc: Global, case: Case<'_>) -> Result<Value, Fault> {
         anchor: FileId::from_raw(anchor),
         path,
     };
-    let set = set_of(alloc, case.list("files")?)?;
-    match set.resolve_path(alloc, path)? {
+    let file = {
+        let set = set_of(alloc, case.list("files")?)?;
+        set.resolve_path(alloc, path)
+    };
+    match file? {
         Some(id) => Ok(Value::from(id.index())),
         None => Ok(Value::Null),
     }

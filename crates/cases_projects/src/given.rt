@@ -2,9 +2,9 @@
 
 ghost use Rattle.std.specs.Prelude.{◌≡◌};
 
-use crate::values::{path_of, paths_of};
+use crate::values::paths_of;
 use base_text::{Items, Limits, RecordedRunner};
-use case_lines::{optional_text, runner_of, variables};
+use case_lines::{optional_path, optional_text, runner_of, variables};
 use case_tools::usual_tools;
 use cases::{Case, Fault, number_of};
 use crate_graph::Env;
@@ -53,9 +53,7 @@ impl Given {
 /// Sets what a case configures. The rest stays as it is.
 pub fn configure(alloc: Global, case: Case<'_>, config: &mut CargoConfig) -> Result<(), Fault> {
     config.target = optional_text(alloc, case, "target")?;
-    if let Some(path) = case.optional_text("config_path") {
-        config.config_path = Some(path_of(alloc, path)?);
-    }
+    config.config_path = optional_path(alloc, case, "config_path")?;
     config.no_deps = case.flag("no_deps");
     config.set_test = case.flag("set_test");
     config.extra_env = variables(alloc, case.list("env")?)?;

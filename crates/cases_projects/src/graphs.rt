@@ -6,7 +6,7 @@ use crate::loaders::live_loader;
 use crate::values::{limit_name, with_text};
 use base_text::{Limits, RecordedRunner};
 use cases::{Case, Fault, List};
-use crate_graph::{CrateBuilder, CrateGraphBuilder};
+use crate_graph::{CrateBuilder, CrateGraphBuilder, ProcMacroPaths};
 use pm_lower::{LowerError, ProjectWorkspace, ProjectWorkspaceKind};
 use pm_sysroot::Ask;
 use serde_json::Value;
@@ -26,9 +26,19 @@ pub fn answer(
         return Err(Fault::Condition);
     };
     let mut loader = live_loader(alloc, case.list("live")?)?;
-    match project.to_crate_graph(alloc, &mut loader, limits, ask) {
-        Ok((graph, _)) => crates(alloc, &graph),
-        Err(error) => refusal(alloc, &error),
+    graph_or_refusal(
+        alloc,
+        &project.to_crate_graph(alloc, &mut loader, limits, ask),
+    )
+}
+
+fn graph_or_refusal(
+    alloc: Global,
+    lowered: &Result<(CrateGraphBuilder, ProcMacroPaths), LowerError>,
+) -> Result<Value, Fault> {
+    match lowered {
+        Ok((graph, _)) => crates(alloc, graph),
+        Err(error) => refusal(alloc, error),
     }
 }
 

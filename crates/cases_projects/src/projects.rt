@@ -64,9 +64,21 @@ fn load(
     };
     let ask = given.ask(config);
     let mut lines = Lines::new(alloc);
-    match ProjectWorkspace::load(alloc, manifest, config, &given.limits, &ask, &mut lines) {
-        Ok(project) => of_project(alloc, case, given, &ask, &project, lines),
-        Err(error) => refusal(alloc, &error),
+    let project = ProjectWorkspace::load(alloc, manifest, config, &given.limits, &ask, &mut lines);
+    project_or_refusal(alloc, case, given, &ask, &project, lines)
+}
+
+fn project_or_refusal(
+    alloc: Global,
+    case: Case<'_>,
+    given: &Given,
+    ask: &Ask<'_, RecordedRunner, MemoryTree>,
+    project: &Result<ProjectWorkspace, LoadError>,
+    lines: Lines,
+) -> Result<Value, Fault> {
+    match project {
+        Ok(project) => of_project(alloc, case, given, ask, project, lines),
+        Err(error) => refusal(alloc, error),
     }
 }
 

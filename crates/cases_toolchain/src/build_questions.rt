@@ -4,6 +4,7 @@ use crate::build_config::{command_of, config_of};
 use crate::given::given_of;
 use crate::questions::question_answer;
 use crate::workspace::workspace_of;
+use base_text::CommandLine;
 use case_lines::{absolute, line_answer};
 use case_tools::{Given, optional_version};
 use cases::{Case, Fault};
@@ -43,14 +44,19 @@ fn of_config(
     question_answer(alloc, line)
 }
 
-// The configured command in a directory, or null where there is none.
+// The configured command in a directory.
 fn of_command(alloc: Global, case: Case<'_>, given: &Given) -> Result<Value, Fault> {
     let dir = case.text("dir")?;
     let command = command_of(alloc, case)?;
     let dir = absolute(alloc, dir, "dir")?;
-    match &configured_question(alloc, &command, dir.as_path(), &given.ask()) {
-        Ok(Some(line)) => line_answer(alloc, line),
-        Ok(None) => Ok(Value::Null),
-        Err(_) => Err(Fault::OutOfMemory),
+    let line = configured_question(alloc, &command, dir.as_path(), &given.ask())?;
+    optional_line_answer(alloc, line.as_ref())
+}
+
+// The command line of a question, or null where there is none.
+fn optional_line_answer(alloc: Global, line: Option<&CommandLine>) -> Result<Value, Fault> {
+    match line {
+        Some(line) => line_answer(alloc, line),
+        None => Ok(Value::Null),
     }
 }

@@ -14,12 +14,20 @@ use std::alloc::{AllocError, Global};
 
 /// What a call on a question for metadata gives.
 pub fn answer(alloc: Global, case: Case<'_>) -> Result<Value, Fault> {
-    let call = case.text("call")?;
     let runner = runner_of(alloc, case.list("answers")?)?;
     let fetch = fetch_of(alloc, case, &runner)?;
-    match call {
+    of_fetch(alloc, case, fetch, &runner)
+}
+
+fn of_fetch(
+    alloc: Global,
+    case: Case<'_>,
+    fetch: Box<FetchMetadata>,
+    runner: &RecordedRunner,
+) -> Result<Value, Fault> {
+    match case.text("call")? {
         "FetchMetadata::new" => line_answer(alloc, fetch.question()),
-        "FetchMetadata::exec" => exec(alloc, case, fetch, &runner),
+        "FetchMetadata::exec" => exec(alloc, case, fetch, runner),
         _ => Err(Fault::Call),
     }
 }
@@ -92,7 +100,9 @@ fn fetched<P: Progress>(
     runner: &RecordedRunner,
     progress: &mut P,
 ) -> Result<Value, Fault> {
-    match &Box::into_inner(fetch).exec(alloc, locked, runner, progress) {
+    let answer = Box::into_inner(fetch).exec(alloc, locked, runner, progress);
+    let answer = Box::new(alloc, answer)?;
+    match &*answer {
         Ok((metadata, error)) => metadata_answer(alloc, metadata, error),
         Err(error) => error_answer(alloc, error),
     }

@@ -12,9 +12,13 @@ use toolchain_info::{QueryConfig, QueryError, rustc_cfg, target_data, target_tup
 
 /// What a query gives.
 pub fn answer(alloc: Global, case: Case<'_>) -> Result<Value, Fault> {
-    let (call, target) = (case.text("call")?, case.optional_text("target"));
     let given = PlacedGiven::of_case(alloc, case)?;
-    match call {
+    of_given(alloc, case, &given)
+}
+
+fn of_given(alloc: Global, case: Case<'_>, given: &PlacedGiven) -> Result<Value, Fault> {
+    let target = case.optional_text("target");
+    match case.text("call")? {
         "version::get" => versions(alloc, given.config(), &given.ask()),
         "target_tuple::get" => platforms(alloc, given.config(), target, &given.ask()),
         "target_data::get" => machines(alloc, case, given.config(), target, &given.ask()),
