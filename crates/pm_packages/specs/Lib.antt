@@ -1,3 +1,4 @@
+pub mod Copies
 pub mod Ids
 pub mod ManifestPath
 pub mod TargetKinds

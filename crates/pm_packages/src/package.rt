@@ -1,6 +1,7 @@
 //! Packages of a workspace, each under its number.
 
 ghost use Rattle.std.specs.Prelude.{◌≡◌, IfOk};
+ghost use Rattle.pm_packages.specs.Copies.{lists_of, package_of, parts_of, texts_of};
 
 use crate::manifest_path::ManifestPath;
 use crate::target::Target;
@@ -99,6 +100,18 @@ pub struct PackageData {
     pub all_member_deps: Option<Shared<Items<Package>>>,
 }
 
+// The parts that are neither lists nor texts which a manifest may leave out.
+#[derive(Drop)]
+struct Parts {
+    version: Version,
+    name: Text,
+    manifest: ManifestPath,
+    id: Shared<PackageId>,
+    rust_version: Option<Version>,
+    metadata: RustAnalyzerPackageMetaData,
+    all_member_deps: Option<Shared<Items<Package>>>,
+}
+
 // The texts that a manifest may leave out.
 #[derive(Drop)]
 struct OptionalTexts {
@@ -121,16 +134,22 @@ struct Lists {
 }
 
 impl PackageData {
+    // Copies of what it has several of.
+    fn copy_lists(&self, alloc: Global) -> Result<Lists, AllocError>
+        ensures { IfOk result (λ copies. copies ≡ lists_of self.now) }
+    {
+        Ok(Lists {
+            targets: self.targets.try_clone(alloc)?,
+            dependencies: self.dependencies.try_clone(alloc)?,
+            features: self.features.try_clone(alloc)?,
+            active_features: self.active_features.try_clone(alloc)?,
+            authors: self.authors.try_clone(alloc)?,
+        })
+    }
+
     // Copies of the texts that the manifest may leave out.
     fn copy_texts(&self, alloc: Global) -> Result<OptionalTexts, AllocError>
-        ensures { IfOk result (λ copies. copies ≡ record {
-          repository = self.now.repository;
-          description = self.now.description;
-          homepage = self.now.homepage;
-          license = self.now.license;
-          license_file = self.now.license_file;
-          readme = self.now.readme;
-        }) }
+        ensures { IfOk result (λ copies. copies ≡ texts_of self.now) }
     {
         Ok(OptionalTexts {
             repository: self.repository.try_clone(alloc)?,
@@ -142,42 +161,38 @@ impl PackageData {
         })
     }
 
-    // Copies of what the package has several of.
-    fn copy_lists(&self, alloc: Global) -> Result<Lists, AllocError>
-        ensures { IfOk result (λ copies. copies ≡ record {
-          targets = self.now.targets;
-          dependencies = self.now.dependencies;
-          features = self.now.features;
-          active_features = self.now.active_features;
-          authors = self.now.authors;
-        }) }
+    // Copies of the other parts.
+    fn copy_parts(&self, alloc: Global) -> Result<Parts, AllocError>
+        ensures { IfOk result (λ copies. copies ≡ parts_of self.now) }
     {
-        Ok(Lists {
-            targets: self.targets.try_clone(alloc)?,
-            dependencies: self.dependencies.try_clone(alloc)?,
-            features: self.features.try_clone(alloc)?,
-            active_features: self.active_features.try_clone(alloc)?,
-            authors: self.authors.try_clone(alloc)?,
+        Ok(Parts {
+            metadata: self.metadata.try_clone(alloc)?,
+            name: self.name.try_clone(alloc)?,
+            manifest: self.manifest.try_clone(alloc)?,
+            id: self.id.try_clone(alloc)?,
+            all_member_deps: self.all_member_deps.try_clone(alloc)?,
+            version: self.version.try_clone(alloc)?,
+            rust_version: self.rust_version.try_clone(alloc)?,
         })
     }
-}
 
-impl TryClone for PackageData {
-    fn try_clone(&self, alloc: Global) -> Result<Self, AllocError> {
-        let name = self.name.try_clone(alloc)?;
-        let manifest = self.manifest.try_clone(alloc)?;
-        let id = self.id.try_clone(alloc)?;
-        let metadata = self.metadata.try_clone(alloc)?;
-        let all_member_deps = self.all_member_deps.try_clone(alloc)?;
-        let version = self.version.try_clone(alloc)?;
-        let rust_version = self.rust_version.try_clone(alloc)?;
+    // Copies of the lists and of the texts.
+    fn copy_details(&self, alloc: Global) -> Result<(Lists, OptionalTexts), AllocError>
+        ensures { IfOk result (λ copies. copies ≡ (lists_of self.now, texts_of self.now)) }
+    {
         let lists = self.copy_lists(alloc)?;
-        let texts = self.copy_texts(alloc)?;
-        Ok(PackageData {
-            version,
-            name,
+        Ok((lists, self.copy_texts(alloc)?))
+    }
+
+    // A package of these copies. Its plain fields are those of this one.
+    fn with_copies(&self, parts: Parts, lists: Lists, texts: OptionalTexts) -> PackageData
+        ensures { result ≡ package_of parts lists texts self.now }
+    {
+        PackageData {
+            version: parts.version,
+            name: parts.name,
             repository: texts.repository,
-            manifest,
+            manifest: parts.manifest,
             targets: lists.targets,
             is_local: self.is_local,
             is_member: self.is_member,
@@ -185,16 +200,24 @@ impl TryClone for PackageData {
             edition: self.edition,
             features: lists.features,
             active_features: lists.active_features,
-            id,
+            id: parts.id,
             authors: lists.authors,
             description: texts.description,
             homepage: texts.homepage,
             license: texts.license,
             license_file: texts.license_file,
             readme: texts.readme,
-            rust_version,
-            metadata,
-            all_member_deps,
-        })
+            rust_version: parts.rust_version,
+            metadata: parts.metadata,
+            all_member_deps: parts.all_member_deps,
+        }
+    }
+}
+
+impl TryClone for PackageData {
+    fn try_clone(&self, alloc: Global) -> Result<Self, AllocError> {
+        let parts = self.copy_parts(alloc)?;
+        let (lists, texts) = self.copy_details(alloc)?;
+        Ok(self.with_copies(parts, lists, texts))
     }
 }
