@@ -55,10 +55,11 @@ fn add_crate(
     ensures full { IfErr result (λ e. IfTooMany e
         (length graph.old.crates ≡ graph.old.limit)) }
 {
-    let display_name = CrateDisplayName::from_canonical_name(alloc, row.target().name.as_str())?;
-    let version = version_text(alloc, row.of())?;
-    let origin = origin_of(alloc, project.workspace, row.of())?;
+    let shared = project.shared.clone()?;
     let directory = directory_of(alloc, project.workspace, row.of())?;
+    let version = version_text(alloc, row.of())?;
+    let display_name = CrateDisplayName::from_canonical_name(alloc, row.target().name.as_str())?;
+    let origin = origin_of(alloc, project.workspace, row.of())?;
     graph.add_crate_root(
         row.file(),
         row.of().edition,
@@ -71,7 +72,7 @@ fn add_crate(
         Vec::new(alloc),
         row.target().kind,
         directory,
-        project.shared.clone()?,
+        shared,
     )?;
     Ok(())
 }
