@@ -58,11 +58,11 @@ fn change_by_script(
     alloc: Global,
     outputs: &mut Outputs,
     package: Package,
-    script: BuildScript,
+    script: &mut BuildScript,
     atoms: Items<CfgAtom>,
 ) -> Result<(), BuildError>
     ensures { Leaves result outputs.new
-        (outputs_after (output_after_script script atoms) outputs.old (number_of «package»)) }
+        (outputs_after (output_after_script script.old atoms) outputs.old (number_of «package»)) }
 {
     match outputs.get_mut(package) {
         Some(output) => take_script(alloc, script, atoms, output),
@@ -154,11 +154,11 @@ impl OutputsBuilder {
         &mut self,
         alloc: Global,
         packages: &KnownPackages<'_>,
-        script: BuildScript,
+        script: &mut BuildScript,
         progress: &mut P,
     ) -> Result<(), BuildError>
-        ensures { Leaves result self.new (take_script self.old script
-            (place_of packages.now.workspace.now.packages script.package_id.repr)) }
+        ensures { Leaves result self.new (take_script self.old script.old
+            (place_of packages.now.workspace.now.packages script.old.package_id.repr)) }
     {
         let Some(package) = packages.find(&script.package_id) else {
             return Ok(());
@@ -206,8 +206,8 @@ impl OutputsBuilder {
             Message::CompilerArtifact(artifact) => {
                 self.take_artifact(alloc, packages, &artifact, progress)
             }
-            Message::BuildScriptExecuted(script) => {
-                self.take_script(alloc, packages, script, progress)
+            Message::BuildScriptExecuted(mut script) => {
+                self.take_script(alloc, packages, &mut script, progress)
             }
             Message::CompilerMessage(message) => {
                 self.take_compiler_message(alloc, &message, progress)?;

@@ -12,6 +12,7 @@ use base_text::{AbsPathBuf, CfgAtom, CfgError, Items, Text, TryClone, parse_cfg}
 use cargo_msgs::BuildScript;
 use crate_graph::Env;
 use std::alloc::{AllocError, AllocFailed, Global};
+use std::mem;
 
 /// Why some texts are no list of atoms.
 #[derive(Debug, Drop)]
@@ -92,17 +93,18 @@ fn set_directory(
     Ok(())
 }
 
-/// Takes a build script that has these atoms.
+/// Takes a build script that has these atoms. Its variables are moved.
 #[tactic(auto, unfolding(crate::specs::Script::output_after_script))]
 pub(crate) fn take_script(
     alloc: Global,
-    script: BuildScript,
+    script: &mut BuildScript,
     atoms: Items<CfgAtom>,
     output: &mut BuildScriptOutput,
 ) -> Result<(), BuildError>
-    ensures { Leaves result output.new (output_after_script script atoms output.old) }
+    ensures { Leaves result output.new (output_after_script script.old atoms output.old) }
 {
-    set_variables(&mut output.envs, script.env)?;
+    let variables = mem::replace(&mut script.env, Items::empty(alloc));
+    set_variables(&mut output.envs, variables)?;
     if script.out_dir.as_str().is_empty() {
         return Ok(());
     }

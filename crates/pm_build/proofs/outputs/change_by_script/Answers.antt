@@ -7,5 +7,5 @@ use Rattle.pm_build.proofs.outputs.change_by_script.Goals as goal
 
 pub returns-in-Some : goal.returns-in-Some
 returns-in-Some c =
-    leaves_at c.take_script.result (output_after_script c.args.script c.args.atoms) c.args.outputs.now (c.get_mut.follows.lender c.take_script.new.output) (number_of c.args.«package») c.in-Some.output.now c.take_script.new.output
+    leaves_at c.take_script.result (output_after_script c.args.script.now c.args.atoms) c.args.outputs.now (c.get_mut.follows.lender c.take_script.new.output) (number_of c.args.«package») c.in-Some.output.now c.take_script.new.output
     (sym c.get_mut.ensures.value ∙ ap option_copied_mut c.in-Some.is) (on_some c.get_mut.result c.in-Some.output _ c.in-Some.is (c.get_mut.follows.holds c.take_script.new.output)) c.take_script.ensures
