@@ -1,6 +1,6 @@
 //! A package: one manifest with its targets and what it depends on.
 
-ghost use Rattle.std.specs.Prelude.{◌≡◌, IfOk, option_map};
+ghost use Rattle.std.specs.Prelude.{◌≡◌, IfOk, OnOk, option_map};
 ghost use Rattle.cargo_meta.specs.Beside.{beside};
 ghost use Rattle.cargo_meta.specs.NewPackage.{new_package};
 
@@ -116,34 +116,95 @@ impl Package {
     }
 }
 
+impl Package {
+    // A package of copies of the four that each has. Its other fields are empty, none, or their
+    // defaults.
+    fn new_copy(&self, alloc: Global) -> Result<Package, AllocError>
+        ensures { IfOk result (λ copy. copy ≡ new_package self.now.name self.now.version self.now.id
+            self.now.manifest_path) }
+    {
+        let name = self.name.try_clone(alloc)?;
+        let id = self.id.try_clone(alloc)?;
+        let path = self.manifest_path.try_clone(alloc)?;
+        let version = self.version.try_clone(alloc)?;
+        Ok(new_package(alloc, name, version, id, path))
+    }
+
+    // Copies what the package has several of, and its edition, into another one.
+    fn copy_lists(&self, alloc: Global, to: &mut Package) -> Result<(), AllocError>
+        ensures { OnOk result (to.new ≡ record to.old {
+          authors = self.now.authors;
+          dependencies = self.now.dependencies;
+          targets = self.now.targets;
+          features = self.now.features;
+          categories = self.now.categories;
+          keywords = self.now.keywords;
+          publish = self.now.publish;
+          edition = self.now.edition;
+        }) }
+    {
+        to.edition = self.edition;
+        to.authors = self.authors.try_clone(alloc)?;
+        to.dependencies = self.dependencies.try_clone(alloc)?;
+        to.targets = self.targets.try_clone(alloc)?;
+        to.features = self.features.try_clone(alloc)?;
+        to.categories = self.categories.try_clone(alloc)?;
+        to.keywords = self.keywords.try_clone(alloc)?;
+        to.publish = self.publish.try_clone(alloc)?;
+        Ok(())
+    }
+
+    // Copies what the manifest may leave out into another package.
+    fn copy_options(&self, alloc: Global, to: &mut Package) -> Result<(), AllocError>
+        ensures { OnOk result (to.new ≡ record to.old {
+          source = self.now.source;
+          description = self.now.description;
+          license = self.now.license;
+          license_file = self.now.license_file;
+          readme = self.now.readme;
+          repository = self.now.repository;
+          homepage = self.now.homepage;
+          documentation = self.now.documentation;
+          metadata = self.now.metadata;
+          links = self.now.links;
+          default_run = self.now.default_run;
+          rust_version = self.now.rust_version;
+        }) }
+    {
+        to.source = self.source.try_clone(alloc)?;
+        to.description = self.description.try_clone(alloc)?;
+        to.license = self.license.try_clone(alloc)?;
+        to.license_file = self.license_file.try_clone(alloc)?;
+        to.readme = self.readme.try_clone(alloc)?;
+        to.repository = self.repository.try_clone(alloc)?;
+        to.homepage = self.homepage.try_clone(alloc)?;
+        to.documentation = self.documentation.try_clone(alloc)?;
+        to.metadata = self.metadata.try_clone(alloc)?;
+        to.links = self.links.try_clone(alloc)?;
+        to.default_run = self.default_run.try_clone(alloc)?;
+        to.rust_version = self.rust_version.try_clone(alloc)?;
+        Ok(())
+    }
+
+    // Copies all but the four that each package has into another one.
+    fn copy_rest(&self, alloc: Global, to: &mut Package) -> Result<(), AllocError>
+        ensures { OnOk result (to.new ≡ record self.now {
+          name = to.old.name;
+          version = to.old.version;
+          id = to.old.id;
+          manifest_path = to.old.manifest_path;
+        }) }
+    {
+        self.copy_lists(alloc, to)?;
+        self.copy_options(alloc, to)
+    }
+}
+
 impl TryClone for Package {
     fn try_clone(&self, alloc: Global) -> Result<Self, AllocError> {
-        Ok(Package {
-            name: self.name.try_clone(alloc)?,
-            version: self.version.try_clone(alloc)?,
-            authors: self.authors.try_clone(alloc)?,
-            id: self.id.try_clone(alloc)?,
-            source: self.source.try_clone(alloc)?,
-            description: self.description.try_clone(alloc)?,
-            dependencies: self.dependencies.try_clone(alloc)?,
-            license: self.license.try_clone(alloc)?,
-            license_file: self.license_file.try_clone(alloc)?,
-            targets: self.targets.try_clone(alloc)?,
-            features: self.features.try_clone(alloc)?,
-            manifest_path: self.manifest_path.try_clone(alloc)?,
-            categories: self.categories.try_clone(alloc)?,
-            keywords: self.keywords.try_clone(alloc)?,
-            readme: self.readme.try_clone(alloc)?,
-            repository: self.repository.try_clone(alloc)?,
-            homepage: self.homepage.try_clone(alloc)?,
-            documentation: self.documentation.try_clone(alloc)?,
-            edition: self.edition,
-            metadata: self.metadata.try_clone(alloc)?,
-            links: self.links.try_clone(alloc)?,
-            publish: self.publish.try_clone(alloc)?,
-            default_run: self.default_run.try_clone(alloc)?,
-            rust_version: self.rust_version.try_clone(alloc)?,
-        })
+        let mut copy = self.new_copy(alloc)?;
+        self.copy_rest(alloc, &mut copy)?;
+        Ok(copy)
     }
 }
 
