@@ -13,7 +13,7 @@ use Rattle.cargo_values.specs.declared.errors.Error.{Error}
 use Rattle.cargo_meta.specs.declared.metadata.Metadata.{Metadata}
 use Rattle.pm_config.specs.declared.metadata_config.CargoMetadataConfig.{CargoMetadataConfig}
 use Rattle.pm_config.specs.declared.tool_root.ToolRoot.{ToolRoot}
-use Rattle.pm_fetch.specs.Fetch.{Fetch, fetch_of}
+use Rattle.pm_fetch.specs.Fetch.{Fetch, fetch_by, fetch_of}
 use Rattle.pm_fetch.specs.Options.{full_options, options_of, platform_words}
 use Rattle.pm_fetch.specs.Questions.{full_question, light_question, question}
 use Rattle.pm_fetch.specs.Settings.{settings_of}
@@ -48,26 +48,27 @@ next_platform options one two targets i target is within first second =
 abbrev the_fetch : CommandLine → Bool → Result Metadata Error → Fetch
 the_fetch full no_deps light = record { full = full; no_deps = no_deps; light = light }
 
--- what is ready to be fetched, by the command that was set and limited
-pub prepared : (manifest dir : List ℕ) (config : CargoMetadataConfig) (root : ToolRoot) (no_deps : Bool) (answers : List (Question × Output))
-    (set between limited : Settings) (options : List (List ℕ)) (full : CommandLine) (light : Result Metadata Error)
-    → set ≡ settings_of manifest dir config root → options ≡ options_of manifest config
+-- what is ready to be fetched, by the command that was set and then limited
+pub prepared : (set between limited : Settings) (options : List (List ℕ)) (no_deps : Bool) (answers : List (Question × Output)) (full : CommandLine) (light : Result Metadata Error)
     → full ≡ command_of (record set { other_options = full_options options })
     → between ≡ record set { other_options = full_options options }
     → limited ≡ record between { other_options = options; no_deps = true }
     → light ≡ of_answer (command_of limited) (answer_of answers (command_of limited))
-    → ◌≡◌ {A = Fetch} (record { full = full; no_deps = no_deps; light = light }) (fetch_of manifest dir config root no_deps answers)
-prepared manifest dir config root no_deps answers set between limited options full light is_set is_options is_full is_between is_limited is_light =
+    → ◌≡◌ {A = Fetch} (record { full = full; no_deps = no_deps; light = light }) (fetch_by set options no_deps answers)
+prepared set between limited options no_deps answers full light is_full is_between is_limited is_light =
+    let line : command_of limited ≡ command_of (record set { other_options = options; no_deps = true }) =
+    ap command_of is_limited ∙ ap (λ (s : Settings). command_of (record s { other_options = options; no_deps = true })) is_between in
+    let answer = is_light ∙ ap (λ (l : CommandLine). of_answer l (answer_of answers l)) line in
+    ap (λ (f : CommandLine). the_fetch f no_deps light) is_full
+    ∙ ap (λ (l : Result Metadata Error). the_fetch (command_of (record set { other_options = full_options options })) no_deps l) answer
+
+-- and by the manifest and the configuration
+pub by_settings : (manifest dir : List ℕ) (config : CargoMetadataConfig) (root : ToolRoot) (no_deps : Bool) (answers : List (Question × Output))
+    (set : Settings) (options : List (List ℕ)) → set ≡ settings_of manifest dir config root → options ≡ options_of manifest config
+    → fetch_by set options no_deps answers ≡ fetch_of manifest dir config root no_deps answers
+by_settings manifest dir config root no_deps answers set options is_set is_options =
     let all = options_of manifest config in
-    let asked : full ≡ full_question manifest dir config root =
-    is_full ∙ ap (λ (o : List (List ℕ)). command_of (record set { other_options = full_options o })) is_options
-    ∙ ap (λ (s : Settings). command_of (record s { other_options = full_options all })) is_set
-    ∙ full_is manifest dir config root (full_options all) in
-    let line : command_of limited ≡ light_question manifest dir config root =
-    ap command_of is_limited ∙ ap (λ (s : Settings). command_of (record s { other_options = options; no_deps = true })) is_between
-    ∙ ap (λ (o : List (List ℕ)). command_of (record set { other_options = o; no_deps = true })) is_options
-    ∙ ap (λ (s : Settings). command_of (record s { other_options = all; no_deps = true })) is_set
-    ∙ light_is manifest dir config root all in
-    let answer : light ≡ of_answer (light_question manifest dir config root) (answer_of answers (light_question manifest dir config root)) =
-    is_light ∙ ap (λ (l : CommandLine). of_answer l (answer_of answers l)) line in
-    ap (λ (f : CommandLine). the_fetch f no_deps light) asked ∙ ap (λ (l : Result Metadata Error). the_fetch (full_question manifest dir config root) no_deps l) answer
+    ap (λ (s : Settings). fetch_by s options no_deps answers) is_set
+    ∙ ap (λ (o : List (List ℕ)). fetch_by (settings_of manifest dir config root) o no_deps answers) is_options
+    ∙ ap (λ (f : CommandLine). the_fetch f no_deps (fetch_by (settings_of manifest dir config root) all no_deps answers).light) (full_is manifest dir config root (full_options all))
+    ∙ ap (λ (l : CommandLine). the_fetch (full_question manifest dir config root) no_deps (of_answer l (answer_of answers l))) (light_is manifest dir config root all)

@@ -1,16 +1,18 @@
 -- What fetching metadata answers, by the answers of the runner: the full answer decides, and the light metadata stands in for one that is not ok.
-use Rattle.std.specs.Prelude.{◌≡◌, ℕ, Bool, if◌then◌else◌, List, Option, Some, None, Result, Ok, Err}
+use Rattle.std.specs.Prelude.{◌≡◌, ℕ, Bool, true, if◌then◌else◌, List, Option, Some, None, Result, Ok, Err}
 use Rattle.outside.specs.Runner.{answer_of}
 use Rattle.outside.specs.declared.command.CommandLine.{CommandLine}
 use Rattle.outside.specs.declared.command.Output.{Output}
 use Rattle.outside.specs.declared.command.Question.{Question}
 use Rattle.cargo_meta.specs.Answer as metadata
 use Rattle.cargo_meta.specs.Answer.{json_line, line_text, of_line}
+use Rattle.cargo_meta.specs.Command.{Settings, command_of}
 use Rattle.cargo_values.specs.declared.errors.Error.{Error}
 use Rattle.cargo_values.specs.declared.errors.Error.TheVariants.{CargoMetadata, Io, Json, NoJson, OutOfMemory}
 use Rattle.cargo_meta.specs.declared.metadata.Metadata.{Metadata}
 use Rattle.pm_config.specs.declared.metadata_config.CargoMetadataConfig.{CargoMetadataConfig}
 use Rattle.pm_config.specs.declared.tool_root.ToolRoot.{ToolRoot}
+use Rattle.pm_fetch.specs.Options.{full_options}
 use Rattle.pm_fetch.specs.Questions.{full_question, light_question, locked_question}
 
 -- metadata, or why there is none, and beside metadata the error of the full question, if it has one
@@ -22,6 +24,16 @@ pub record Fetch : Type 0 where
   pub full : CommandLine
   pub no_deps : Bool
   pub light : Result Metadata Error
+
+-- the same, by the settings of a command without options, and by the options
+abbrev pub fetch_by : Settings → List (List ℕ) → Bool → List (Question × Output) → Fetch
+fetch_by set options no_deps answers =
+    let line = command_of (record set { other_options = options; no_deps = true }) in
+    record {
+      full = command_of (record set { other_options = full_options options });
+      no_deps = no_deps;
+      light = metadata.of_answer line (answer_of answers line);
+    }
 
 -- the light question is answered at once
 abbrev pub fetch_of : List ℕ → List ℕ → CargoMetadataConfig → ToolRoot → Bool → List (Question × Output) → Fetch

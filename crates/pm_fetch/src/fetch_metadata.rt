@@ -5,7 +5,7 @@ ghost use Rattle.outside.specs.Runner.{answer_of};
 ghost use Rattle.cargo_meta.specs.Answer.{of_answer};
 ghost use Rattle.cargo_meta.specs.Command.{command_of};
 ghost use Rattle.base_text.specs.AbsPath.{abs_text};
-ghost use Rattle.pm_fetch.specs.Fetch.{Answers, HasOutput, fetch_answer, fetch_of};
+ghost use Rattle.pm_fetch.specs.Fetch.{Answers, HasOutput, fetch_answer, fetch_by, fetch_of};
 ghost use Rattle.pm_fetch.specs.Options.{full_options};
 ghost use Rattle.pm_fetch.specs.Questions.{locked_question};
 
@@ -58,14 +58,7 @@ impl FetchMetadata {
     {
         let options = metadata_options(alloc, cargo_toml, config)?;
         let mut command = metadata_command(alloc, cargo_toml, dir, config, tool_root)?;
-        let full = full_line(alloc, &mut command, &options)?;
-        limit_to_members(&mut command, options);
-        let light = ask(alloc, &command, runner)?;
-        Ok(FetchMetadata {
-            full,
-            no_deps,
-            light,
-        })
+        prepare(alloc, &mut command, options, no_deps, runner)
     }
 
     /// The full question, which `exec` asks, with one word more where the lockfile is kept.
@@ -108,6 +101,28 @@ impl TryClone for FetchMetadata {
             light: copy_of(alloc, &self.light)?,
         })
     }
+}
+
+// Asks the light question of a command with these options, and keeps its answer beside the full
+// question.
+fn prepare<R: Runner>(
+    alloc: Global,
+    command: &mut MetadataCommand,
+    options: Items<Text>,
+    no_deps: bool,
+    runner: &R,
+) -> Result<FetchMetadata, AllocError>
+    ensures { IfOk result (λ fetch. fetch
+        ≡ fetch_by command.old options no_deps (R.answers runner.now)) }
+{
+    let full = full_line(alloc, command, &options)?;
+    limit_to_members(command, options);
+    let light = ask(alloc, command, runner)?;
+    Ok(FetchMetadata {
+        full,
+        no_deps,
+        light,
+    })
 }
 
 // A copy of an answer.
