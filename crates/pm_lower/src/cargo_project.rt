@@ -117,6 +117,22 @@ fn printed(alloc: Global, error: Option<MetadataError>) -> Result<Option<Text>, 
     }
 }
 
+// The environment of a workspace, and the printed error beside its metadata.
+fn beside_metadata<R: Runner, T: Tree>(
+    alloc: Global,
+    file: Option<&CargoConfigFile>,
+    config: &CargoConfig,
+    error: Option<MetadataError>,
+    ask: &Ask<'_, R, T>,
+) -> Result<(Env, Option<Text>), AllocError>
+    ensures env { IfOk result (λ made. made.0 ≡ spec.environment (option_copied file.entry)
+        config.now (means_of R.answers T.files ask.now)) }
+    ensures error { IfOk result (λ made. made.1 ≡ option_map error_text error) }
+{
+    let error = printed(alloc, error)?;
+    Ok((environment(alloc, file, config, ask)?, error))
+}
+
 // What a project keeps of its configuration.
 #[derive(Drop)]
 struct Settings {
@@ -154,8 +170,7 @@ fn kind_with<R: Runner, T: Tree>(
         (means_of R.answers T.files ask.now) fetched) }
 {
     let (metadata, error) = fetched;
-    let env = environment(alloc, answers.config_file.as_ref(), config, ask)?;
-    let error = printed(alloc, error)?;
+    let (env, error) = beside_metadata(alloc, answers.config_file.as_ref(), config, error, ask)?;
     let cargo = CargoWorkspace::new(alloc, metadata, manifest, env, false, limits)?;
     Ok(ProjectWorkspaceKind::Cargo {
         cargo,
