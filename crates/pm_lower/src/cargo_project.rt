@@ -217,15 +217,20 @@ fn project_with<R: Runner, T: Tree>(
     sysroot: Sysroot,
     manifest: ManifestPath,
     config: &CargoConfig,
+    settings: Settings,
     answers: ToolAnswers,
     limits: &Limits,
     fetched: (Metadata, Option<MetadataError>),
     ask: &Ask<'_, R, T>,
 ) -> Result<ProjectWorkspace, LoadError>
+    requires { settings ≡ record {
+      cfg_overrides = config.now.cfg_overrides;
+      extra_includes = config.now.extra_includes;
+      set_test = config.now.set_test;
+    } }
     ensures { Gives result (spec.project_with sysroot manifest config.now answers limits.now
         (means_of R.answers T.files ask.now) fetched) }
 {
-    let settings = settings_of(alloc, config)?;
     let kind = kind_with(alloc, manifest, config, &answers, limits, fetched, ask)?;
     Ok(project_of(sysroot, settings, answers, kind))
 }
@@ -244,10 +249,11 @@ fn located_project<R: Runner, T: Tree, P: Progress>(
     ensures { Gives result (spec.located_project sysroot manifest config.now limits.now
         (means_of R.answers T.files ask.now)) }
 {
+    let settings = settings_of(alloc, config)?;
     let answers = ask_tools(alloc, &sysroot, &manifest, config, ask)?;
     let fetched = fetch(alloc, &sysroot, &manifest, config, &answers, ask, progress)?;
     project_with(
-        alloc, sysroot, manifest, config, answers, limits, fetched, ask,
+        alloc, sysroot, manifest, config, settings, answers, limits, fetched, ask,
     )
 }
 

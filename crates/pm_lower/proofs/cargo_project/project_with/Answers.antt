@@ -7,7 +7,7 @@ use Rattle.pm_lower.proofs.cargo_project.project_with.Goals as goal
 
 pub returns-in_err-kind : goal.returns-in_err-kind
 returns-in_err-kind g c =
-    let p = err_from_is_err_and c.from_residual-in_err-kind.result c.from_residual-in_err-kind.ensures.1 in
+    let p = err_from_is_err_and c.from_residual.result c.from_residual.ensures.1 in
     rw (p.1, p.2) (project-refused c.args.sysroot c.args.manifest c.args.config.now c.args.limits.now (means_of g.R.Runner.answers g.T.Tree.files c.args.ask.now)
     c.args.answers c.args.fetched c.in_err-kind.field-0.0 c.in_err-kind.ensures)
 
@@ -23,4 +23,4 @@ returns g c =
       cfg_overrides = s.cfg_overrides;
       extra_includes = s.extra_includes;
       set_test = s.set_test;
-    }) c.in_ok-settings.ensures)
+    }) c.requires)
