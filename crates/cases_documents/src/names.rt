@@ -14,10 +14,6 @@ use std::fmt;
 /// What a call on a name, a kind or an error gives.
 pub fn answer(alloc: Global, case: Case<'_>) -> Result<Value, Fault> {
     match case.text("call")? {
-        "PackageName" => package_name(alloc, case.text("text")?, case.text("other")?),
-        "FeatureName" => feature_name(alloc, case.text("text")?, case.text("other")?),
-        "PackageId" => id(alloc, case.text("text")?, case.text("other")?),
-        "Source" => source(alloc, case.text("text")?),
         "DependencyKind" => kind::<DependencyKind>(alloc, case.find("document")),
         "Edition" => kind::<Edition>(alloc, case.find("document")),
         "WorkspaceDefaultMembers" => default_members(alloc, case.flag("told")),
@@ -26,6 +22,24 @@ pub fn answer(alloc: Global, case: Case<'_>) -> Result<Value, Fault> {
             case.text("error")?,
             case.optional_text("text").unwrap_or(""),
         ),
+        call => of_text(alloc, case, call, case.text("text")?),
+    }
+}
+
+// What a call on a text gives.
+fn of_text(alloc: Global, case: Case<'_>, call: &str, text: &str) -> Result<Value, Fault> {
+    match call {
+        "Source" => source(alloc, text),
+        _ => of_two(alloc, call, text, case.text("other")?),
+    }
+}
+
+// What a call on a text and another gives.
+fn of_two(alloc: Global, call: &str, text: &str, other: &str) -> Result<Value, Fault> {
+    match call {
+        "PackageName" => package_name(alloc, text, other),
+        "FeatureName" => feature_name(alloc, text, other),
+        "PackageId" => id(alloc, text, other),
         _ => Err(Fault::Call),
     }
 }

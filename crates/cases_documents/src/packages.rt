@@ -85,7 +85,9 @@ pub fn refusal(alloc: Global, error: &Error) -> Result<Value, Fault> {
 }
 
 fn target(alloc: Global, case: Case<'_>) -> Result<Value, Fault> {
-    match &Target::of_value(alloc, case.member("document")?) {
+    let reading = Target::of_value(alloc, case.member("document")?);
+    let reading = Box::new(alloc, reading)?;
+    match &*reading {
         Ok(target) => target_answer(alloc, case, target),
         Err(error) => refusal(alloc, error),
     }

@@ -108,7 +108,7 @@ fn next_answer(
     alloc: Global,
     messages: &mut MessageIter<FaultSource>,
 ) -> Result<Option<Value>, Fault> {
-    let item = messages.next();
+    let item = Box::new(alloc, messages.next())?;
     item_answer(alloc, &item)
 }
 
@@ -153,8 +153,12 @@ impl Counts {
 }
 
 // Counts the next item, and says whether there was one.
-fn count_next(messages: &mut MessageIter<FaultSource>, counts: &mut Counts) -> Result<bool, Fault> {
-    let item = messages.next();
+fn count_next(
+    alloc: Global,
+    messages: &mut MessageIter<FaultSource>,
+    counts: &mut Counts,
+) -> Result<bool, Fault> {
+    let item = Box::new(alloc, messages.next())?;
     counts.add(&item)
 }
 
@@ -165,7 +169,7 @@ fn count(alloc: Global, messages: &mut MessageIter<FaultSource>) -> Result<Value
         faults: 0,
     };
     for _ in 0..u64::MAX {
-        if !count_next(messages, &mut counts)? {
+        if !count_next(alloc, messages, &mut counts)? {
             break;
         }
     }
