@@ -5,7 +5,7 @@ ghost use Rattle.pm_lower.specs.ToRoots.{KindHasNoRustc};
 use crate::given::{Given, configure};
 use crate::graphs;
 use crate::values::{limit_name, manifest_of, paths_answer, roots_answer, with_text};
-use base_text::{CfgAtom, Items, RecordedRunner, Version, write_cfg};
+use base_text::{CfgAtom, Items, RecordedRunner, Text, Version, write_cfg};
 use case_tools::Lines;
 use cases::{Case, Fault, List, error_answer, optional_answer, text_answer};
 use crate_graph::Env;
@@ -65,6 +65,7 @@ fn load(
     let ask = given.ask(config);
     let mut lines = Lines::new(alloc);
     let project = ProjectWorkspace::load(alloc, manifest, config, &given.limits, &ask, &mut lines);
+    let project = Box::new(alloc, project)?;
     project_or_refusal(alloc, case, given, &ask, &project, lines)
 }
 
@@ -105,7 +106,7 @@ fn asked(alloc: Global, question: &str, project: &ProjectWorkspace) -> Result<Va
         "summary" => summary(alloc, project),
         "names" => names(alloc, cargo),
         "roots" => roots(alloc, project),
-        "error" => optional_answer(alloc, error.as_ref().map(|text| text.as_str())),
+        "error" => optional_answer(alloc, error.as_ref().map(Text::as_str)),
         "env" => env_answer(alloc, cargo.env()),
         "cfgs" => cfgs_answer(alloc, &project.rustc_cfg),
         "toolchain" => version_answer(alloc, project.toolchain.as_ref()),

@@ -1,7 +1,7 @@
 //! What a workspace is asked: by paths, by the names of its packages and by their features.
 
 use crate::values::manifest_of;
-use base_text::AbsPathBuf;
+use base_text::{AbsPath, AbsPathBuf};
 use cases::{Case, Fault, List, number_of};
 use pm_cargo::{CargoWorkspace, ManifestPath, Package};
 use serde_json::Value;
@@ -83,7 +83,7 @@ fn directories(alloc: Global, workspace: &CargoWorkspace) -> Result<Value, Fault
     List::new(alloc)
         .text(workspace.workspace_root().as_str())
         .text(workspace.target_directory().as_str())
-        .optional(build.map(|directory| directory.as_str()))
+        .optional(build.map(AbsPath::as_str))
         .answer()
 }
 
