@@ -109,8 +109,13 @@ fn origin_of(text: &str) -> Result<CrateOrigin, Fault> {
 
 fn origins_ascend(text: &str, other: &str) -> Result<Value, Fault> {
     let origin = origin_of(text)?;
+    is_before(&origin, other)
+}
+
+// Whether an origin comes before that of a text.
+fn is_before(origin: &CrateOrigin, other: &str) -> Result<Value, Fault> {
     let other = origin_of(other)?;
-    Ok(Value::from(origin < other))
+    Ok(Value::from(*origin < other))
 }
 
 // Whether an origin is local, a library, or of the language.

@@ -42,7 +42,7 @@ fn insertions(alloc: Global, values: &[Value]) -> Result<Value, Fault> {
 fn insert(alloc: Global, env: &mut Env, value: &Value) -> Result<Value, Fault> {
     let (name, value) = pair(alloc, value)?;
     let old = env.insert(name, value)?;
-    optional_answer(alloc, old.as_ref().map(|old| old.as_str()))
+    optional_answer(alloc, old.as_ref().map(String::as_str))
 }
 
 fn env_of(alloc: Global, values: &[Value]) -> Result<Env, Fault> {
