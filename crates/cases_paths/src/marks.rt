@@ -13,7 +13,7 @@ pub fn answer(alloc: Global, case: Case<'_>) -> Result<Value, Fault> {
     let path = vfs_path(alloc, case.text("path")?, false)?;
     let marks = marks_of(alloc, case.list("marks")?)?;
     let text = live_text(marks.as_slice(), &path);
-    optional_answer(alloc, text.map(|text| text.as_str()))
+    optional_answer(alloc, text.map(Text::as_str))
 }
 
 fn marks_of(alloc: Global, given: &[Value]) -> Result<Vec<Mark>, Fault> {

@@ -1,6 +1,6 @@
 //! Absolute paths.
 
-use base_text::{AbsPath, AbsPathBuf, PathError};
+use base_text::{AbsPath, AbsPathBuf, PathError, RelPath};
 use cases::{Case, Fault, List, error_answer, optional_answer, text_answer};
 use serde_json::Value;
 use std::alloc::Global;
@@ -60,7 +60,7 @@ fn absolutize(alloc: Global, path: AbsPath<'_>, tail: &str) -> Result<Value, Fau
 
 fn parent(alloc: Global, path: AbsPath<'_>) -> Result<Value, Fault> {
     let parent = path.parent();
-    optional_answer(alloc, parent.map(|parent| parent.as_str()))
+    optional_answer(alloc, parent.map(AbsPath::as_str))
 }
 
 // What a call of a path and another gives.
@@ -78,7 +78,7 @@ fn of_two(alloc: Global, call: &str, path: AbsPath<'_>, other: &str) -> Result<V
 
 fn rest(alloc: Global, path: AbsPath<'_>, front: AbsPath<'_>) -> Result<Value, Fault> {
     let rest = path.strip_prefix(front);
-    optional_answer(alloc, rest.map(|rest| rest.as_str()))
+    optional_answer(alloc, rest.map(RelPath::as_str))
 }
 
 /// An absolute path, which the text has to be.

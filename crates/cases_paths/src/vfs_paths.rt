@@ -1,7 +1,7 @@
 //! Paths of the virtual file system, real and virtual ones.
 
 use crate::paths::order_answer;
-use base_text::{AbsPathBuf, PathError};
+use base_text::{AbsPath, AbsPathBuf, PathError, RelPath};
 use cases::{Case, Fault, List, error_answer, optional_answer, text_answer};
 use serde_json::Value;
 use std::alloc::{AllocError, Global};
@@ -99,7 +99,7 @@ fn join(alloc: Global, path: &VfsPath, tail: &str) -> Result<Value, Fault> {
 
 fn as_path(alloc: Global, path: &VfsPath) -> Result<Value, Fault> {
     let real = path.as_path();
-    optional_answer(alloc, real.map(|path| path.as_str()))
+    optional_answer(alloc, real.map(AbsPath::as_str))
 }
 
 // The last component's name and its extension.
@@ -123,5 +123,5 @@ fn of_two(alloc: Global, case: Case<'_>, call: &str, path: &VfsPath) -> Result<V
 
 fn rest(alloc: Global, path: &VfsPath, front: &VfsPath) -> Result<Value, Fault> {
     let rest = path.strip_prefix(front);
-    optional_answer(alloc, rest.map(|rest| rest.as_str()))
+    optional_answer(alloc, rest.map(RelPath::as_str))
 }
