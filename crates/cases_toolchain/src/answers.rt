@@ -11,17 +11,28 @@ use toolchain_answers::{TargetSpec, atoms_of, host_of, spec_of, version_behind};
 pub fn answer(alloc: Global, case: Case<'_>) -> Result<Value, Fault> {
     let text = case.text("text")?;
     match case.text("call")? {
-        "version_behind" => {
-            let version = version_behind(alloc, case.text("front")?, text)?;
-            version_answer(alloc, version.as_ref())
-        }
+        "version_behind" => version(alloc, case.text("front")?, text),
         "host_of" => optional_answer(alloc, host_of(text)),
-        "atoms_of" => atoms_answer(alloc, atoms_of(alloc, text)?.as_slice()),
-        "spec_of" => match &spec_of(alloc, text)? {
-            Some(spec) => specification_answer(alloc, spec),
-            None => Ok(Value::Null),
-        },
+        "atoms_of" => atoms(alloc, text),
+        "spec_of" => specification(alloc, text),
         _ => Err(Fault::Call),
+    }
+}
+
+fn version(alloc: Global, front: &str, text: &str) -> Result<Value, Fault> {
+    let version = version_behind(alloc, front, text)?;
+    version_answer(alloc, version.as_ref())
+}
+
+fn atoms(alloc: Global, text: &str) -> Result<Value, Fault> {
+    let atoms = atoms_of(alloc, text)?;
+    atoms_answer(alloc, atoms.as_slice())
+}
+
+fn specification(alloc: Global, text: &str) -> Result<Value, Fault> {
+    match &spec_of(alloc, text)? {
+        Some(spec) => specification_answer(alloc, spec),
+        None => Ok(Value::Null),
     }
 }
 

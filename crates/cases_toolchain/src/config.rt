@@ -15,28 +15,38 @@ use std::alloc::{AllocError, Global};
 /// What a call on a configuration gives.
 pub fn answer(alloc: Global, case: Case<'_>) -> Result<Value, Fault> {
     match case.text("call")? {
-        "lockfile_usage" => usage(alloc, &version_of(alloc, case.text("version")?)?),
-        "needs_json_flag" => {
-            let target = case.text("target")?;
-            let version = version_of(alloc, case.text("version")?)?;
-            Ok(Value::from(needs_json_flag(target, Some(&version))))
-        }
+        "lockfile_usage" => usage(alloc, case.text("version")?),
+        "needs_json_flag" => needs_flag(alloc, case.text("target")?, case.text("version")?),
         "TargetDirectoryConfig::target_dir" => target_dir(alloc, case),
-        "CfgOverrides::len" => Ok(Value::from(overrides_of(alloc, case)?.len() as u64)),
+        "CfgOverrides::len" => count(alloc, case),
         "CfgOverrides::apply" => apply(alloc, case),
         "new" => is_default(alloc),
         _ => Err(Fault::Call),
     }
 }
 
-fn usage(alloc: Global, version: &Version) -> Result<Value, Fault> {
-    let name = match lockfile_usage(version) {
+fn usage(alloc: Global, version: &str) -> Result<Value, Fault> {
+    let version = version_of(alloc, version)?;
+    optional_answer(alloc, usage_name(&version))
+}
+
+fn usage_name(version: &Version) -> Option<&'static str> {
+    match lockfile_usage(version) {
         Some(LockfileUsage::WithFlag) => Some("WithFlag"),
         Some(LockfileUsage::WithEnvVarUnstable) => Some("WithEnvVarUnstable"),
         Some(LockfileUsage::WithEnvVar) => Some("WithEnvVar"),
         None => None,
-    };
-    optional_answer(alloc, name)
+    }
+}
+
+fn needs_flag(alloc: Global, target: &str, version: &str) -> Result<Value, Fault> {
+    let version = version_of(alloc, version)?;
+    Ok(Value::from(needs_json_flag(target, Some(&version))))
+}
+
+fn count(alloc: Global, case: Case<'_>) -> Result<Value, Fault> {
+    let overrides = overrides_of(alloc, case)?;
+    Ok(Value::from(overrides.len() as u64))
 }
 
 fn target_dir(alloc: Global, case: Case<'_>) -> Result<Value, Fault> {

@@ -3,7 +3,7 @@
 use crate::answers::atoms_answer;
 use crate::environments::env_answer;
 use crate::workspace::workspace_of;
-use base_text::{Output, TryClone};
+use base_text::{AbsPathBuf, Output, TryClone};
 use case_lines::output_of;
 use case_tools::Lines;
 use cases::{Case, Fault, List, Object, text_answer};
@@ -26,12 +26,21 @@ pub fn answer(alloc: Global, case: Case<'_>) -> Result<Value, Fault> {
 fn read(alloc: Global, workspace: &CargoWorkspace, output: &Output) -> Result<Value, Fault> {
     let mut lines = Lines::new(alloc);
     let loud = WorkspaceBuildScripts::of_output(alloc, workspace, output, &mut lines);
-    let quiet = WorkspaceBuildScripts::of_output(alloc, workspace, output, &mut Quiet);
-    if loud == quiet {
+    if is_read_quietly(alloc, workspace, output, &loud) {
         given_answer(alloc, workspace, &loud, lines)
     } else {
         Err(Fault::Condition)
     }
+}
+
+// Whether a build that is read quietly gives the same.
+fn is_read_quietly(
+    alloc: Global,
+    workspace: &CargoWorkspace,
+    output: &Output,
+    loud: &Result<WorkspaceBuildScripts, BuildError>,
+) -> bool {
+    WorkspaceBuildScripts::of_output(alloc, workspace, output, &mut Quiet) == *loud
 }
 
 /// What a build gives, with its lines of progress, each of which was kept.
@@ -88,7 +97,7 @@ fn output_answer(alloc: Global, output: Option<&BuildScriptOutput>) -> Result<Va
         Some(output) => Object::new(alloc)
             .member("cfgs", atoms_answer(alloc, output.cfgs.as_slice()))
             .member("envs", env_answer(alloc, &output.envs))
-            .optional("out_dir", output.out_dir.as_ref().map(|dir| dir.as_str()))
+            .optional("out_dir", output.out_dir.as_ref().map(AbsPathBuf::as_str))
             .member("dylib", dylib_answer(alloc, &output.proc_macro_dylib_path))
             .answer(),
         None => Ok(Value::Null),

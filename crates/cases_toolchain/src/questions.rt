@@ -13,17 +13,20 @@ use std::alloc::{AllocError, Global};
 
 /// What a call that asks gives.
 pub fn answer(alloc: Global, case: Case<'_>) -> Result<Value, Fault> {
-    let call = case.text("call")?;
     let given = given_of(alloc, case)?;
-    match call {
+    of_given(alloc, case, &given)
+}
+
+fn of_given(alloc: Global, case: Case<'_>, given: &Given) -> Result<Value, Fault> {
+    match case.text("call")? {
         "Sysroot" => sysroot(alloc, &given.sysroot),
-        "Sysroot::tool" => tool(alloc, case, &given),
-        "Sysroot::question" => question(alloc, case, &given),
-        "Sysroot::tool_path" => tool_path(alloc, case, &given),
-        "Sysroot::tool_path_question" => tool_path_question(alloc, case, &given),
-        "serving_answer" => serving(alloc, case, &given),
-        "config_question" => question_of_config(alloc, case, &given),
-        "CargoConfigFile::load" => load(alloc, case, &given),
+        "Sysroot::tool" => tool(alloc, case, given),
+        "Sysroot::question" => question(alloc, case, given),
+        "Sysroot::tool_path" => tool_path(alloc, case, given),
+        "Sysroot::tool_path_question" => tool_path_question(alloc, case, given),
+        "serving_answer" => serving(alloc, case, given),
+        "config_question" => question_of_config(alloc, case, given),
+        "CargoConfigFile::load" => load(alloc, case, given),
         _ => Err(Fault::Call),
     }
 }
