@@ -1,8 +1,9 @@
-//! Cases of crate_graph: what a crate is made of, and graphs of crates.
+//! Cases of what a crate is made of, of graphs of crates, and of databases that hold them.
 #![tactic(auto)]
 
 mod closure;
 mod crates;
+mod database;
 mod edges;
 mod envs;
 mod graphs;
@@ -13,7 +14,7 @@ use serde_json::Value;
 use std::io;
 use std::process::ExitCode;
 
-/// The calls of crate_graph.
+/// The calls of crate_graph, input_db and pages.
 struct GraphFamily;
 
 impl<R: AllocGlobal> Family<R> for GraphFamily {
@@ -22,7 +23,7 @@ impl<R: AllocGlobal> Family<R> for GraphFamily {
             "crates.jsonl" => crates::answer(rt.alloc(), case),
             "envs.jsonl" => envs::answer(rt.alloc(), case),
             "graphs.jsonl" => graphs::answer(rt.alloc(), case),
-            _ => Err(Fault::Kind),
+            _ => database::answer(rt.alloc(), file, case),
         }
     }
 }

@@ -1,9 +1,9 @@
 //! The question by which a workspace is built.
 
-use crate::build_config::{command_of, config_of};
-use crate::given::given_of;
-use crate::questions::question_answer;
-use crate::workspace::workspace_of;
+use crate::toolchain::build_config::{command_of, config_of};
+use crate::toolchain::given::given_of;
+use crate::toolchain::questions::question_answer;
+use crate::toolchain::workspace::workspace_of;
 use base_text::CommandLine;
 use case_lines::{absolute, line_answer};
 use case_tools::{Given, optional_version};

@@ -1,7 +1,7 @@
 //! The environments that configurations give.
 
-use crate::given::given_of;
-use crate::origins::text_of_lines;
+use crate::toolchain::given::given_of;
+use crate::toolchain::origins::text_of_lines;
 use cases::{Case, Fault, List};
 use crate_values::Env;
 use pm_tools::{CargoConfigFile, cargo_config_env};

@@ -1,8 +1,8 @@
 //! What a build's output gives packages.
 
-use crate::answers::atoms_answer;
-use crate::environments::env_answer;
-use crate::workspace::workspace_of;
+use crate::toolchain::answers::atoms_answer;
+use crate::toolchain::environments::env_answer;
+use crate::toolchain::workspace::workspace_of;
 use base_text::{AbsPathBuf, Output, TryClone};
 use case_lines::output_of;
 use case_tools::Lines;

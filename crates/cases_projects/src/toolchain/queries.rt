@@ -1,7 +1,7 @@
 //! What is known of a toolchain by the answers of its tools.
 
-use crate::answers::{atoms_answer, machine_answer, version_answer};
-use crate::placed_given::PlacedGiven;
+use crate::toolchain::answers::{atoms_answer, machine_answer, version_answer};
+use crate::toolchain::placed_given::PlacedGiven;
 use base_text::TryClone;
 use case_lines::texts_answer;
 use case_tools::{CaseAsk, optional_version};

@@ -1,6 +1,6 @@
 //! Questions to the tools of a toolchain, and what is made of their answers.
 
-use crate::given::{given_of, tool_of};
+use crate::toolchain::given::{given_of, tool_of};
 use base_text::{AbsPath, AbsPathBuf, CommandLine, Text, TryClone};
 use case_lines::{line_answer, line_of, optional_path};
 use case_tools::{Given, env_of, manifest_of};

@@ -1,7 +1,7 @@
 //! What is asked of the crates of a database: which are in a source root, which reach one, and the channel of a toolchain.
 
-use crate::changes::make_given;
-use crate::graphs::store_one;
+use crate::database::changes::make_given;
+use crate::database::graphs::store_one;
 use base_text::FileId;
 use cases::{Case, Fault, List, Object, file_number_of, number_of, optional_answer};
 use crate_graph::ReleaseChannel;

@@ -1,6 +1,6 @@
 //! What is configured, and what versions allow.
 
-use crate::answers::atoms_answer;
+use crate::toolchain::answers::atoms_answer;
 use base_text::{ByText, CfgAtom, CfgDiff, CfgOptions, Items, Text, TryClone, Version, parse_cfg};
 use case_lines::{optional_path, texts, variables};
 use case_tools::{features_of, optional_version, version_of};

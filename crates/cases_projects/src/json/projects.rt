@@ -1,7 +1,7 @@
 //! Projects on a base: their crates, and what they are asked.
 
-use crate::crates::{build_answer, crate_answer, paths_answer};
-use crate::documents::refusal;
+use crate::json::crates::{build_answer, crate_answer, paths_answer};
+use crate::json::documents::refusal;
 use base_text::{AbsPath, AbsPathBuf, Limits, PathError, TryClone};
 use cases::{Case, Fault, List, Object, error_answer, text_answer, text_of};
 use json_fields::TextJson;

@@ -1,9 +1,9 @@
 //! Builds of workspaces: the question, and what its recorded answer gives.
 
-use crate::build_config::config_of;
-use crate::given::given_of;
-use crate::outputs::given_answer;
-use crate::workspace::workspace_of;
+use crate::toolchain::build_config::config_of;
+use crate::toolchain::given::given_of;
+use crate::toolchain::outputs::given_answer;
+use crate::toolchain::workspace::workspace_of;
 use case_tools::{Given, Lines, optional_version};
 use cases::{Case, Fault};
 use pm_build::WorkspaceBuildScripts;
