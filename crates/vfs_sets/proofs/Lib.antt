@@ -6,4 +6,5 @@ pub mod PlaceLemmas
 pub mod ProbeLemmas
 pub mod RootLemmas
 pub mod RootMapLemmas
+pub mod RowLemmas
 pub mod SiblingLemmas

@@ -1,5 +1,5 @@
 -- The set that the longest prefix among the roots gives is the place of a path.
-use Rattle.std.proofs.Common.{◌≡◌, ℕ, zero, suc, ◌+◌, ◌<◌, ◌≤◌, Bool, true, false, ◌&&◌, ◌||◌, ◌-◌, List, [], ◌∷◌, Option, Some, None}
+use Rattle.std.proofs.Common.{◌≡◌, ℕ, zero, suc, ◌+◌, ◌<◌, ◌≤◌, Bool, true, false, ◌||◌, ◌-◌, List, [], ◌∷◌, Option, Some, None}
 use Rattle.std.proofs.Common.{ap, arith, cond, Contains, get_or, length, nat_eq, nat_lt, refl, subst, sym, take, true≢false, ◌∙◌, Vec}
 use Rattle.std.proofs.lemmas.Bool.{and_parts, or_left, or_right}
 use Rattle.std.proofs.lemmas.Bool.Decides.{nat_tests}

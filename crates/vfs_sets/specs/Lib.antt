@@ -4,3 +4,5 @@ pub mod Placement
 pub mod Probes
 pub mod RootMaps
 pub mod Roots
+pub mod Rows
+pub mod SetContent

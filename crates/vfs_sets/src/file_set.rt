@@ -1,14 +1,15 @@
-//! A set of files: the file of each path, and the path of each file.
+//! A set of files: the file of each path, and the path of each file. Few files are kept as rows, more of them in maps.
 
 ghost use Rattle.std.specs.Prelude.{◌≡◌, IfOk, OnErr, OnOk, length};
 ghost use Rattle.std.specs.Map.{keys_of};
 ghost use Rattle.std.specs.Map.Iter.{ShowsInOrder};
 ghost use Rattle.std.specs.Option.{option_copied};
-ghost use Rattle.vfs_sets.specs.FileSet.{sibling_path, empty_set, file_at, number_shown, path_of, resolved_file, with_file};
+ghost use Rattle.vfs_sets.specs.FileSet.{sibling_path, empty_set, file_at, number_shown, path_of, resolved_file, set_of, with_file};
 
+use crate::file_maps::FileMaps;
+use crate::file_rows::FileRows;
 use crate::file_set_iter::FileSetIter;
-use base_text::{TryClone, copy_entries};
-use indexmap::IndexMap;
+use base_text::TryClone;
 use std::alloc::{AllocError, Global};
 use std::marker::Model;
 use vfs_core::{AnchoredPath, FileId, VfsPath};
@@ -17,16 +18,23 @@ use vfs_core::{AnchoredPath, FileId, VfsPath};
 #[derive(Debug, Drop)]
 pub struct FileSet {
     alloc: Global,
-    files: IndexMap<VfsPath, FileId>,
-    paths: IndexMap<FileId, VfsPath>,
+    content: Content,
+}
+
+/// Most sets have few files, so a set begins with rows. It has maps from the first file on that does not fit there.
+#[derive(Debug, Drop)]
+enum Content {
+    Few(FileRows),
+    Many(Box<FileMaps>),
 }
 
 impl Model for FileSet {
     ghost use Rattle.vfs_sets.specs.FileSet.{FileSetContent};
+    ghost use Rattle.vfs_sets.specs.SetContent.{content_of};
 
     ghost Value = { FileSetContent };
 
-    ghost view = { λ a. record { files = a.files.entries; paths = a.paths.entries } };
+    ghost view = { λ a. content_of a.content };
 }
 
 impl FileSet {
@@ -35,8 +43,7 @@ impl FileSet {
     {
         FileSet {
             alloc,
-            files: IndexMap::new(alloc),
-            paths: IndexMap::new(alloc),
+            content: Content::Few(FileRows::new(alloc)),
         }
     }
 
@@ -44,7 +51,10 @@ impl FileSet {
     pub fn len(&self) -> usize
         ensures { result ≡ length self.now.files }
     {
-        self.files.len()
+        match &self.content {
+            Content::Few(rows) => rows.len(),
+            Content::Many(maps) => maps.len(),
+        }
     }
 
     /// Puts a file at a path. What either had before is overwritten, and a file keeps its place in the order.
@@ -52,32 +62,37 @@ impl FileSet {
         ensures ok { OnOk result (self.new ≡ with_file self.old file_id path) }
         ensures err { OnErr result (self.new ≡ self.old) }
     {
-        let copy = path.try_clone(self.alloc)?;
-        self.files.reserve(1)?;
-        self.paths.reserve(1)?;
-        match self.files.insert(copy, file_id) {
-            Ok(_) => {}
-            Err(_) => unreachable!(),
+        match &mut self.content {
+            Content::Few(rows) => {
+                if rows.has_room_for(file_id, &path) {
+                    return rows.push(file_id, path);
+                }
+                let maps = maps_with(self.alloc, rows.as_slice(), file_id, path)?;
+                self.content = Content::Many(maps);
+                Ok(())
+            }
+            Content::Many(maps) => maps.insert(self.alloc, file_id, path),
         }
-        match self.paths.insert(file_id, path) {
-            Ok(_) => {}
-            Err(_) => unreachable!(),
-        }
-        Ok(())
     }
 
     /// The file at a path.
     pub fn file_for_path(&self, path: &VfsPath) -> Option<&FileId>
         ensures { option_copied result ≡ file_at self.now path.now }
     {
-        self.files.get(path)
+        match &self.content {
+            Content::Few(rows) => rows.file_at(path),
+            Content::Many(maps) => maps.file_at(path),
+        }
     }
 
     /// The path of a file.
     pub fn path_for_file(&self, file: &FileId) -> Option<&VfsPath>
         ensures { option_copied result ≡ path_of self.now file.now }
     {
-        self.paths.get(file)
+        match &self.content {
+            Content::Few(rows) => rows.path_of(file),
+            Content::Many(maps) => maps.path_of(file),
+        }
     }
 
     /// The file at a path that is relative to one of the set.
@@ -100,13 +115,13 @@ impl FileSet {
     ) -> Result<Option<FileId>, AllocError>
         ensures { IfOk result (λ file. file ≡ resolved_file self.now anchor tail.now) }
     {
-        match self.paths.get(&anchor) {
+        match self.path_for_file(&anchor) {
             None => Ok(None),
             Some(base) => {
                 let joined = sibling_path(alloc, base, tail)?;
                 match joined {
                     None => Ok(None),
-                    Some(path) => Ok(self.files.get(&path).copied()),
+                    Some(path) => Ok(self.file_for_path(&path).copied()),
                 }
             }
         }
@@ -117,19 +132,20 @@ impl FileSet {
         ensures rest { result ≡ keys_of self.now.paths }
         ensures runs { ShowsInOrder number_shown }
     {
-        FileSetIter::new(self.paths.iter())
+        match &self.content {
+            Content::Few(rows) => FileSetIter::of_rows(rows.as_slice()),
+            Content::Many(maps) => FileSetIter::of_entries(maps.iter()),
+        }
     }
 }
 
 impl TryClone for FileSet {
     fn try_clone(&self, alloc: Global) -> Result<Self, AllocError> {
-        let files = copy_entries(alloc, &self.files)?;
-        let paths = copy_entries(alloc, &self.paths)?;
-        Ok(FileSet {
-            alloc,
-            files,
-            paths,
-        })
+        let content = match &self.content {
+            Content::Few(rows) => Content::Few(rows.try_clone(alloc)?),
+            Content::Many(maps) => Content::Many(Box::new(alloc, maps.try_clone(alloc)?)?),
+        };
+        Ok(FileSet { alloc, content })
     }
 }
 
@@ -142,8 +158,12 @@ impl PartialEq for FileSet {
     ghost laws = { partial_equiv_from_equiv files_equiv };
 
     fn eq(&self, other: &Self) -> bool {
-        self.files.as_slice() == other.files.as_slice()
-            && self.paths.as_slice() == other.paths.as_slice()
+        match (&self.content, &other.content) {
+            (Content::Few(rows), Content::Few(others)) => rows == others,
+            (Content::Few(rows), Content::Many(maps)) => maps.equal_rows(rows.as_slice()),
+            (Content::Many(maps), Content::Few(rows)) => maps.equal_rows(rows.as_slice()),
+            (Content::Many(maps), Content::Many(others)) => **maps == **others,
+        }
     }
 }
 
@@ -151,6 +171,20 @@ impl Eq for FileSet {
     ghost use Rattle.vfs_sets.specs.FileSet.{files_equiv};
 
     ghost laws = { files_equiv };
+}
+
+/// The maps of some rows and one file more, which is put after them.
+fn maps_with(
+    alloc: Global,
+    rows: &[(FileId, VfsPath)],
+    file: FileId,
+    path: VfsPath,
+) -> Result<Box<FileMaps>, AllocError>
+    ensures { IfOk result (λ maps. maps.value ≡ with_file (set_of rows.now) file path) }
+{
+    let mut maps = Box::new(alloc, FileMaps::of_rows(alloc, rows)?)?;
+    maps.insert(alloc, file, path)?;
+    Ok(maps)
 }
 
 /// What stands beside a path: its directory joined with a tail.

@@ -225,7 +225,7 @@ impl TryClone for FileSetConfig {
 fn empty_sets(alloc: Global, count: usize) -> Result<Vec<FileSet>, AllocError>
     ensures { IfOk result (λ sets. AreEmpty sets.items count) }
 {
-    let mut sets = Vec::new(alloc);
+    let mut sets = Vec::with_capacity(alloc, count)?;
     for number in 0..count {
         prove!(number < count);
         sets.push(FileSet::new(alloc))?;

@@ -6,30 +6,47 @@ ghost use Rattle.std.specs.Map.{keys_of};
 ghost use Rattle.std.specs.Map.Iter.{TakesFirst};
 ghost use Rattle.vfs_sets.specs.FileSet.{number_shown};
 
-use indexmap::map::Iter;
+use indexmap::map;
 use std::marker::Model;
 use vfs_core::{FileId, VfsPath};
 
 /// The files of a set, in order of first insertion.
 #[derive(Drop)]
 pub struct FileSetIter<'a> {
-    entries: Iter<'a, FileId, VfsPath>,
+    left: Left<'a>,
+}
+
+/// The files that are left, with their paths.
+#[derive(Drop)]
+enum Left<'a> {
+    Rows(&'a [(FileId, VfsPath)]),
+    Entries(map::Iter<'a, FileId, VfsPath>),
 }
 
 impl<'a> Model for FileSetIter<'a> {
     ghost use Rattle.std.specs.Prelude.{ℕ, List};
-    ghost use Rattle.std.specs.Map.{keys_of};
+    ghost use Rattle.vfs_sets.specs.SetContent.{files_left};
 
     ghost Value = { List ℕ };
 
-    ghost view = { λ a. keys_of a.entries };
+    ghost view = { λ a. files_left a.left };
 }
 
 impl<'a> FileSetIter<'a> {
-    pub(crate) fn new(entries: Iter<'a, FileId, VfsPath>) -> Self
+    pub(crate) fn of_rows(rows: &'a [(FileId, VfsPath)]) -> Self
+        ensures { result ≡ keys_of rows.now }
+    {
+        FileSetIter {
+            left: Left::Rows(rows),
+        }
+    }
+
+    pub(crate) fn of_entries(entries: map::Iter<'a, FileId, VfsPath>) -> Self
         ensures { result ≡ keys_of entries.entry }
     {
-        FileSetIter { entries }
+        FileSetIter {
+            left: Left::Entries(entries),
+        }
     }
 }
 
@@ -41,9 +58,16 @@ impl<'a> Iterator for FileSetIter<'a> {
     ghost remaining = { λ s. at_most (length s) };
 
     fn next(&mut self) -> Option<FileId> {
-        match self.entries.next() {
-            None => None,
-            Some((id, _)) => Some(*id),
+        match &mut self.left {
+            Left::Rows(rows) => {
+                let ((file, _), others) = rows.split_first()?;
+                *rows = others;
+                Some(*file)
+            }
+            Left::Entries(entries) => {
+                let (file, _) = entries.next()?;
+                Some(*file)
+            }
         }
     }
 }

@@ -1,6 +1,8 @@
 //! Sets of files, and how the files of a file system are parted into sets by the roots of each.
 #![tactic(auto)]
 
+mod file_maps;
+mod file_rows;
 pub mod file_set;
 pub mod file_set_config;
 pub mod file_set_iter;
