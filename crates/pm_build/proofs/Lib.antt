@@ -4,3 +4,4 @@ mod OutputLemmas
 mod PackageLemmas
 mod ReadingLemmas
 mod ScriptLemmas
+mod SharedLemmas

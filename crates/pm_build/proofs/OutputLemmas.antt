@@ -3,8 +3,8 @@ use Rattle.std.proofs.Common.{◌≡◌, ℕ, List, fold, Option, Some, None, On
 use Rattle.std.specs.FinMap.{get, insert}
 use Rattle.std.specs.Str.Lines.{lines}
 use Rattle.outside.specs.declared.command.Output.{Output}
-use Rattle.pm_cargo.specs.Workspace.{Workspace}
-use Rattle.pm_build.specs.Outputs.{BuildScripts, BuildState, Outputs, change_output, changed_at, error_of, outputs_after, outputs_of, scripts_of, start_state, take_line, with_line}
+use Rattle.pm_packages.specs.declared.package.PackageData.{PackageData}
+use Rattle.pm_build.specs.Outputs.{BuildScripts, BuildState, Outputs, change_output, changed_at, error_of, outputs_after, outputs_among, scripts_of, start_state, take_line, with_line}
 use Rattle.pm_build.specs.Reading.{Leaves, Reading, Refuses, ◌>>=◌, take_each}
 use Rattle.pm_build.specs.declared.build_error.BuildError.{BuildError}
 use Rattle.pm_build.specs.declared.output.BuildScriptOutput.{BuildScriptOutput}
@@ -39,26 +39,26 @@ pub leaves_same : {S : Type 0} (r : Result (Unit {0}) BuildError) (new : S) (par
 leaves_same (Ok u) new part whole same h = sym same ∙ h
 leaves_same (Err e) new part whole same h = refuses_same e part whole same h
 
--- the same lines of the same workspace are read
-same_lines : (w v : Workspace) (s : BuildState) (out text : List ℕ) → v ≡ w → s ≡ start_state w.packages → text ≡ out
-    → take_each (take_line v.packages) s (lines text) ≡ take_each (take_line w.packages) (start_state w.packages) (lines out)
-same_lines w v s out text same start is = (λ i. take_each (take_line (same i).packages) (start i) (lines (is i)))
+-- the same lines are read from the start
+same_lines : (packages : List PackageData) (s : BuildState) (out text : List ℕ) → s ≡ start_state packages → text ≡ out
+    → take_each (take_line packages) s (lines text) ≡ take_each (take_line packages) (start_state packages) (lines out)
+same_lines packages s out text start is = (λ i. take_each (take_line packages) (start i) (lines (is i)))
 
 -- what refuses the lines refuses the output
-pub output_refused : (e : BuildError) (w v : Workspace) (s : BuildState) (output : Output) (text : List ℕ) → v ≡ w → s ≡ start_state w.packages → text ≡ output.out
-    → Refuses e (take_each (take_line v.packages) s (lines text)) → Refuses e (outputs_of w output)
-unfolding outputs_of
-output_refused e w v s output text same start is h =
-    let lines_are = same_lines w v s output.out text same start is in
-    let read = take_each (take_line w.packages) (start_state w.packages) (lines output.out) in
-    refuses_bind e read (λ t. Ok (scripts_of output t)) (refuses_same e (take_each (take_line v.packages) s (lines text)) read lines_are h)
+pub output_refused : (e : BuildError) (packages : List PackageData) (s : BuildState) (output : Output) (text : List ℕ) → s ≡ start_state packages → text ≡ output.out
+    → Refuses e (take_each (take_line packages) s (lines text)) → Refuses e (outputs_among packages output)
+unfolding outputs_among
+output_refused e packages s output text start is h =
+    let lines_are = same_lines packages s output.out text start is in
+    let read = take_each (take_line packages) (start_state packages) (lines output.out) in
+    refuses_bind e read (λ t. Ok (scripts_of output t)) (refuses_same e (take_each (take_line packages) s (lines text)) read lines_are h)
 
 -- what is known behind the lines of both streams is what the output gives
-pub output_is : (w v : Workspace) (s t p : BuildState) (output : Output) (text err : List ℕ) (outputs : Outputs) (error : Option (List ℕ)) → v ≡ w → s ≡ start_state w.packages → text ≡ output.out
-    → take_each (take_line v.packages) s (lines text) ≡ Ok t → p ≡ record t { errors = fold with_line t.errors (lines err) } → err ≡ output.err
-    → ◌≡◌ {A = Outputs × Option (List ℕ)} (outputs, error) (p.outputs, error_of output.ok p.errors) → outputs_of w output ≡ Ok (the_scripts outputs error)
-unfolding outputs_of
-output_is w v s t p output text err outputs error same start is read pushed err_is given =
-    ap (λ r. r >>= λ x. Ok (scripts_of output x)) (sym (same_lines w v s output.out text same start is) ∙ read)
+pub output_is : (packages : List PackageData) (s t p : BuildState) (output : Output) (text err : List ℕ) (outputs : Outputs) (error : Option (List ℕ)) → s ≡ start_state packages → text ≡ output.out
+    → take_each (take_line packages) s (lines text) ≡ Ok t → p ≡ record t { errors = fold with_line t.errors (lines err) } → err ≡ output.err
+    → ◌≡◌ {A = Outputs × Option (List ℕ)} (outputs, error) (p.outputs, error_of output.ok p.errors) → outputs_among packages output ≡ Ok (the_scripts outputs error)
+unfolding outputs_among
+output_is packages s t p output text err outputs error start is read pushed err_is given =
+    ap (λ r. r >>= λ x. Ok (scripts_of output x)) (sym (same_lines packages s output.out text start is) ∙ read)
     ∙ ap (λ (q : BuildState). Ok (the_scripts q.outputs (error_of output.ok q.errors))) (sym (pushed ∙ ap (λ e. record t { errors = fold with_line t.errors (lines e) }) err_is))
     ∙ ap (λ (x : Outputs × Option (List ℕ)). Ok (the_scripts x.0 x.1)) (sym given)

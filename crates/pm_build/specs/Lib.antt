@@ -7,3 +7,4 @@ pub mod Outputs
 pub mod Packages
 pub mod Reading
 pub mod Script
+pub mod SharedBuild

@@ -121,6 +121,10 @@ scripts_of output s = record { outputs = s.outputs; error = error_of output.ok (
 abbrev pub start_state : List PackageData → BuildState
 start_state packages = record { outputs = default_outputs (length packages); errors = [] }
 
+-- what a build gives some packages, by what its command wrote
+unfoldable pub outputs_among : List PackageData → Output → Reading BuildScripts
+outputs_among packages output = take_each (take_line packages) (start_state packages) (lines output.out) >>= λ s. Ok (scripts_of output s)
+
 -- what a build of a workspace gives, by what its command wrote
-unfoldable pub outputs_of : Workspace → Output → Reading BuildScripts
-outputs_of w output = take_each (take_line w.packages) (start_state w.packages) (lines output.out) >>= λ s. Ok (scripts_of output s)
+abbrev pub outputs_of : Workspace → Output → Reading BuildScripts
+outputs_of w output = outputs_among w.packages output

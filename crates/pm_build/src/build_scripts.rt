@@ -1,10 +1,11 @@
 //! What a build gives the packages of a workspace.
 
-ghost use Rattle.std.specs.Prelude.{◌≡◌, None, option_copied};
-ghost use Rattle.std.specs.FinMap as map;
+ghost use Rattle.std.specs.Prelude.{◌≡◌, IfOk, None, option_copied};
+ghost use Rattle.std.specs.FinMap.{empty, get};
 ghost use Rattle.base_text.specs.Arena.{number_of};
 ghost use Rattle.pm_build.specs.Build.{build_of};
-ghost use Rattle.pm_build.specs.Outputs.{outputs_of};
+ghost use Rattle.pm_build.specs.Outputs.{outputs_among, outputs_of};
+ghost use Rattle.pm_build.specs.Packages.{lent_packages};
 ghost use Rattle.pm_build.specs.Reading.{Gives};
 ghost use Rattle.pm_sysroot.specs.Ask.{means_of};
 
@@ -46,7 +47,7 @@ impl Model for WorkspaceBuildScripts {
 impl WorkspaceBuildScripts {
     /// No outputs and no error. It holds no memory.
     pub fn new(alloc: Global) -> Self
-        ensures { result ≡ record { outputs = map.empty; error = None } }
+        ensures { result ≡ record { outputs = empty; error = None } }
     {
         WorkspaceBuildScripts {
             outputs: ArenaMap::new(alloc),
@@ -72,9 +73,21 @@ impl WorkspaceBuildScripts {
     ) -> Result<WorkspaceBuildScripts, BuildError>
         ensures { Gives result (outputs_of workspace.now output.now) }
     {
-        let packages = KnownPackages::new(alloc, workspace)?;
-        let mut builder = OutputsBuilder::new(alloc, workspace)?;
-        builder.take_lines(alloc, &packages, output.out.as_str(), progress)?;
+        let packages = KnownPackages::new(alloc, &[workspace])?;
+        WorkspaceBuildScripts::among(alloc, &packages, output, progress)
+    }
+
+    // What the command of a build wrote gives some packages.
+    pub(crate) fn among<P: Progress>(
+        alloc: Global,
+        packages: &KnownPackages<'_>,
+        output: &Output,
+        progress: &mut P,
+    ) -> Result<WorkspaceBuildScripts, BuildError>
+        ensures { Gives result (outputs_among (lent_packages packages.now.packages) output.now) }
+    {
+        let mut builder = OutputsBuilder::new(alloc, packages)?;
+        builder.take_lines(alloc, packages, output.out.as_str(), progress)?;
         builder.push_errors(output.err.as_str())?;
         let (outputs, error) = builder.finish(alloc, output.ok)?;
         Ok(WorkspaceBuildScripts { outputs, error })
@@ -101,6 +114,18 @@ impl WorkspaceBuildScripts {
         }
     }
 
+    // The error, with other outputs.
+    pub(crate) fn with_outputs(
+        &self,
+        alloc: Global,
+        outputs: ArenaMap<PackageTag, BuildScriptOutput>,
+    ) -> Result<WorkspaceBuildScripts, AllocError>
+        ensures { IfOk result (λ given. given ≡ record self.now { outputs = outputs }) }
+    {
+        let error = self.error.try_clone(alloc)?;
+        Ok(WorkspaceBuildScripts { outputs, error })
+    }
+
     /// Why the build failed.
     pub fn error(&self) -> Option<&str>
         ensures { option_copied result ≡ self.now.error }
@@ -113,7 +138,7 @@ impl WorkspaceBuildScripts {
 
     /// The output of a package.
     pub fn get_output(&self, idx: Package) -> Option<&BuildScriptOutput>
-        ensures { option_copied result ≡ map.get self.now.outputs (number_of idx) }
+        ensures { option_copied result ≡ get self.now.outputs (number_of idx) }
     {
         self.outputs.get(idx)
     }

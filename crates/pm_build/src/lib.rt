@@ -10,7 +10,9 @@ pub mod output;
 mod outputs;
 mod packages;
 mod script;
+pub mod shared_build;
 
 pub use build_error::BuildError;
 pub use build_scripts::WorkspaceBuildScripts;
 pub use output::{BuildScriptOutput, ProcMacroDylibPath};
+pub use shared_build::SharedBuild;

@@ -7,6 +7,7 @@ ghost use Rattle.pm_reading.specs.Nodes.{place_of};
 ghost use Rattle.cargo_diagnostics.specs.declared.diagnostic.Diagnostic.{out-Diagnostic};
 ghost use Rattle.pm_build.specs.Artifact.{output_after_artifact};
 ghost use Rattle.pm_build.specs.Outputs.{default_outputs, error_of, outputs_after, start_state, take_artifact, take_line, take_message, take_rendered, take_script, with_error, with_line};
+ghost use Rattle.pm_build.specs.Packages.{lent_packages};
 ghost use Rattle.pm_build.specs.Reading.{Leaves, take_each};
 ghost use Rattle.pm_build.specs.Script.{invalid_cfg_line, output_after_script};
 
@@ -17,7 +18,6 @@ use crate::packages::KnownPackages;
 use crate::script::{AtomsError, atoms_of, take_script};
 use base_text::{ArenaMap, CfgAtom, Items, Text};
 use cargo_msgs::{Artifact, BuildScript, CompilerMessage, Message};
-use pm_cargo::CargoWorkspace;
 use pm_config::Progress;
 use pm_packages::{Package, PackageTag};
 use std::alloc::{AllocError, Global};
@@ -26,13 +26,14 @@ use std::marker::Model;
 /// The outputs of packages, each under the number of its package.
 pub(crate) type Outputs = ArenaMap<PackageTag, BuildScriptOutput>;
 
-// The outputs that the packages of a workspace start with.
-fn default_outputs(alloc: Global, workspace: &CargoWorkspace) -> Result<Outputs, AllocError>
-    ensures { IfOk result (λ outputs. outputs ≡ default_outputs (length workspace.now.packages)) }
+// The outputs that packages start with.
+fn default_outputs(alloc: Global, packages: &KnownPackages<'_>) -> Result<Outputs, AllocError>
+    ensures { IfOk result (λ outputs. outputs
+        ≡ default_outputs (length (lent_packages packages.now.packages))) }
 {
     let mut outputs = ArenaMap::new(alloc);
-    for package in workspace.packages() {
-        drop(outputs.insert(package, BuildScriptOutput::new(alloc))?);
+    for (number, _) in packages.packages.iter() {
+        drop(outputs.insert(number, BuildScriptOutput::new(alloc))?);
     }
     Ok(outputs)
 }
@@ -92,12 +93,13 @@ impl Model for OutputsBuilder {
 impl OutputsBuilder {
     pub(crate) fn new(
         alloc: Global,
-        workspace: &CargoWorkspace,
+        packages: &KnownPackages<'_>,
     ) -> Result<OutputsBuilder, AllocError>
-        ensures { IfOk result (λ builder. builder ≡ start_state workspace.now.packages) }
+        ensures { IfOk result (λ builder. builder
+            ≡ start_state (lent_packages packages.now.packages)) }
     {
         Ok(OutputsBuilder {
-            outputs: default_outputs(alloc, workspace)?,
+            outputs: default_outputs(alloc, packages)?,
             errors: String::new(alloc),
         })
     }
@@ -136,7 +138,7 @@ impl OutputsBuilder {
         progress: &mut P,
     ) -> Result<(), BuildError>
         ensures { Leaves result self.new (take_artifact self.old artifact.now
-            (place_of packages.now.workspace.now.packages artifact.now.package_id.repr)) }
+            (place_of (lent_packages packages.now.packages) artifact.now.package_id.repr)) }
     {
         let Some(package) = packages.find(&artifact.package_id) else {
             return Ok(());
@@ -158,7 +160,7 @@ impl OutputsBuilder {
         progress: &mut P,
     ) -> Result<(), BuildError>
         ensures { Leaves result self.new (take_script self.old script.old
-            (place_of packages.now.workspace.now.packages script.old.package_id.repr)) }
+            (place_of (lent_packages packages.now.packages) script.old.package_id.repr)) }
     {
         let Some(package) = packages.find(&script.package_id) else {
             return Ok(());
@@ -200,7 +202,7 @@ impl OutputsBuilder {
         progress: &mut P,
     ) -> Result<(), BuildError>
         ensures { Leaves result self.new
-            (take_message packages.now.workspace.now.packages self.old message) }
+            (take_message (lent_packages packages.now.packages) self.old message) }
     {
         match message {
             Message::CompilerArtifact(artifact) => {
@@ -226,7 +228,7 @@ impl OutputsBuilder {
         progress: &mut P,
     ) -> Result<(), BuildError>
         ensures { Leaves result self.new
-            (take_each (take_line packages.now.workspace.now.packages) self.old (lines out.now)) }
+            (take_each (take_line (lent_packages packages.now.packages)) self.old (lines out.now)) }
     {
         for line in out.lines() {
             let message = Message::of_line(alloc, line)?;

@@ -1,62 +1,111 @@
-//! The packages of a workspace by their ids.
+//! The packages of one workspace or of several, by their ids.
 
-ghost use Rattle.std.specs.Prelude.{◌≡◌, ◌<◌, length, IfOk, IfSome};
+ghost use Rattle.std.specs.Prelude.{◌≡◌, ◌∷◌, ◌<◌, ◌++◌, [], length, IfOk, IfSome, OnOk};
 ghost use Rattle.std.specs.Option.{option_map};
 ghost use Rattle.base_text.specs.Arena.{number_of};
 ghost use Rattle.pm_reading.specs.Nodes.{place_of};
-ghost use Rattle.pm_build.specs.Packages.{IsIndexOf};
+ghost use Rattle.pm_build.specs.Packages.{IsIndexOf, lent_packages, lent_workspaces, packages_of_all};
 
-use base_text::ByText;
+use base_text::{Arena, ByText};
 use cargo_meta::PackageId;
 use pm_cargo::CargoWorkspace;
-use pm_packages::Package;
+use pm_packages::{Package, PackageData, PackageTag};
 use std::alloc::{AllocError, Global};
 
-// The packages of a workspace under their ids.
-fn packages_by_id(alloc: Global, workspace: &CargoWorkspace) -> Result<ByText<Package>, AllocError>
-    ensures { IfOk result (IsIndexOf workspace.now.packages) }
+// Puts a package behind the others. No memory holds so many that no number is left for one.
+fn push_package<'a>(
+    packages: &mut Arena<PackageTag, &'a PackageData>,
+    package: &'a PackageData,
+) -> Result<(), AllocError>
+    ensures { OnOk result (lent_packages packages.new
+        ≡ lent_packages packages.old ++ «package».now ∷ []) }
+{
+    if packages.len() >= u32::MAX as usize {
+        return Err(AllocError);
+    }
+    packages.alloc(package)?;
+    Ok(())
+}
+
+// Puts the packages of a workspace behind the others.
+fn push_packages<'a>(
+    packages: &mut Arena<PackageTag, &'a PackageData>,
+    workspace: &'a CargoWorkspace,
+) -> Result<(), AllocError>
+    ensures { OnOk result (lent_packages packages.new
+        ≡ lent_packages packages.old ++ workspace.now.packages) }
+{
+    for package in workspace.packages() {
+        push_package(packages, &workspace[package])?;
+    }
+    Ok(())
+}
+
+// The packages of some workspaces, one workspace after another.
+fn packages_of_all<'a>(
+    alloc: Global,
+    workspaces: &[&'a CargoWorkspace],
+) -> Result<Arena<PackageTag, &'a PackageData>, AllocError>
+    ensures { IfOk result (λ packages. lent_packages packages
+        ≡ packages_of_all (lent_workspaces workspaces.now)) }
+{
+    let mut packages = Arena::new(alloc);
+    for workspace in workspaces {
+        push_packages(&mut packages, *workspace)?;
+    }
+    Ok(packages)
+}
+
+// Packages under their ids.
+fn packages_by_id(
+    alloc: Global,
+    packages: &Arena<PackageTag, &PackageData>,
+) -> Result<ByText<Package>, AllocError>
+    ensures { IfOk result (IsIndexOf (lent_packages packages.now)) }
 {
     let mut by_id = ByText::empty(alloc);
-    for package in workspace.packages() {
-        let id = String::from_str(alloc, workspace[package].id.get().repr.as_str())?;
-        drop(by_id.insert(id, package)?);
+    for (number, package) in packages.iter() {
+        let id = String::from_str(alloc, package.id.get().repr.as_str())?;
+        drop(by_id.insert(id, number)?);
     }
     Ok(by_id)
 }
 
-/// A workspace whose packages are found by their ids. Of several packages of one id the last is found.
+/// Packages that are found by their ids. Of several packages of one id the last is found.
 #[derive(Drop)]
 pub(crate) struct KnownPackages<'a> {
-    pub(crate) workspace: &'a CargoWorkspace,
+    pub(crate) packages: Arena<PackageTag, &'a PackageData>,
     by_id: ByText<Package>,
-    ghost index: { IsIndexOf workspace.now.packages by_id },
+    ghost index: { IsIndexOf (lent_packages packages) by_id },
 }
 
 impl<'a> KnownPackages<'a> {
+    /// The packages of some workspaces, one workspace after another.
     pub(crate) fn new(
         alloc: Global,
-        workspace: &'a CargoWorkspace,
+        workspaces: &[&'a CargoWorkspace],
     ) -> Result<KnownPackages<'a>, AllocError>
-        ensures { IfOk result (λ known. known.workspace.now ≡ workspace.now) }
+        ensures { IfOk result (λ known. lent_packages known.packages
+            ≡ packages_of_all (lent_workspaces workspaces.now)) }
     {
-        let by_id = packages_by_id(alloc, workspace)?;
-        Ok(KnownPackages { workspace, by_id })
+        let packages = packages_of_all(alloc, workspaces)?;
+        let by_id = packages_by_id(alloc, &packages)?;
+        Ok(KnownPackages { packages, by_id })
     }
 
     /// The package of an id.
     pub(crate) fn find(&self, id: &PackageId) -> Option<Package>
         ensures place { option_map number_of result
-            ≡ place_of self.now.workspace.now.packages id.now.repr }
-        ensures within { IfSome result
-            (λ found. number_of found < length self.now.workspace.now.packages) }
+            ≡ place_of (lent_packages self.now.packages) id.now.repr }
+        ensures within { IfSome result (λ found. number_of found < length self.now.packages) }
     {
         self.by_id.get(id.repr.as_str()).copied()
     }
 
     /// The name of a package.
     pub(crate) fn name(&self, package: Package) -> &str
-        requires { number_of «package» < length self.now.workspace.now.packages }
+        requires { number_of «package» < length self.now.packages }
     {
-        self.workspace[package].name.as_str()
+        self.packages[package].name.as_str()
     }
 }
