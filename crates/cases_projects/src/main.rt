@@ -7,6 +7,7 @@ mod graphs;
 mod json;
 mod loaders;
 mod lowerings;
+mod project_builds;
 mod projects;
 mod roots;
 mod toolchain;
@@ -30,6 +31,7 @@ impl<R: AllocGlobal> Family<R> for ProjectFamily {
             "loaders.jsonl" => loaders::answer(alloc, case),
             "lowerings.jsonl" | "generated.jsonl" => lowerings::answer(alloc, case),
             "projects.jsonl" => projects::answer(alloc, case),
+            "project_builds.jsonl" => project_builds::answer(alloc, case),
             "roots.jsonl" => roots::answer(alloc, case),
             _ => of_others(alloc, file, case),
         }

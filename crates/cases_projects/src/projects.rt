@@ -11,7 +11,7 @@ use cases::{Case, Fault, List, error_answer, optional_answer, text_answer};
 use crate_graph::Env;
 use crate_graph::target::{Arch, TargetLoadResult};
 use pm_cargo::CargoWorkspace;
-use pm_config::CargoConfig;
+use pm_config::{CargoConfig, Progress};
 use pm_lower::{LoadError, ProjectWorkspace, ProjectWorkspaceKind};
 use pm_sysroot::Ask;
 use pm_tools::ProjectManifest;
@@ -56,6 +56,20 @@ fn load(
     config: &CargoConfig,
     given: &Given,
 ) -> Result<Value, Fault> {
+    let mut lines = Lines::new(alloc);
+    let project = load_project(alloc, manifest, config, given, &mut lines)?;
+    let project = Box::new(alloc, project)?;
+    project_or_refusal(alloc, case, given, &given.ask(config), &project, lines)
+}
+
+/// The project of a manifest, or why none is loaded.
+pub fn load_project<P: Progress>(
+    alloc: Global,
+    manifest: &ProjectManifest,
+    config: &CargoConfig,
+    given: &Given,
+    progress: &mut P,
+) -> Result<Result<ProjectWorkspace, LoadError>, Fault> {
     if config.sysroot.is_some() || config.rustc_source.is_some() {
         return Err(Fault::Condition);
     }
@@ -63,10 +77,7 @@ fn load(
         return Err(Fault::Condition);
     };
     let ask = given.ask(config);
-    let mut lines = Lines::new(alloc);
-    let project = ProjectWorkspace::load(alloc, manifest, config, &given.limits, &ask, &mut lines);
-    let project = Box::new(alloc, project)?;
-    project_or_refusal(alloc, case, given, &ask, &project, lines)
+    Ok(ProjectWorkspace::load(alloc, manifest, config, &given.limits, &ask, progress))
 }
 
 fn project_or_refusal(
@@ -99,8 +110,8 @@ fn of_project(
     }
 }
 
-// What a case asks of the project that was loaded.
-fn asked(alloc: Global, question: &str, project: &ProjectWorkspace) -> Result<Value, Fault> {
+/// What a case asks of the project that was loaded.
+pub fn asked(alloc: Global, question: &str, project: &ProjectWorkspace) -> Result<Value, Fault> {
     let ProjectWorkspaceKind::Cargo { cargo, error, .. } = &project.kind;
     match question {
         "summary" => summary(alloc, project),

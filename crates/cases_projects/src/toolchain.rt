@@ -1,7 +1,7 @@
 //! What is configured, how tools are started and asked, what their answers say, what is fetched by them, and what a build gives.
 
 mod answers;
-mod build_config;
+pub mod build_config;
 mod build_questions;
 mod builds;
 mod config;
@@ -10,7 +10,7 @@ mod fetch;
 mod given;
 mod manifests;
 mod origins;
-mod outputs;
+pub mod outputs;
 mod placed_given;
 mod queries;
 mod questions;

@@ -1,3 +1,5 @@
-pub mod LoadingLemmas
-pub mod ProjectLemmas
-pub mod ToolLemmas
+mod BuildLemmas
+mod EqualityLemmas
+mod LoadingLemmas
+mod ProjectLemmas
+mod ToolLemmas

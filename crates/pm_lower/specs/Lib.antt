@@ -1,3 +1,5 @@
+pub mod Builds
+pub mod Equality
 pub mod Loading
 pub mod Located
 pub mod Project

@@ -1,6 +1,7 @@
 //! Projects: how one is loaded from what tools answer, and the directories that it is read from.
 #![tactic(auto)]
 
+pub mod build_scripts;
 mod cargo_project;
 pub mod laws;
 pub mod load_error;

@@ -2,6 +2,7 @@
 
 ghost use Rattle.std.specs.Prelude.{◌≡◌, ◌-◌, ◌^◌, [], false, length, min, IfOk, option_copied};
 ghost use Rattle.base_text.specs.AbsPath.{abs_text};
+ghost use Rattle.pm_lower.specs.Equality.{equal_except_builds, equal_kinds};
 ghost use Rattle.pm_lower.specs.ProjectWorkspace.{kind_manifest, kind_manifest_or_root, kind_root, package_count};
 
 use base_text::{AbsPath, AbsPathBuf, Boxed, CfgAtom, Items, Text, TryClone, Version};
@@ -116,6 +117,34 @@ impl ProjectWorkspace {
         match &self.kind {
             ProjectWorkspaceKind::Cargo { .. } => Ok(Items::empty(alloc)),
         }
+    }
+
+    /// Whether the projects are equal except for what builds gave them, why the light metadata stands in, extra
+    /// directories, and whether crates are built for their tests.
+    pub fn eq_ignore_build_data(&self, other: &ProjectWorkspace) -> bool
+        ensures { result ≡ equal_except_builds self.now other.now }
+    {
+        self.kind.eq_ignore_build_data(&other.kind)
+            && self.sysroot == other.sysroot
+            && self.rustc_cfg == other.rustc_cfg
+            && self.toolchain == other.toolchain
+            && self.target == other.target
+            && self.cfg_overrides == other.cfg_overrides
+    }
+}
+
+impl ProjectWorkspaceKind {
+    // Whether the workspaces and the crates of the compiler are equal.
+    fn eq_ignore_build_data(&self, other: &ProjectWorkspaceKind) -> bool
+        ensures { result ≡ equal_kinds self.now other.now }
+    {
+        let ProjectWorkspaceKind::Cargo { cargo, rustc, .. } = self;
+        let ProjectWorkspaceKind::Cargo {
+            cargo: other_cargo,
+            rustc: other_rustc,
+            ..
+        } = other;
+        cargo == other_cargo && rustc == other_rustc
     }
 }
 

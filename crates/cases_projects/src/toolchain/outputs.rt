@@ -57,12 +57,27 @@ pub fn given_answer(
             .member("progress", Ok(Value::Array(lines.kept)))
             .answer(),
         Ok(_) => Err(Fault::OutOfMemory),
-        Err(error) => error_answer(alloc, error),
+        Err(error) => refusal_answer(alloc, error),
     }
 }
 
-// An error by the name that it prints, with its text, where a copy equals its original.
-fn error_answer(alloc: Global, error: &BuildError) -> Result<Value, Fault> {
+/// What a build gives.
+pub fn result_answer(
+    alloc: Global,
+    workspace: &CargoWorkspace,
+    scripts: &Result<WorkspaceBuildScripts, BuildError>,
+) -> Result<Value, Fault> {
+    match scripts {
+        Ok(scripts) => Object::new(alloc)
+            .member("outputs", outputs_answer(alloc, workspace, scripts))
+            .optional("error", scripts.error())
+            .answer(),
+        Err(error) => refusal_answer(alloc, error),
+    }
+}
+
+/// An error by the name that it prints, with its text, where a copy equals its original.
+pub fn refusal_answer(alloc: Global, error: &BuildError) -> Result<Value, Fault> {
     if error.try_clone(alloc)? != *error {
         return Err(Fault::Condition);
     }

@@ -1,0 +1,192 @@
+//! Builds of projects: what they give each of some projects, and what is asked of a project after builds.
+
+use crate::given::{Given, configure};
+use crate::projects::{asked, load_project};
+use crate::toolchain::build_config::command_of;
+use crate::toolchain::outputs::{refusal_answer, result_answer};
+use crate::values::{manifest_of, path_of};
+use base_text::TryClone;
+use case_lines::output_of;
+use case_tools::Lines;
+use cases::{Case, Fault, List, Object, text_of};
+use pm_config::{CargoConfig, InvocationStrategy, Quiet};
+use pm_lower::build_scripts::BuildResult;
+use pm_lower::{ProjectWorkspace, ProjectWorkspaceKind};
+use pm_tools::ProjectManifest;
+use serde_json::Value;
+use std::alloc::Global;
+
+/// What a case gives.
+pub fn answer(alloc: Global, case: Case<'_>) -> Result<Value, Fault> {
+    let mut config = Box::new(alloc, CargoConfig::new(alloc))?;
+    configure(alloc, case, &mut config)?;
+    configure_builds(alloc, case, &mut config)?;
+    with_config(alloc, case, &config)
+}
+
+// Sets what a case configures of builds.
+fn configure_builds(alloc: Global, case: Case<'_>, config: &mut CargoConfig) -> Result<(), Fault> {
+    config.run_build_script_command = command_of(alloc, case)?;
+    if case.flag("once") {
+        config.invocation_strategy = InvocationStrategy::Once;
+    }
+    Ok(())
+}
+
+fn with_config(alloc: Global, case: Case<'_>, config: &CargoConfig) -> Result<Value, Fault> {
+    let given = Box::new(alloc, Given::of_case(alloc, case)?)?;
+    let mut projects = projects_of(alloc, case, config, &given)?;
+    of_projects(alloc, case, config, &given, projects.as_mut_slice())
+}
+
+// What a case asks of some projects.
+fn of_projects(
+    alloc: Global,
+    case: Case<'_>,
+    config: &CargoConfig,
+    given: &Given,
+    projects: &mut [ProjectWorkspace],
+) -> Result<Value, Fault> {
+    match case.text("call")? {
+        "ProjectWorkspace::run_all_build_scripts" => run_all(alloc, case, projects, config, given),
+        "ProjectWorkspace::run_build_scripts" => run(alloc, projects, config, given),
+        "ProjectWorkspace::set_build_scripts" => after_builds(alloc, case, projects),
+        "ProjectWorkspace::eq_ignore_build_data" => equality(projects),
+        _ => Err(Fault::Call),
+    }
+}
+
+// The projects of the manifests of a case.
+fn projects_of(
+    alloc: Global,
+    case: Case<'_>,
+    config: &CargoConfig,
+    given: &Given,
+) -> Result<Vec<ProjectWorkspace>, Fault> {
+    let manifests = case.list("manifests")?;
+    let mut projects = Vec::new(alloc);
+    for manifest in manifests {
+        push_project(alloc, &mut projects, manifest, config, given)?;
+    }
+    Ok(projects)
+}
+
+fn push_project(
+    alloc: Global,
+    projects: &mut Vec<ProjectWorkspace>,
+    manifest: &Value,
+    config: &CargoConfig,
+    given: &Given,
+) -> Result<(), Fault> {
+    let manifest = manifest_of(alloc, text_of(manifest, "manifests")?)?;
+    let manifest = ProjectManifest::CargoToml(manifest);
+    match load_project(alloc, &manifest, config, given, &mut Quiet)? {
+        Ok(project) => projects.push(project)?,
+        Err(_) => return Err(Fault::Condition),
+    }
+    Ok(())
+}
+
+// What builds give the projects, and the lines of progress.
+fn run_all(
+    alloc: Global,
+    case: Case<'_>,
+    projects: &[ProjectWorkspace],
+    config: &CargoConfig,
+    given: &Given,
+) -> Result<Value, Fault> {
+    let dir = path_of(alloc, case.text("dir")?)?;
+    let ask = given.ask(config);
+    let mut lines = Lines::new(alloc);
+    let each = ProjectWorkspace::run_all_build_scripts(
+        alloc, projects, config, &dir, &ask, &mut lines,
+    )?;
+    if !lines.is_whole {
+        return Err(Fault::OutOfMemory);
+    }
+    Object::new(alloc)
+        .member("each", each_answer(alloc, projects, each.as_slice()))
+        .member("progress", Ok(Value::Array(lines.kept)))
+        .answer()
+}
+
+fn each_answer(
+    alloc: Global,
+    projects: &[ProjectWorkspace],
+    each: &[BuildResult],
+) -> Result<Value, Fault> {
+    let mut answers = List::new(alloc);
+    for (project, scripts) in projects.iter().zip(each) {
+        answers = answers.item(scripts_answer(alloc, project, scripts));
+    }
+    answers.answer()
+}
+
+fn scripts_answer(
+    alloc: Global,
+    project: &ProjectWorkspace,
+    scripts: &BuildResult,
+) -> Result<Value, Fault> {
+    let ProjectWorkspaceKind::Cargo { cargo, .. } = &project.kind;
+    result_answer(alloc, cargo, scripts)
+}
+
+// What a build gives the project.
+fn run(
+    alloc: Global,
+    projects: &[ProjectWorkspace],
+    config: &CargoConfig,
+    given: &Given,
+) -> Result<Value, Fault> {
+    let Some(project) = projects.first() else {
+        return Err(Fault::Member("manifests"));
+    };
+    let scripts = project.run_build_scripts(alloc, config, &given.ask(config), &mut Quiet);
+    scripts_answer(alloc, project, &scripts)
+}
+
+// What a case asks of the project after its builds.
+fn after_builds(
+    alloc: Global,
+    case: Case<'_>,
+    projects: &mut [ProjectWorkspace],
+) -> Result<Value, Fault> {
+    let Some(project) = projects.first_mut() else {
+        return Err(Fault::Member("manifests"));
+    };
+    let before = Box::new(alloc, project.try_clone(alloc)?)?;
+    let builds = case.list("builds")?;
+    for build in builds {
+        if let Some(refusal) = set_build(alloc, Case::new(build), project)? {
+            return Ok(refusal);
+        }
+    }
+    match case.text("ask")? {
+        "equal" => Ok(Value::Bool(project.eq_ignore_build_data(&before))),
+        question => asked(alloc, question, project),
+    }
+}
+
+// Puts what a build gives the project into it. The refusal, where there is one.
+fn set_build(
+    alloc: Global,
+    build: Case<'_>,
+    project: &mut ProjectWorkspace,
+) -> Result<Option<Value>, Fault> {
+    let output = output_of(alloc, build)?;
+    match project.build_scripts_of_output(alloc, &output, &mut Quiet) {
+        Ok(scripts) => {
+            project.set_build_scripts(scripts);
+            Ok(None)
+        }
+        Err(error) => Ok(Some(refusal_answer(alloc, &error)?)),
+    }
+}
+
+// Whether the first two projects are equal except for builds.
+fn equality(projects: &[ProjectWorkspace]) -> Result<Value, Fault> {
+    match projects {
+        [first, second, ..] => Ok(Value::Bool(first.eq_ignore_build_data(second))),
+        _ => Err(Fault::Member("manifests")),
+    }
+}

@@ -1,0 +1,203 @@
+//! Builds of projects: what they give, and a project with the outputs of one.
+
+ghost use Rattle.std.specs.Prelude.{◌≡◌, map, IfOk, option_copied};
+ghost use Rattle.pm_build.specs.Packages.{lent_workspaces};
+ghost use Rattle.pm_build.specs.Reading.{Gives};
+ghost use Rattle.pm_build.specs.SharedBuild.{shared_build};
+ghost use Rattle.pm_lower.specs.Builds.{GivesEach, all_builds, built_workspace, command_for_all, kind_share, project_build, project_outputs, with_build_scripts, workspaces_of};
+ghost use Rattle.pm_sysroot.specs.Ask.{means_of};
+
+use crate::project_workspace::{ProjectWorkspace, ProjectWorkspaceKind};
+use base_text::{AbsPathBuf, CommandLine, Items, Output, Runner, TryClone};
+use pm_build::{BuildError, SharedBuild, WorkspaceBuildScripts};
+use pm_build_question::configured_question;
+use pm_cargo::CargoWorkspace;
+use pm_config::{CargoConfig, InvocationStrategy, Progress};
+use pm_sysroot::Ask;
+use std::alloc::{AllocError, Global};
+use trees::Tree;
+
+/// What a build gives a project, or why it gives nothing.
+pub type BuildResult = Result<WorkspaceBuildScripts, BuildError>;
+
+impl ProjectWorkspace {
+    /// What a build of the project gives its packages. Nothing is asked where the metadata of the members
+    /// alone stands in for that of all packages: then there are no outputs. `progress` takes the lines of
+    /// [`run_for_workspace`](WorkspaceBuildScripts::run_for_workspace).
+    pub fn run_build_scripts<R: Runner, T: Tree, P: Progress>(
+        &self,
+        alloc: Global,
+        config: &CargoConfig,
+        ask: &Ask<'_, R, T>,
+        progress: &mut P,
+    ) -> Result<WorkspaceBuildScripts, BuildError>
+        ensures { Gives result
+            (project_build config.now (means_of R.answers T.files ask.now) self.now) }
+    {
+        let Some(cargo) = self.built_workspace() else {
+            return Ok(WorkspaceBuildScripts::new(alloc));
+        };
+        let (sysroot, version) = (&self.sysroot, self.toolchain.as_ref());
+        WorkspaceBuildScripts::run_for_workspace(
+            alloc, config, cargo, sysroot, version, ask, progress,
+        )
+    }
+
+    /// What builds of the projects give each of them. Where a command is configured that is run once, it is
+    /// asked once for all, in the directory, and each package has the output of its id; a refusal is that of
+    /// each project. Else each project is built by [`run_build_scripts`](ProjectWorkspace::run_build_scripts).
+    pub fn run_all_build_scripts<R: Runner, T: Tree, P: Progress>(
+        alloc: Global,
+        workspaces: &[ProjectWorkspace],
+        config: &CargoConfig,
+        dir: &AbsPathBuf,
+        ask: &Ask<'_, R, T>,
+        progress: &mut P,
+    ) -> Result<Items<BuildResult>, AllocError>
+        ensures { IfOk result (λ each. GivesEach each (all_builds workspaces.now config.now
+            dir.now (means_of R.answers T.files ask.now))) }
+    {
+        match command_for_all(alloc, config, dir, ask)? {
+            Some(line) => run_once(alloc, workspaces, &line, ask.runner, progress),
+            None => run_each(alloc, workspaces, config, ask, progress),
+        }
+    }
+
+    /// What the output of a build gives the project: that of [`of_output`](WorkspaceBuildScripts::of_output), or no
+    /// outputs where the metadata of the members alone stands in for that of all packages.
+    pub fn build_scripts_of_output<P: Progress>(
+        &self,
+        alloc: Global,
+        output: &Output,
+        progress: &mut P,
+    ) -> Result<WorkspaceBuildScripts, BuildError>
+        ensures { Gives result (project_outputs self.now output.now) }
+    {
+        match self.built_workspace() {
+            Some(cargo) => WorkspaceBuildScripts::of_output(alloc, cargo, output, progress),
+            None => Ok(WorkspaceBuildScripts::new(alloc)),
+        }
+    }
+
+    // The workspace that builds count for.
+    fn built_workspace(&self) -> Option<&CargoWorkspace>
+        ensures { option_copied result ≡ built_workspace self.now.kind }
+    {
+        match &self.kind {
+            ProjectWorkspaceKind::Cargo {
+                cargo,
+                error: None,
+                ..
+            } => Some(cargo),
+            ProjectWorkspaceKind::Cargo { error: Some(_), .. } => None,
+        }
+    }
+
+    /// Puts what a build gave in place of what was given before.
+    pub fn set_build_scripts(&mut self, bs: WorkspaceBuildScripts)
+        ensures { self.new ≡ with_build_scripts self.old bs }
+    {
+        match &mut self.kind {
+            ProjectWorkspaceKind::Cargo { build_scripts, .. } => *build_scripts = bs,
+        }
+    }
+}
+
+// The command that is asked once for all projects, where it is configured so.
+fn command_for_all<R: Runner, T: Tree>(
+    alloc: Global,
+    config: &CargoConfig,
+    dir: &AbsPathBuf,
+    ask: &Ask<'_, R, T>,
+) -> Result<Option<CommandLine>, AllocError>
+    ensures { IfOk result (λ line. line ≡ command_for_all config.now dir.now
+        (means_of R.answers T.files ask.now) config.now.invocation_strategy) }
+{
+    match config.invocation_strategy {
+        InvocationStrategy::Once => {
+            configured_question(alloc, &config.run_build_script_command, dir.as_path(), ask)
+        }
+        InvocationStrategy::PerWorkspace => Ok(None),
+    }
+}
+
+// What a build of its own gives each project.
+fn run_each<R: Runner, T: Tree, P: Progress>(
+    alloc: Global,
+    projects: &[ProjectWorkspace],
+    config: &CargoConfig,
+    ask: &Ask<'_, R, T>,
+    progress: &mut P,
+) -> Result<Items<BuildResult>, AllocError>
+    ensures { IfOk result (λ each. GivesEach each (map
+        (project_build config.now (means_of R.answers T.files ask.now)) projects.now)) }
+{
+    let mut each = Vec::with_capacity(alloc, projects.len())?;
+    for project in projects {
+        each.push(project.run_build_scripts(alloc, config, ask, progress))?;
+    }
+    Ok(Items::new(each))
+}
+
+// What one build by this command gives each project.
+fn run_once<R: Runner, P: Progress>(
+    alloc: Global,
+    projects: &[ProjectWorkspace],
+    line: &CommandLine,
+    runner: &R,
+    progress: &mut P,
+) -> Result<Items<BuildResult>, AllocError>
+    ensures { IfOk result (λ each. GivesEach each (map (λ p. kind_share
+        (shared_build line.now (workspaces_of projects.now) (R.answers runner.now)) p.kind)
+        projects.now)) }
+{
+    let workspaces = workspaces_of(alloc, projects)?;
+    let build = SharedBuild::run(alloc, line, workspaces.as_slice(), runner, progress);
+    shares_of(alloc, &build, projects)
+}
+
+// The workspaces that a build of all projects covers.
+fn workspaces_of<'a>(
+    alloc: Global,
+    projects: &'a [ProjectWorkspace],
+) -> Result<Vec<&'a CargoWorkspace>, AllocError>
+    ensures { IfOk result (λ workspaces. lent_workspaces workspaces.items
+        ≡ workspaces_of projects.now) }
+{
+    let mut workspaces = Vec::with_capacity(alloc, projects.len())?;
+    for project in projects {
+        let ProjectWorkspaceKind::Cargo { cargo, .. } = &project.kind;
+        workspaces.push(cargo)?;
+    }
+    Ok(workspaces)
+}
+
+// What a build of all gives each project.
+fn shares_of(
+    alloc: Global,
+    build: &Result<SharedBuild<'_>, BuildError>,
+    projects: &[ProjectWorkspace],
+) -> Result<Items<BuildResult>, AllocError>
+    ensures { IfOk result (λ each. each ≡ map (λ p. kind_share build.now p.kind) projects.now) }
+{
+    let mut each = Vec::with_capacity(alloc, projects.len())?;
+    for project in projects {
+        each.push(share_of(alloc, build, project)?)?;
+    }
+    Ok(Items::new(each))
+}
+
+// What a build of all gives a project.
+fn share_of(
+    alloc: Global,
+    build: &Result<SharedBuild<'_>, BuildError>,
+    project: &ProjectWorkspace,
+) -> Result<BuildResult, AllocError>
+    ensures { IfOk result (λ given. given ≡ kind_share build.now project.now.kind) }
+{
+    let ProjectWorkspaceKind::Cargo { cargo, .. } = &project.kind;
+    match build {
+        Ok(build) => Ok(Ok(build.scripts_for(alloc, cargo)?)),
+        Err(error) => Ok(Err(error.try_clone(alloc)?)),
+    }
+}
