@@ -4,12 +4,13 @@ use Rattle.std.specs.Prelude.{◌≡◌, ℕ, false, List, [], Option, Some, Non
 use Rattle.std.specs.Str.{bytes_eq}
 use Rattle.serde_json.specs.Data.{Data, Members}
 use Rattle.base_text.specs.Paths.{normal, path_text}
+use Rattle.outside.specs.declared.command.Output.{Output}
 use Rattle.json_fields.specs.Document.{bytes_document}
-use Rattle.json_fields.specs.Fields.{members_at, optional, required, text_at}
+use Rattle.json_fields.specs.Fields.{defaulted, flag_at, list_at, members_at, optional, required, text_at}
 use Rattle.json_fields.specs.Outcome.{◌>>=◌, Reading}
 use Rattle.vfs_core.specs.VfsPath.{PathContent}
 use Rattle.live_input.specs.declared.event.Event.{Event}
-use Rattle.live_input.specs.declared.event.Event.TheVariants.{Exclude, File, Flush}
+use Rattle.live_input.specs.declared.event.Event.TheVariants.{Answer, Build, Exclude, File, Flush, Load}
 use Rattle.live_input.specs.declared.event.EventError.{EventError}
 use Rattle.live_input.specs.declared.event.EventError.TheVariants.{Refused, OutOfMemory}
 
@@ -37,11 +38,43 @@ exclude_at ms = do
   path ← path_under ms
   Ok (Exclude path)
 
+-- whether a command succeeded, and what it wrote: a missing text is empty
+unfoldable pub output_at : Members → Reading Output
+output_at ms = do
+  ok ← required (codes "ok") flag_at ms
+  out ← defaulted (codes "out") [] text_at ms
+  err ← defaulted (codes "err") [] text_at ms
+  Ok (record { ok = ok; out = out; err = err })
+
+-- the result of a command is recorded; its variables play no part
+unfoldable pub answer_at : Members → Reading Event
+answer_at ms = do
+  program ← required (codes "program") text_at ms
+  words ← required (codes "words") (list_at text_at) ms
+  dir ← required (codes "dir") text_at ms
+  output ← output_at ms
+  Ok (Answer (record { program = program; words = words; dir = dir; env = [] }) output)
+
+-- a project is loaded: its path is kept as it is written
+unfoldable pub load_at : Members → Reading Event
+load_at ms = do
+  path ← required (codes "path") text_at ms
+  Ok (Load path)
+
+-- the project was built: the result of the command that builds it
+unfoldable pub build_at : Members → Reading Event
+build_at ms = do
+  output ← output_at ms
+  Ok (Build output)
+
 -- the events by their names
 abbrev pub event_named : List ℕ → Members → Reading Event
 event_named name ms =
     if bytes_eq name (codes "file") then file_at ms
     else if bytes_eq name (codes "exclude") then exclude_at ms
+    else if bytes_eq name (codes "answer") then answer_at ms
+    else if bytes_eq name (codes "load") then load_at ms
+    else if bytes_eq name (codes "build") then build_at ms
     else if bytes_eq name (codes "flush") then Ok Flush
     else Err []
 

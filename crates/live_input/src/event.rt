@@ -2,10 +2,10 @@
 
 ghost use Rattle.json_fields.specs.Outcome.{Gives};
 ghost use Rattle.serde_json.specs.View.{members_view};
-ghost use Rattle.live_input.specs.Event.{Answers, event, exclude_at, file_at, path_under, real_path};
+ghost use Rattle.live_input.specs.Event.{Answers, answer_at, build_at, event, exclude_at, file_at, load_at, output_at, path_under, real_path};
 
-use base_text::{PathError, Text, TryClone};
-use json_fields::{ReadError, ReadJson, members, missed, of_bytes, optional, required};
+use base_text::{CommandLine, Items, Output, PathError, Text, TryClone};
+use json_fields::{ReadError, ReadJson, defaulted, members, missed, of_bytes, optional, required};
 use serde_json::{Map, Value};
 use std::alloc::{AllocError, Global};
 use thiserror::Error;
@@ -27,6 +27,12 @@ pub enum Event {
     File { path: VfsPath, text: Option<Text> },
     /// A file is left out, for good.
     Exclude { path: VfsPath },
+    /// The result of a command is recorded.
+    Answer { line: CommandLine, output: Output },
+    /// A project is loaded: the path of its manifest, as it is written.
+    Load { path: Text },
+    /// The project was built: the result of the command that builds it.
+    Build { output: Output },
     /// A page is to be written.
     Flush,
 }
@@ -49,6 +55,19 @@ impl TryClone for Event {
             Event::Exclude { path } => {
                 let path = path.try_clone(alloc)?;
                 Ok(Event::Exclude { path })
+            }
+            Event::Answer { line, output } => {
+                let line = line.try_clone(alloc)?;
+                let output = output.try_clone(alloc)?;
+                Ok(Event::Answer { line, output })
+            }
+            Event::Load { path } => {
+                let path = path.try_clone(alloc)?;
+                Ok(Event::Load { path })
+            }
+            Event::Build { output } => {
+                let output = output.try_clone(alloc)?;
+                Ok(Event::Build { output })
             }
             Event::Flush => Ok(Event::Flush),
         }
@@ -81,6 +100,9 @@ impl ReadJson for Event {
         match name.as_str() {
             "file" => file_of(alloc, fields),
             "exclude" => exclude_of(alloc, fields),
+            "answer" => answer_of(alloc, fields),
+            "load" => load_of(alloc, fields),
+            "build" => build_of(alloc, fields),
             "flush" => Ok(Event::Flush),
             _ => missed(alloc),
         }
@@ -104,6 +126,54 @@ fn exclude_of(alloc: Global, fields: &Map<String, Value>) -> Result<Event, ReadE
 {
     let path = path_of(alloc, fields)?;
     Ok(Event::Exclude { path })
+}
+
+// The event that is named `answer`. The variables of a command play no part.
+#[tactic(auto, unfolding(crate::specs::Event::answer_at))]
+fn answer_of(alloc: Global, fields: &Map<String, Value>) -> Result<Event, ReadError>
+    ensures { Gives result (answer_at (members_view fields.now.entries)) }
+{
+    let program = required(alloc, fields, "program")?;
+    let words = required(alloc, fields, "words")?;
+    let dir = required(alloc, fields, "dir")?;
+    let output = output_of(alloc, fields)?;
+    let env = Items::empty(alloc);
+    let line = CommandLine {
+        program,
+        words,
+        dir,
+        env,
+    };
+    Ok(Event::Answer { line, output })
+}
+
+// Whether a command succeeded, and what it wrote.
+#[tactic(auto, unfolding(crate::specs::Event::output_at))]
+fn output_of(alloc: Global, fields: &Map<String, Value>) -> Result<Output, ReadError>
+    ensures { Gives result (output_at (members_view fields.now.entries)) }
+{
+    let ok = required(alloc, fields, "ok")?;
+    let out = defaulted(alloc, fields, "out", Text::of_str(alloc, "")?)?;
+    let err = defaulted(alloc, fields, "err", Text::of_str(alloc, "")?)?;
+    Ok(Output { ok, out, err })
+}
+
+// The event that is named `load`.
+#[tactic(auto, unfolding(crate::specs::Event::load_at))]
+fn load_of(alloc: Global, fields: &Map<String, Value>) -> Result<Event, ReadError>
+    ensures { Gives result (load_at (members_view fields.now.entries)) }
+{
+    let path = required(alloc, fields, "path")?;
+    Ok(Event::Load { path })
+}
+
+// The event that is named `build`.
+#[tactic(auto, unfolding(crate::specs::Event::build_at))]
+fn build_of(alloc: Global, fields: &Map<String, Value>) -> Result<Event, ReadError>
+    ensures { Gives result (build_at (members_view fields.now.entries)) }
+{
+    let output = output_of(alloc, fields)?;
+    Ok(Event::Build { output })
 }
 
 // The real path under the key `path`.
