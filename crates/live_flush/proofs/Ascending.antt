@@ -168,3 +168,21 @@ module _ (test : PathContent → Bool) where
   chosen_key number from path [] up at = cc
   chosen_key number from path (file ∷ files) up at =
       key-split number path file files (nat_eq number file.0) refl up.1 at (λ h. chosen_key number (file.0 + 1) path files up.1 h)
+
+-- a file that is found, and whose path passes, is found among those that pass: the same by whether it is the first, and whether that passes
+chosen-found_split : (test : PathContent → Bool) (file : ℕ) (path : PathContent) (first : ℕ × PathContent) (files : List (ℕ × PathContent)) (own passes : Bool)
+    → nat_eq file first.0 ≡ own → test first.1 ≡ passes → test path ≡ true
+    → (if own then Some first.1 else lookup (nat_eq file) files) ≡ Some path
+    → (lookup (nat_eq file) files ≡ Some path → lookup (nat_eq file) (filter (λ f. test f.1) files) ≡ Some path)
+    → lookup (nat_eq file) (if passes then first ∷ filter (λ f. test f.1) files else filter (λ f. test f.1) files) ≡ Some path
+chosen-found_split test file path first files true true own passes good at more = rw own at
+chosen-found_split test file path first files true false own passes good at more =
+    let same : first.1 ≡ path = cc in absurd (true≢false (sym good ∙ ap test (sym same) ∙ passes))
+chosen-found_split test file path first files false true own passes good at more = rw own (more at)
+chosen-found_split test file path first files false false own passes good at more = more at
+
+pub chosen_found : (test : PathContent → Bool) (file : ℕ) (path : PathContent) (files : List (ℕ × PathContent)) → test path ≡ true
+    → lookup (nat_eq file) files ≡ Some path → lookup (nat_eq file) (filter (λ f. test f.1) files) ≡ Some path
+chosen_found test file path [] good at = cc
+chosen_found test file path (first ∷ files) good at =
+    chosen-found_split test file path first files (nat_eq file first.0) (test first.1) refl refl good at (chosen_found test file path files good)

@@ -104,7 +104,7 @@ module _ (roots : List FileRoot) (files : Files) where
   pub own_durability : (number : ℕ) → source.root_durability (own_root number) ≡ durability_at roots number
   own_durability number = durability_kept (is_local_at roots number) (sets.set_of (files_at number))
 
-  own_paths : (number : ℕ) → (source.set_of_root (own_root number)).paths ≡ files_at number
+  pub own_paths : (number : ℕ) → (source.set_of_root (own_root number)).paths ≡ files_at number
   own_paths number =
       ap (λ set. set.paths) (set_kept (is_local_at roots number) (sets.set_of (files_at number))) ∙ paths_of_set (files_at number) (rising number)
 

@@ -1,8 +1,8 @@
 -- After a flush: the database shows the files that exist, by the sets of their roots, and its page is theirs.
-use Rattle.std.proofs.Common.{◌≡◌, ℕ, ◌+◌, ◌<◌, Bool, true, false, not, List, [], ◌∷◌, ◌++◌, length, map, Option, Some, None, refl, ◌∙◌, ap, arith, nat_eq}
+use Rattle.std.proofs.Common.{◌≡◌, ℕ, ◌+◌, ◌<◌, ◌==◌, Bool, true, false, eq-eqb, not, List, [], ◌∷◌, ◌++◌, length, map, Option, Some, None, refl, ◌∙◌, ap, arith, nat_eq}
 use Rattle.std.specs.List.{filter, filter_map}
 use Rattle.std.specs.Map.{lookup}
-use Rattle.std.specs.Option.{option_map, option_or, unwrap_or}
+use Rattle.std.specs.Option.{option_and_then, option_map, option_or, unwrap_or}
 use Rattle.std.specs.Ordering.{nat_cmp}
 use Rattle.std.specs.Str.{is_utf8}
 use Rattle.std.proofs.lemmas.List.{map-id}
@@ -26,7 +26,16 @@ use Rattle.live_flush.specs.Page.{page, paths_at, set_data_at}
 use Rattle.live_flush.specs.Refresh.{Refreshes, changes_taken}
 use Rattle.live_flush.specs.Shape.{base_image, base_shape, paths_sorted, place_shape, root_image, root_shape, texts_known}
 use Rattle.live_flush.specs.declared.file_root.FileRoot.{FileRoot}
-use Rattle.live_flush.proofs.Placed.{in_some, library_numbers, local_numbers, made_roots, own_durability, own_library, own_root, own_roots, paths_made, placed, root_at}
+use Rattle.vfs_sets.specs.FileSet.{path_of}
+use Rattle.vfs_sets.specs.Placement.{place_of}
+use Rattle.source_files.specs.SourceRoot.{set_of_root}
+use Rattle.source_files.specs.declared.source_root.SourceRoot.{SourceRoot}
+use Rattle.source_files.specs.declared.inputs.FileSourceRootInput.{FileSourceRootInput}
+use Rattle.source_files.specs.declared.inputs.SourceRootInput.{SourceRootInput}
+use Rattle.pages.specs.Entries.{path_in}
+use Rattle.live_flush.specs.FileRoots.{root_lists}
+use Rattle.live_flush.proofs.Ascending.{chosen_found}
+use Rattle.live_flush.proofs.Placed.{in_some, library_numbers, local_numbers, made_roots, own_durability, own_library, own_paths, own_root, own_roots, paths_made, placed, root_at, within}
 use Rattle.live_flush.proofs.Ranges.{filter_map_range, map_range, sorted_parts}
 use Rattle.live_flush.proofs.TextsGiven.{given_by, given_lookup, given_text}
 
@@ -148,3 +157,20 @@ module _ (roots : List FileRoot) (files : Files) (old new : Database) (refreshes
         (r.changed.texts file
         ∙ ap (λ g. option_or (option_map (λ t. stored_text file t (durability_of_file new.files file)) g) (text_of old.files file)) given)
         ∙ text-split files.batch text (lookup (nat_eq file) files.batch) refl valid after
+
+    -- its path is found in that source root
+    root-found : path_of (set_of_root (own_root roots files (place_of (root_lists roots) path))) file ≡ Some path
+    root-found =
+        let number = place_of (root_lists roots) path in
+        ap (λ (paths : List (ℕ × PathContent)). lookup (nat_eq file) paths) (own_paths roots files number)
+        ∙ chosen_found (λ p. place_of (root_lists roots) p == number) file path (existing_files files) (eq-eqb number number refl) there
+
+    pub path_is : path_in new.files file ≡ Some path.text
+    path_is =
+        let number = place_of (root_lists roots) path in
+        let root : root_of new.files number ≡ Some (root_given (own_root roots files number)) = root-is number (within roots files file path there) in
+        ap (λ (place : Option FileSourceRootInput). option_and_then (λ (root : SourceRoot). option_map (λ (p : PathContent). p.text) (path_of (set_of_root root) file))
+        (option_and_then (λ (p : FileSourceRootInput). option_map (λ (input : SourceRootInput). input.source_root) (root_of new.files p.source_root_id)) place)) place_is
+        ∙ ap (λ (input : Option SourceRootInput). option_and_then (λ (root : SourceRoot). option_map (λ (p : PathContent). p.text) (path_of (set_of_root root) file))
+        (option_map (λ (i : SourceRootInput). i.source_root) input)) root
+        ∙ ap (option_map (λ (p : PathContent). p.text)) root-found

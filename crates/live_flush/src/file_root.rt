@@ -29,8 +29,8 @@ impl TryClone for FileRoot {
     }
 }
 
-// A set for each root, by its paths.
-pub(crate) fn file_sets(alloc: Global, roots: &[FileRoot]) -> Result<FileSetConfig, AllocError>
+/// A set for each root, by its paths.
+pub fn file_sets(alloc: Global, roots: &[FileRoot]) -> Result<FileSetConfig, AllocError>
     ensures { IfOk result (λ config. config ≡ spec.root_lists roots.now) }
 {
     let mut sets = FileSetConfig::builder(alloc);
@@ -56,8 +56,8 @@ pub(crate) fn source_roots(
     Ok(made)
 }
 
-// Whether the files of a set are local.
-fn is_local_at(roots: &[FileRoot], number: usize) -> bool
+/// Whether the files of a set are local.
+pub fn is_local_at(roots: &[FileRoot], number: usize) -> bool
     ensures { result ≡ spec.is_local_at roots.now number }
 {
     match roots.get(number) {

@@ -36,14 +36,14 @@ holds_found crates m krate within at =
 
 module _ (crates : List CrateBuilder) (order numbers : List ℕ) (behind : IsBehindTargets (edges crates) order) where
   -- the order has numbers of crates alone
-  below_crates : (m : ℕ) → Contains order m → m < length crates
+  pub below_crates : (m : ℕ) → Contains order m → m < length crates
   below_crates m there = let is_in = (behind.all m).0 there in omega (arith, is_in, length-edges crates)
 
   -- and that of each crate
-  in_order : (m : ℕ) → m < length crates → Contains order m
+  pub in_order : (m : ℕ) → m < length crates → Contains order m
   in_order m within = (behind.all m).1 (omega (arith, within, length-edges crates))
 
-  in_range : IsInRange (edges crates)
+  pub in_range : IsInRange (edges crates)
   in_range a b edge =
       let krate = edge_crate crates a b edge in
       let there = in_order a (below_some krate.0 krate.1) in
@@ -58,14 +58,14 @@ module _ (crates : List CrateBuilder) (order numbers : List ℕ) (behind : IsBeh
       below_some krate at = slice_get_within crates a krate at
 
   -- the crate at a place of the order
-  at_place : (k m : ℕ) (krate : CrateBuilder) → k < length order → get_or order k 0 ≡ m → slice_get crates m ≡ Some krate
+  pub at_place : (k m : ℕ) (krate : CrateBuilder) → k < length order → get_or order k 0 ≡ m → slice_get crates m ≡ Some krate
       → crate_at crates order k ≡ Some krate
   at_place k m krate within is at =
       ap (option_and_then (slice_get crates)) (slice_get-get_or order k 0 within ∙ ap Some is) ∙ at
 
   module _ (shared : ShareWhereAlike crates order numbers) (table : Table) (inputs : HoldLastInputs crates order numbers table) where
     -- under the number of a crate the database holds the data of the crate, whichever crate was put in there last
-    data_held : (m : ℕ) (krate : CrateBuilder) → m < length crates → slice_get crates m ≡ Some krate
+    pub data_held : (m : ℕ) (krate : CrateBuilder) → m < length crates → slice_get crates m ≡ Some krate
         → option_map (λ input. input.crate_data) (input_in table (get_or numbers m 0)) ≡ Some (data_of (number_in numbers) krate)
     data_held m krate within at =
         let place = in_order m within in

@@ -1,5 +1,6 @@
+pub mod Alike
 pub mod Distinct
 pub mod GraphEntries
-mod Members
+pub mod Members
 pub mod Pages
 mod Shown

@@ -36,7 +36,7 @@ dependencies-no_float [] = refl
 dependencies-no_float (dep ∷ deps) = dependencies-no_float deps
 
 -- nor have entries
-entries-no_float : (entries : List CrateEntry) → items_have_float (items_of (map entry_data entries)) ≡ false
+pub entries-no_float : (entries : List CrateEntry) → items_have_float (items_of (map entry_data entries)) ≡ false
 entries-no_float [] = refl
 entries-no_float (entry ∷ entries) = rw (dependencies-no_float entry.deps, entries-no_float entries) refl
 

@@ -8,4 +8,4 @@ mod page_text;
 
 pub use crate_entry::{CrateEntry, DependencyEntry};
 pub use entries::crate_entries;
-pub use page_text::page;
+pub use page_text::{entry_values, line_of, page, page_value, set_value};

@@ -26,8 +26,8 @@ pub fn page(alloc: Global, db: &InputDb) -> Result<String, AllocError>
     line_of(alloc, &value)
 }
 
-// The entries as JSON objects.
-fn entry_values(alloc: Global, entries: Vec<CrateEntry>) -> Result<Vec<Value>, AllocError>
+/// The entries as JSON objects.
+pub fn entry_values(alloc: Global, entries: Vec<CrateEntry>) -> Result<Vec<Value>, AllocError>
     ensures { IfOk result (λ values. map view values.items ≡ map entry_data entries.items) }
 {
     let mut values = Vec::new(alloc);
@@ -109,8 +109,8 @@ fn set_of(alloc: Global, root: &SourceRoot) -> Result<Value, AllocError>
     set_value(alloc, paths, !root.is_library)
 }
 
-// A value's compact text, and a newline.
-fn line_of(alloc: Global, value: &Value) -> Result<String, AllocError>
+/// A value's compact text, and a newline.
+pub fn line_of(alloc: Global, value: &Value) -> Result<String, AllocError>
     ensures { IfOk result (λ line. has_float (view value.now) ≡ false
         → string_bytes line ≡ compact_text (view value.now) ++ 10 ∷ []) }
 {
@@ -144,16 +144,16 @@ fn strings(alloc: Global, texts: Vec<Text>) -> Result<Vec<Value>, AllocError>
     Ok(values)
 }
 
-// A set of files, each by its path.
-fn set_value(alloc: Global, files: Vec<Text>, is_local: bool) -> Result<Value, AllocError>
+/// A set of files, each by its path, as a JSON object.
+pub fn set_value(alloc: Global, files: Vec<Text>, is_local: bool) -> Result<Value, AllocError>
     ensures { IfOk result (λ value. view value ≡ set_data files.items is_local) }
 {
     let files = strings(alloc, files)?;
     json!(in alloc; {"files": files, "local": is_local})
 }
 
-// The whole page, of the crates' entries and the sets.
-fn page_value(alloc: Global, crates: Vec<Value>, sets: Vec<Value>) -> Result<Value, AllocError>
+/// The whole page, of the entries of crates and the sets, as a JSON object.
+pub fn page_value(alloc: Global, crates: Vec<Value>, sets: Vec<Value>) -> Result<Value, AllocError>
     ensures { IfOk result (λ value. view value
         ≡ page_data (items_view crates.items) (items_view sets.items)) }
 {
