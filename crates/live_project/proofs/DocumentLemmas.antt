@@ -1,0 +1,213 @@
+-- What the reading of a document says of limits: which of them it names, and how many packages it leaves.
+use Rattle.std.proofs.Common.{◌≡◌, ℕ, ◌≤◌, Bool, true, false, cond, List, [], ◌∷◌, ◌++◌, Option, Some, None, Ok, Err, length, refl, ap, subst, arith}
+use Rattle.std.specs.Prelude.{bytes_eq, codes, nat_lt}
+use Rattle.outside.specs.declared.limits.Limit.{Limit}
+use Rattle.outside.specs.declared.limits.Limit.TheVariants.{Packages, Targets}
+use Rattle.outside.specs.declared.limits.Limits.{Limits}
+use Rattle.base_text.specs.Paths.{components, is_absolute, path_text}
+use Rattle.base_values.specs.Sorted.{sorted}
+use Rattle.cargo_meta.specs.declared.metadata.Metadata.{Metadata}
+use Rattle.cargo_meta.specs.declared.package.Package.{Package}
+use Rattle.cargo_values.specs.declared.names.PackageId.{PackageId}
+use Rattle.cargo_values.specs.declared.resolve.Node.{Node}
+use Rattle.cargo_values.specs.declared.resolve.NodeDep.{NodeDep}
+use Rattle.cargo_values.specs.declared.target.Target.{Target}
+use Rattle.pm_packages.specs.declared.package.DepKind.{DepKind}
+use Rattle.pm_packages.specs.declared.package.PackageData.{PackageData}
+use Rattle.pm_packages.specs.declared.package.PackageDependency.{PackageDependency}
+use Rattle.pm_packages.specs.declared.target.TargetData.{TargetData}
+use Rattle.pm_packages.proofs.UpdateLemmas.{length-changed}
+use Rattle.pm_reading.specs.Links.{linked_contents, linked_packages, with_links}
+use Rattle.pm_reading.specs.Nodes.{by_package, dependencies_of_kinds, kinds_of, known_place, link_of, links_of, nodes_of, place_of, place_or_refusal, take_dependency, take_node, with_kinds}
+use Rattle.pm_reading.specs.Packages.{absolute_path, contents_of, by_id, is_script, manifest_path, optional_path, root_of, take_package, take_target, target_with_root, with_package}
+use Rattle.pm_reading.specs.Reading.{Reading, ◌>>=◌, take_each}
+use Rattle.pm_reading.specs.declared.contents.Contents.{Contents}
+use Rattle.pm_reading.specs.declared.nodes.Link.{Link}
+use Rattle.pm_reading.specs.declared.workspace_error.WorkspaceError.TheVariants.{NotAbsolute, NoParent, UnknownPackage, TooMany}
+use Rattle.pm_reading.proofs.ContentsLemmas.{contents-within}
+use Rattle.pm_reading.proofs.HoldsLemmas.{length-with_links}
+use Rattle.pm_members.specs.Members.{member_graph, with_all_member_deps, with_member_deps}
+use Rattle.pm_cargo.specs.ReadWorkspace.{read_workspace}
+use Rattle.pm_cargo.specs.Workspace.{Workspace}
+use Rattle.live_project.specs.Project.{IsDocumentLimit}
+
+-- ---- which limit a refusal names
+
+-- a reading that names a limit names one of documents
+abbrev pub Names : {T : Type 0} → Reading T → Type 0
+Names r = (limit : Limit) → r ≡ Err (TooMany limit) → IsDocumentLimit limit
+
+-- what is given names none
+names_ok : {T : Type 0} (x : T) → Names (Ok x)
+names_ok x limit is = absurd (cc)
+
+-- a refusal of another kind names none
+names_text : {T : Type 0} (text : List ℕ) → Names {T = T} (Err (NotAbsolute text))
+names_text text limit is = absurd (cc)
+
+names_parent : {T : Type 0} (text : List ℕ) → Names {T = T} (Err (NoParent text))
+names_parent text limit is = absurd (cc)
+
+names_unknown : {T : Type 0} (id : List ℕ) → Names {T = T} (Err (UnknownPackage id))
+names_unknown id limit is = absurd (cc)
+
+-- a part, and what is read with its value
+names_bind : {A B : Type 0} (part : Reading A) (rest : A → Reading B) → Names part → ((x : A) → Names (rest x)) → Names (part >>= rest)
+names_bind (Ok x) rest first more limit is = more x limit is
+names_bind (Err e) rest first more limit is = first limit (let same : e ≡ TooMany limit = cc in ap Err same)
+
+-- items in turn
+names_each : {S X : Type 0} (step : S → X → Reading S) → ((s : S) (x : X) → Names (step s x)) → (s : S) (xs : List X) → Names (take_each step s xs)
+unfolding take_each
+names_each step each s [] = names_ok s
+names_each step each s (x ∷ xs) =
+    names_bind (step s x) (λ next. take_each step next xs) (each s x) (λ next. names_each step each next xs)
+
+-- the same by whether a test holds
+names_if : {T : Type 0} (b : Bool) (r q : Reading T) → Names r → Names q → Names (cond b r q)
+names_if true r q first second = first
+names_if false r q first second = second
+
+names_packages : {T : Type 0} → Names {T = T} (Err (TooMany Packages))
+names_packages limit is = subst IsDocumentLimit (let same : Packages ≡ limit = cc in same) tt
+
+names_targets : {T : Type 0} → Names {T = T} (Err (TooMany Targets))
+names_targets limit is = subst IsDocumentLimit (let same : Targets ≡ limit = cc in same) tt
+
+names_path : (text : List ℕ) → Names (absolute_path text)
+unfolding absolute_path
+names_path text = names_if (is_absolute text) (Ok (path_text (components text))) (Err (NotAbsolute text)) (names_ok _) (names_text text)
+
+names_optional : (text : Option (List ℕ)) → Names (optional_path text)
+names_optional None = names_ok None
+names_optional (Some text) = names_bind (absolute_path text) (λ path. Ok (Some path)) (names_path text) (λ path. names_ok (Some path))
+
+pub names_manifest : (text : List ℕ) → Names (manifest_path text)
+unfolding manifest_path
+names_manifest text =
+    names_bind (absolute_path text) (λ path. cond (bytes_eq path (codes "/")) (Err (NoParent path)) (Ok path)) (names_path text)
+    (λ path. names_if (bytes_eq path (codes "/")) (Err (NoParent path)) (Ok path) (names_parent path) (names_ok path))
+
+names_root : (manifest : List ℕ) (t : Target) → Names (root_of manifest t)
+unfolding root_of
+names_root manifest t = names_if (is_script manifest t) (Ok manifest) (absolute_path t.src_path) (names_ok manifest) (names_path t.src_path)
+
+names_target : (limit place : ℕ) (manifest : List ℕ) (targets : List TargetData) (t : Target) → Names (take_target limit place manifest targets t)
+unfolding take_target
+names_target limit place manifest targets t =
+    let added : Reading (List TargetData) = root_of manifest t >>= λ root. Ok (targets ++ target_with_root place t root ∷ []) in
+    names_if (nat_lt (length targets) limit) added (Err (TooMany Targets))
+    (names_bind (root_of manifest t) (λ root. Ok (targets ++ target_with_root place t root ∷ [])) (names_root manifest t) (λ root. names_ok _))
+    names_targets
+
+module _ (members : List PackageId) (limits : Limits) where
+  names_package : (contents : Contents) (p : Package) → Names (take_package members limits contents p)
+  unfolding take_package
+  names_package contents p =
+      let place = length contents.packages in
+      names_if (nat_lt place limits.packages) _ (Err (TooMany Packages))
+      (names_bind (manifest_path p.manifest_path) _ (names_manifest p.manifest_path) (λ manifest.
+      names_bind (take_each (take_target limits.targets place manifest) contents.targets p.targets)
+      (λ targets. Ok (with_package members contents manifest p targets))
+      (names_each (take_target limits.targets place manifest) (names_target limits.targets place manifest) contents.targets p.targets)
+      (λ targets. names_ok _)))
+      names_packages
+
+  names_contents : (packages : List Package) → Names (contents_of members limits packages)
+  unfolding contents_of
+  names_contents packages = names_each (take_package members limits) names_package (record { packages = []; targets = [] }) (sorted by_id packages)
+
+names_place : (packages : List PackageData) (id : List ℕ) → Names (known_place packages id)
+names_place packages id = by (place_of packages id)
+  where
+    by : (o : Option ℕ) → Names (place_or_refusal id o)
+    by None = names_unknown id
+    by (Some place) = names_ok place
+
+names_kinds : (packages : List PackageData) (d : NodeDep) (kinds : List DepKind) → Names (dependencies_of_kinds packages d kinds)
+names_kinds packages d [] = names_ok []
+names_kinds packages d (kind ∷ kinds) =
+    names_bind (known_place packages d.pkg.repr) (λ place. Ok (with_kinds place d.name (kind ∷ kinds))) (names_place packages d.pkg.repr) (λ place. names_ok _)
+
+names_dependency : (packages : List PackageData) (before : List PackageDependency) (d : NodeDep) → Names (take_dependency packages before d)
+unfolding take_dependency
+names_dependency packages before d =
+    names_bind (dependencies_of_kinds packages d (kinds_of d.dep_kinds)) (λ more. Ok (before ++ more)) (names_kinds packages d (kinds_of d.dep_kinds)) (λ more. names_ok _)
+
+names_link : (packages : List PackageData) (node : Node) → Names (link_of packages node)
+unfolding link_of
+names_link packages node =
+    names_bind (known_place packages node.id.repr) _ (names_place packages node.id.repr) (λ place.
+    names_bind (take_each (take_dependency packages) [] (sorted by_package node.deps)) _
+    (names_each (take_dependency packages) (names_dependency packages) [] (sorted by_package node.deps)) (λ dependencies. names_ok _))
+
+names_node : (packages : List PackageData) (links : List Link) (node : Node) → Names (take_node packages links node)
+unfolding take_node
+names_node packages links node = names_bind (link_of packages node) (λ link. Ok (links ++ link ∷ [])) (names_link packages node) (λ link. names_ok _)
+
+names_linked : (packages : List PackageData) (nodes : List Node) → Names (linked_packages packages nodes)
+unfolding linked_packages
+names_linked packages nodes =
+    names_bind (links_of packages nodes) (λ links. Ok (with_links links packages))
+    (names_each (take_node packages) (names_node packages) [] nodes) (λ links. names_ok _)
+
+names_all : (members : List PackageId) (limits : Limits) (packages : List Package) (nodes : List Node) → Names (linked_contents members limits packages nodes)
+unfolding linked_contents
+names_all members limits packages nodes =
+    names_bind (contents_of members limits packages) _ (names_contents members limits packages) (λ contents.
+    names_bind (linked_packages contents.packages nodes) _ (names_linked contents.packages nodes) (λ linked. names_ok _))
+
+-- a document that is refused by a limit is refused by that of packages or that of targets
+pub names_document : (document : Metadata) (manifest : List ℕ) (env : List (List ℕ × List ℕ)) (is_sysroot : Bool) (limits : Limits) → Names (read_workspace document manifest env is_sysroot limits)
+unfolding read_workspace
+names_document document manifest env is_sysroot limits =
+    names_bind (absolute_path document.workspace_root) _ (names_path document.workspace_root) (λ root.
+    names_bind (absolute_path document.target_directory) _ (names_path document.target_directory) (λ target.
+    names_bind (optional_path document.build_directory) _ (names_optional document.build_directory) (λ build.
+    names_bind (linked_contents document.workspace_members limits document.packages (nodes_of document.resolve)) _
+    (names_all document.workspace_members limits document.packages (nodes_of document.resolve)) (λ contents. names_ok _))))
+
+-- ---- how many packages there are
+
+-- what a reading gives is so
+abbrev pub Keeps : {T : Type 0} → (T → Type 0) → Reading T → Type 0
+Keeps {T} P r = (x : T) → r ≡ Ok x → P x
+
+keeps_ok : {T : Type 0} (P : T → Type 0) (y : T) → P y → Keeps P (Ok y)
+keeps_ok P y h x is = subst P (let same : y ≡ x = cc in same) h
+
+keeps_bind : {A B : Type 0} (P : B → Type 0) (part : Reading A) (rest : A → Reading B) → ((x : A) → part ≡ Ok x → Keeps P (rest x)) → Keeps P (part >>= rest)
+keeps_bind P (Ok x) rest more y is = more x refl y is
+keeps_bind P (Err e) rest more y is = absurd (cc)
+
+linked_length : (packages : List PackageData) (nodes : List Node) → Keeps (λ linked. length linked ≡ length packages) (linked_packages packages nodes)
+unfolding linked_packages
+linked_length packages nodes =
+    keeps_bind (λ linked. length linked ≡ length packages) (links_of packages nodes) (λ links. Ok (with_links links packages)) (λ links is.
+    keeps_ok (λ linked. length linked ≡ length packages) (with_links links packages) (length-with_links links packages))
+
+linked_few : (members : List PackageId) (limits : Limits) (packages : List Package) (nodes : List Node)
+    → Keeps (λ contents. length contents.packages ≤ limits.packages) (linked_contents members limits packages nodes)
+unfolding linked_contents
+linked_few members limits packages nodes =
+    keeps_bind (λ (c : Contents). length c.packages ≤ limits.packages) (contents_of members limits packages) _ (λ contents is.
+    keeps_bind (λ (c : Contents). length c.packages ≤ limits.packages) (linked_packages contents.packages nodes) _ (λ linked given.
+    keeps_ok (λ (c : Contents). length c.packages ≤ limits.packages) (record { packages = linked; targets = contents.targets })
+    (let few = contents-within members limits contents packages is in let same = linked_length contents.packages nodes linked given in omega (arith, few, same))))
+
+members_length : (packages : List PackageData) → length (with_all_member_deps packages) ≡ length packages
+unfolding with_all_member_deps
+members_length packages = length-changed (with_member_deps (member_graph packages)) 0 packages
+
+-- a workspace that is read has at most as many packages as the limit
+pub document_few : (document : Metadata) (manifest : List ℕ) (env : List (List ℕ × List ℕ)) (is_sysroot : Bool) (limits : Limits)
+    → Keeps (λ w. length w.packages ≤ limits.packages) (read_workspace document manifest env is_sysroot limits)
+unfolding read_workspace
+document_few document manifest env is_sysroot limits =
+    let Few : Workspace → Type 0 = λ w. length w.packages ≤ limits.packages in
+    keeps_bind Few (absolute_path document.workspace_root) _ (λ root of_root.
+    keeps_bind Few (absolute_path document.target_directory) _ (λ target of_target.
+    keeps_bind Few (optional_path document.build_directory) _ (λ build of_build.
+    keeps_bind Few (linked_contents document.workspace_members limits document.packages (nodes_of document.resolve)) _ (λ contents is.
+    keeps_ok Few _ (let few = linked_few document.workspace_members limits document.packages (nodes_of document.resolve) contents is in
+    let same = members_length contents.packages in omega (arith, few, same))))))

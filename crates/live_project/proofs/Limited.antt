@@ -1,0 +1,39 @@
+-- The limit that refuses the crates of a project is that of crates.
+use Rattle.std.proofs.Common.{◌≡◌, ℕ, Bool, true, false, cond, List, Option, Some, None, Err, length}
+use Rattle.std.specs.Prelude.{nat_lt, slice_get}
+use Rattle.outside.specs.declared.limits.Limit.{Limit}
+use Rattle.outside.specs.declared.limits.Limit.TheVariants.{Crates}
+use Rattle.crate_values.specs.declared.workspace_data.CrateWorkspaceData.{CrateWorkspaceData}
+use Rattle.pm_cargo.specs.Workspace.{Workspace}
+use Rattle.pm_loader.specs.Loader as by_path
+use Rattle.pm_lower.specs.ToCrateGraph.{kind_lowering, shared_of}
+use Rattle.pm_lower.specs.declared.project_workspace.ProjectWorkspaceKind.{ProjectWorkspaceKind}
+use Rattle.pm_lower.specs.declared.project_workspace.ProjectWorkspaceKind.TheVariants.{Cargo}
+use Rattle.pm_rows.specs.Lowering.{lowering, named_crates}
+use Rattle.pm_rows.specs.Rows.{Part, parts, rows_of_parts}
+use Rattle.pm_rows.specs.WantedEdges.{bad_names}
+use Rattle.pm_rows.specs.declared.lower_error.LowerError.TheVariants.{TooMany}
+use Rattle.vfs_core.specs.VfsPath.{PathContent}
+use Rattle.live_project.specs.Crates.{files_by_path, lowered}
+use Rattle.live_project.specs.Project.{ProjectContent}
+
+-- a name names no limit
+named-limit : (shared : CrateWorkspaceData) (all : List Part) (bad : Option (List ℕ)) (limit : Limit) → named_crates shared all bad ≡ Err (TooMany limit) → limit ≡ Crates
+named-limit shared all None limit is = cc
+named-limit shared all (Some name) limit is = cc
+
+-- the same by whether there are too many
+parts-limit : (shared : CrateWorkspaceData) (all : List Part) (is_more : Bool) (limit : Limit)
+    → cond is_more (Err (TooMany Crates)) (named_crates shared all (slice_get (bad_names all) 0)) ≡ Err (TooMany limit) → limit ≡ Crates
+parts-limit shared all true limit is = cc
+parts-limit shared all false limit is = named-limit shared all (slice_get (bad_names all) 0) limit is
+
+workspace-limit : (files : by_path.Files) (w : Workspace) (shared : CrateWorkspaceData) (most : ℕ) (limit : Limit) → lowering files w shared most ≡ Err (TooMany limit) → limit ≡ Crates
+unfolding lowering
+workspace-limit files w shared most limit is = parts-limit shared (parts files w) (nat_lt most (length (rows_of_parts (parts files w)))) limit is
+
+kind-limit : (files : by_path.Files) (kind : ProjectWorkspaceKind) (shared : CrateWorkspaceData) (most : ℕ) (limit : Limit) → kind_lowering files kind shared most ≡ Err (TooMany limit) → limit ≡ Crates
+kind-limit files (Cargo cargo error scripts rustc) shared most limit is = workspace-limit files cargo shared most limit is
+
+pub lowered_limit : (p : ProjectContent) (files : List (ℕ × PathContent)) (limit : Limit) → lowered p files ≡ Err (TooMany limit) → limit ≡ Crates
+lowered_limit p files limit is = kind-limit (files_by_path files) p.workspace.kind (shared_of p.workspace) p.sources.config.limits.crates limit is

@@ -1,0 +1,215 @@
+//! A project as its load read it, with what that kept.
+
+ghost use Rattle.std.specs.Prelude.{◌≡◌, ◌+◌, ◌<◌, ◌^◌, IfErr, IfOk, Some, length};
+ghost use Rattle.vfs_core.specs.Files.{existing_files};
+ghost use Rattle.live_input.specs.Config.{Fits};
+ghost use Rattle.pm_build.specs.Reading as build;
+ghost use Rattle.pm_lower.specs.Loading.{Gives};
+ghost use Rattle.pm_lower.specs.Project.{read_project};
+ghost use Rattle.pm_rows.specs.Lowering.{IsLowered, LacksCyclesAlone};
+ghost use Rattle.live_project.specs.Build.{built_project, with_build};
+ghost use Rattle.live_project.specs.Crates.{BeginIn, lowered, lowered_by, wanted, wanted_by};
+ghost use Rattle.live_project.specs.Project.{Loads, NamesLoadLimit, cargo_manifest, manifest_named, read_named, read_sources};
+ghost use Rattle.live_project.specs.Roots.{roots_of_project};
+ghost use Rattle.live_project.specs.Sources.{means_of_sources};
+
+use crate::live_files::files_by_path;
+use crate::project_error::ProjectError;
+use crate::project_roots::file_roots;
+use crate::sources::Sources;
+use base_text::{AbsPathBuf, Items, Output, PathError, TryClone};
+use crate_graph::CrateGraphBuilder;
+use live_flush::FileRoot;
+use pm_build::{BuildError, WorkspaceBuildScripts};
+use pm_config::Quiet;
+use pm_loader::Loader;
+use pm_lower::{LoadError, ProjectWorkspace};
+use pm_packages::ManifestPath;
+use pm_rows::LowerError;
+use pm_tools::ProjectManifest;
+use std::alloc::{AllocError, Global};
+use std::marker::Model;
+use vfs_core::Vfs;
+
+/// A project, with the configuration, the answers, the files and the path that its load was made with. What is asked of it later asks
+/// these alone.
+#[derive(Drop)]
+pub struct Project {
+    sources: Sources,
+    workspace: ProjectWorkspace,
+}
+
+impl Model for Project {
+    ghost use Rattle.live_project.specs.Project.{IsLoaded, ProjectContent, project_code};
+
+    ghost Value = { ProjectContent };
+
+    ghost coded = { project_code };
+
+    ghost view = { λ p. record { sources = p.sources; workspace = p.workspace } };
+
+    ghost invariant = { λ p. IsLoaded (record { sources = p.sources; workspace = p.workspace }) };
+}
+
+// The path of the manifest of a project of cargo.
+fn cargo_manifest(manifest: ProjectManifest) -> Option<ManifestPath>
+    ensures { result ≡ cargo_manifest manifest }
+{
+    match manifest {
+        ProjectManifest::CargoToml(path) => Some(path),
+        ProjectManifest::ProjectJson(_) | ProjectManifest::CargoScript(_) => None,
+    }
+}
+
+// The manifest that a text names, if it does.
+fn manifest_named(alloc: Global, text: &str) -> Result<Option<ManifestPath>, AllocError>
+    ensures { IfOk result (λ manifest. manifest ≡ manifest_named text.now) }
+{
+    let path = match AbsPathBuf::new(alloc, text) {
+        Ok(path) => path,
+        Err(PathError::NotAbsolute) => return Ok(None),
+        Err(PathError::OutOfMemory) => return Err(AllocError),
+    };
+    match ProjectManifest::from_manifest_file(path) {
+        Ok(manifest) => Ok(cargo_manifest(manifest)),
+        Err(_) => Ok(None),
+    }
+}
+
+// What is read of a manifest with what a load keeps.
+fn workspace_of(
+    alloc: Global,
+    manifest: ManifestPath,
+    sources: &Sources,
+) -> Result<ProjectWorkspace, LoadError>
+    requires { Fits sources.now.config }
+    ensures { Gives result (read_project manifest sources.now.config.cargo sources.now.config.limits
+        (means_of_sources sources.now)) }
+{
+    let config = sources.config.get();
+    let manifest = ProjectManifest::CargoToml(manifest);
+    let ask = sources.ask();
+    ProjectWorkspace::load(
+        alloc,
+        &manifest,
+        &config.cargo,
+        &config.limits,
+        &ask,
+        &mut Quiet,
+    )
+}
+
+impl Project {
+    /// Loads the project of the manifest that the path of the sources names, and keeps the sources. An error says which refusal
+    /// comes first, and names no other limit than those of packages and targets.
+    pub fn load(alloc: Global, sources: Sources) -> Result<Project, ProjectError>
+        requires { Fits sources.config }
+        ensures loads { Loads sources (read_sources sources) result }
+        ensures limits { IfErr result NamesLoadLimit }
+    {
+        let named = manifest_named(alloc, sources.path.as_str())?;
+        match named {
+            None => Err(ProjectError::BadManifest(sources.path)),
+            Some(manifest) => Project::of_manifest(alloc, manifest, sources),
+        }
+    }
+
+    // Loads the project of a manifest.
+    fn of_manifest(
+        alloc: Global,
+        manifest: ManifestPath,
+        sources: Sources,
+    ) -> Result<Project, ProjectError>
+        requires { Fits sources.config }
+        ensures loads { Loads sources (read_named sources (Some manifest)) result }
+        ensures limits { IfErr result NamesLoadLimit }
+    {
+        let workspace = workspace_of(alloc, manifest, &sources)?;
+        Ok(Project { sources, workspace })
+    }
+
+    /// The project with what a build of it gives by what its command wrote, in place of what an earlier build gave. A project whose
+    /// light metadata stands in for the full one keeps the defaults, whatever was written.
+    pub fn build(&self, alloc: Global, output: &Output) -> Result<Project, BuildError>
+        ensures { build.Gives result (built_project self.now output.now) }
+    {
+        let workspace = &self.workspace;
+        let scripts = workspace.build_scripts_of_output(alloc, output, &mut Quiet)?;
+        Ok(self.with_build(alloc, scripts)?)
+    }
+
+    // The project with these outputs of a build.
+    fn with_build(
+        &self,
+        alloc: Global,
+        scripts: WorkspaceBuildScripts,
+    ) -> Result<Project, AllocError>
+        ensures { IfOk result (λ project. project ≡ with_build self.now scripts) }
+    {
+        let sources = self.sources.try_clone(alloc)?;
+        let mut workspace = self.workspace.try_clone(alloc)?;
+        workspace.set_build_scripts(scripts);
+        Ok(Project { sources, workspace })
+    }
+
+    /// The project as its load read it, with what its last build gave.
+    pub fn workspace(&self) -> &ProjectWorkspace
+        ensures { result.now ≡ self.now.workspace }
+    {
+        &self.workspace
+    }
+
+    /// What its load kept.
+    pub fn sources(&self) -> &Sources
+        ensures { result.now ≡ self.now.sources }
+    {
+        &self.sources
+    }
+
+    /// The roots that place the project's files, in the order of its roots.
+    pub fn file_roots(&self, alloc: Global) -> Result<Items<FileRoot>, AllocError>
+        ensures roots { IfOk result (λ roots. roots ≡ roots_of_project self.now.workspace) }
+        ensures few { length (roots_of_project self.now.workspace) + 1 < 2 ^ 32 }
+    {
+        let roots = self.workspace.to_roots(alloc)?;
+        file_roots(alloc, roots.as_slice())
+    }
+
+    /// The graph of the crates whose root files a loader has: at most as many as the load's configuration allows, with the edges
+    /// that it wants, each unless it would close a cycle.
+    pub fn crate_graph_by<L: Loader>(
+        &self,
+        alloc: Global,
+        loader: &mut L,
+    ) -> Result<CrateGraphBuilder, LowerError>
+        ensures lowers { IsLowered self.now.sources.config.limits.crates result
+            (lowered_by self.now (L.files loader.old)) }
+        ensures missing { IfOk result (λ graph. LacksCyclesAlone
+            (wanted_by self.now (L.files loader.old)) graph.crates) }
+    {
+        let limits = &self.sources.config.get().limits;
+        let ask = self.sources.ask();
+        let found = self.workspace.to_crate_graph(alloc, loader, limits, &ask)?;
+        Ok(found.0)
+    }
+
+    /// The graph of the crates whose root files exist. Each begins in one of these files.
+    pub fn crate_graph(&self, alloc: Global, files: &Vfs) -> Result<CrateGraphBuilder, LowerError>
+        ensures lowers { IsLowered self.now.sources.config.limits.crates result
+            (lowered self.now (existing_files files.now)) }
+        ensures missing { IfOk result (λ graph. LacksCyclesAlone
+            (wanted self.now (existing_files files.now)) graph.crates) }
+        ensures begins { IfOk result (λ graph. BeginIn (existing_files files.now) graph.crates) }
+    {
+        let mut loader = files_by_path(alloc, files)?;
+        self.crate_graph_by(alloc, &mut loader)
+    }
+}
+
+impl TryClone for Project {
+    fn try_clone(&self, alloc: Global) -> Result<Self, AllocError> {
+        let sources = self.sources.try_clone(alloc)?;
+        let workspace = self.workspace.try_clone(alloc)?;
+        Ok(Project { sources, workspace })
+    }
+}
