@@ -1,7 +1,7 @@
 -- The files that exist, of a file system that follows marks, are the live files of the marks, in one order.
 use Rattle.std.proofs.Common.{◌≡◌, ℕ, zero, suc, ◌+◌, ◌<◌, nat_eq, eq-eqb, slice_get, subst, Bool, true, false, List, [], ◌∷◌, ◌++◌, Option, Some, None, get_or, map, refl, sym, ◌∙◌, ap, arith, is_some, if◌then◌else◌}
 use Rattle.std.proofs.lemmas.Bool.Decides.{nat_tests}
-use Rattle.std.specs.List.{All, IsDistinct, filter_map, list_any}
+use Rattle.std.specs.List.{All, IsDistinct, enumerate_from, filter_map, list_any}
 use Rattle.std.specs.Map.{keys_of, lookup}
 use Rattle.std.specs.Option.{option_map, unwrap_or}
 use Rattle.std.proofs.lemmas.List.Elements.{All-contains_itself, All-tail}
@@ -17,9 +17,11 @@ use Rattle.vfs_core.specs.Marks.{live_files, live_text, mentioned_paths}
 use Rattle.vfs_core.specs.VfsPath.{PathContent, vfs_path_eq}
 use Rattle.vfs_core.specs.VfsPathOrder.{vfs_path_equiv}
 use Rattle.vfs_core.proofs.LiveLemmas.{existing_files-told}
+use Rattle.live.specs.Page.{LiveFile}
+use Rattle.live.specs.Session.{live_file, numbered_files}
 
 -- the live files among some places, by the text that counts for each
-abbrev live_of : (PathContent → Option (List ℕ)) → List PathContent → List (PathContent × List ℕ)
+abbrev pub live_of : (PathContent → Option (List ℕ)) → List PathContent → List (PathContent × List ℕ)
 live_of text_of places = filter_map (λ place. option_map (λ text. (place, text)) (text_of place)) places
 
 -- an entry exists where a text counts for it
@@ -124,3 +126,52 @@ existing_found number (suc place) (first ∷ entries) entry file at exists is =
     found-split number file first.0 (existing_files_from (number + 1) entries) (is_existing first.1) false (Some entry.0) refl
     (existing_found (number + 1) place entries entry file at exists (omega (arith, is)))
     (apart file number (omega (arith, is)))
+
+-- ---- the files that live, by number
+
+-- the file of a numbered place, by the text that counts for it
+abbrev pub file_by : (PathContent → Option (List ℕ)) → ℕ × PathContent → Option LiveFile
+file_by text_of place = option_map (λ text. record { number = place.0; path = place.1; text = text }) (text_of place.1)
+
+-- a file by its number
+abbrev pub numbered : LiveFile → ℕ × PathContent
+numbered file = (file.number, file.path)
+
+-- a file with its text
+abbrev pub texted : LiveFile → PathContent × List ℕ
+texted file = (file.path, file.text)
+
+numbered-split : (text_of : PathContent → Option (List ℕ)) (number : ℕ) (place : PathContent) (state : FileState) (entries : List (PathContent × FileState)) (text : Option (List ℕ))
+    → is_existing state ≡ is_some text → text_of place ≡ text
+    → existing_files_from (number + 1) entries ≡ map numbered (filter_map (file_by text_of) (enumerate_from (number + 1) (keys_of entries)))
+    → existing_files_from number ((place, state) ∷ entries) ≡ map numbered (filter_map (file_by text_of) (enumerate_from number (place ∷ keys_of entries)))
+numbered-split text_of number place state entries None told is more = rw (told, is) more
+numbered-split text_of number place state entries (Some text) told is more = rw (told, is) (ap (λ l. (number, place) ∷ l) more)
+
+numbered-from : (text_of : PathContent → Option (List ℕ)) (number : ℕ) (entries : List (PathContent × FileState)) → All (IsTold text_of) entries
+    → existing_files_from number entries ≡ map numbered (filter_map (file_by text_of) (enumerate_from number (keys_of entries)))
+numbered-from text_of number [] told = refl
+numbered-from text_of number (entry ∷ entries) told =
+    numbered-split text_of number entry.0 entry.1 entries (text_of entry.0) (told 0 entry (omega arith)) refl
+    (numbered-from text_of (number + 1) entries (All-tail (IsTold text_of) entry entries told))
+
+-- the files that exist are the live files of the marks, by number
+pub existing_numbered : (files : Files) (marks : List Mark) → Follows files marks → existing_files files ≡ map numbered (numbered_files marks)
+existing_numbered files marks follows =
+    numbered-from (live_text marks) 0 files.entries (entries_told files marks follows)
+    ∙ ap (λ places. map numbered (filter_map (live_file marks) (enumerate_from 0 places))) follows.numbers
+
+texted-split : (text_of : PathContent → Option (List ℕ)) (number : ℕ) (place : PathContent) (places : List PathContent) (text : Option (List ℕ)) → text_of place ≡ text
+    → map texted (filter_map (file_by text_of) (enumerate_from (number + 1) places)) ≡ live_of text_of places
+    → map texted (filter_map (file_by text_of) (enumerate_from number (place ∷ places))) ≡ live_of text_of (place ∷ places)
+texted-split text_of number place places None is more = rw is more
+texted-split text_of number place places (Some text) is more = rw is (ap (λ l. (place, text) ∷ l) more)
+
+texted-from : (text_of : PathContent → Option (List ℕ)) (number : ℕ) (places : List PathContent)
+    → map texted (filter_map (file_by text_of) (enumerate_from number places)) ≡ live_of text_of places
+texted-from text_of number [] = refl
+texted-from text_of number (place ∷ places) = texted-split text_of number place places (text_of place) refl (texted-from text_of (number + 1) places)
+
+-- without their numbers they are the live files
+pub numbered_texts : (marks : List Mark) → map texted (numbered_files marks) ≡ live_files marks
+numbered_texts marks = texted-from (live_text marks) 0 (mentioned_paths marks)

@@ -1,55 +1,143 @@
 -- What a session holds after a flush, and what its database shows.
-use Rattle.std.proofs.Common.{◌≡◌, ℕ, Bool, true, false, List, [], ◌∷◌, ◌++◌, Option, Some, refl, sym, ◌∙◌, ap, subst, map, nat_eq, slice_get, arith, append-nil}
-use Rattle.std.specs.List.{IsDistinct}
+use Rattle.std.proofs.Common.{◌≡◌, ℕ, ◌≤◌, Bool, true, false, List, [], ◌∷◌, Option, Some, None, Ok, inl, inr, ◌⊎◌, length, refl, sym, ◌∙◌, ap, subst, map, nat_eq, slice_get, arith, append-nil}
+use Rattle.std.specs.List.{All, IsDistinct}
 use Rattle.std.specs.Map.{lookup}
+use Rattle.std.specs.Option.{option_map}
 use Rattle.std.specs.Str.{is_utf8}
 use Rattle.std.specs.Io.KnownBytes.{Appends}
+use Rattle.std.specs.declared.cmp.Ordering.{Ordering}
+use Rattle.std.proofs.lemmas.List.{length-map}
+use Rattle.std.proofs.lemmas.List.Elements.{All-cons, All-head, All-nil, All-tail}
 use Rattle.std.proofs.lemmas.Simd.{map-map}
-use Rattle.serde_json.specs.Data.{item, no_items}
-use Rattle.serde_json.specs.Written.{compact_text}
+use Rattle.base_values.specs.Sorted.{sorted}
 use Rattle.vfs_core.specs.declared.file_state.FileState.{FileState}
 use Rattle.vfs_core.specs.Files.{Follows, existing_files, paths_of}
-use Rattle.vfs_core.specs.Marks.{live_files, live_text}
+use Rattle.vfs_core.specs.Marks.{live_text}
 use Rattle.vfs_core.specs.Texts.{BringsTo, all_pass}
 use Rattle.vfs_core.specs.VfsPath.{PathContent, vfs_path_eq}
-use Rattle.pages.specs.Page.{page_data, page_of, set_data, sorted_texts}
-use Rattle.pages.proofs.Pages.{no_entries}
-use Rattle.live_flush.specs.Page.{paths_at}
-use Rattle.live_flush.specs.Page as flush
-use Rattle.std.specs.Prelude.{OnOk, Result, Ok, Err}
+use Rattle.crate_graph.specs.Graph.{Graph}
+use Rattle.crate_values.specs.declared.builder.CrateBuilder.{CrateBuilder}
+use Rattle.input_db.specs.Database.{Database}
+use Rattle.input_db.specs.Identity.{Id}
 use Rattle.vfs_sets.specs.Probes.{CountsPlacing}
-use Rattle.live_flush.specs.Refresh.{KeepsCrates, Refreshes}
+use Rattle.live_input.specs.declared.event.Event.TheVariants.{Flush as FlushEvent}
+use Rattle.pages.specs.Entries.{Node, entries_of, entries_shown, node_of, path_in}
+use Rattle.pages.specs.Page.{page_of}
+use Rattle.pages.proofs.Alike.{entries_alike}
+use Rattle.pages.proofs.GraphEntries.{entries_after_set}
+use Rattle.pages.proofs.Pages.{no_entries}
+use Rattle.pm_rows.specs.Lowering.{Crate, crate_seen}
+use Rattle.live_flush.specs.Page as placed
+use Rattle.live_flush.specs.FileRoots.{root_lists}
+use Rattle.live_flush.specs.Refresh.{GivesCrates, KeepsCrates, Refreshes}
 use Rattle.live_flush.specs.Shape.{base_image, base_shape, file_image, file_shape, files_sorted, image, texts_known}
-use Rattle.live_flush.proofs.Shown.{base_is, page_is, place_is, text_is}
-use Rattle.live.specs.declared.session.Live.{Live}
+use Rattle.live_flush.specs.declared.file_root.FileRoot.{FileRoot}
+use Rattle.live_flush.proofs.Shown.{base_is, page_is, path_is, place_is, text_is}
+use Rattle.live_project.specs.Crates.{BeginIn}
+use Rattle.live_project.specs.Project.{ProjectContent}
 use Rattle.live.specs.declared.fault.LiveError.{LiveError}
-use Rattle.live.specs.declared.fault.LiveError.TheVariants.{OutOfMemory, Usage, ReadFault, WriteFault, Script, TooMany}
-use Rattle.live.specs.Fault.{IsOneOf, IsRefusal, flush_statuses, status_of}
-use Rattle.live.specs.Image.{paths_of_flush}
-use Rattle.live.specs.Page.{page}
-use Rattle.live.specs.Refresh.{RefreshesLive}
-use Rattle.live.specs.Session.{State, ended_state, flush_of, flush_turn}
-use Rattle.live.specs.Turn.{EndsTurn, HasEnded, Holds, IsCurrent, ShowsShape, TakesTurn}
+use Rattle.live.specs.declared.fault.LiveError.TheVariants.{OutOfMemory, WriteFault}
+use Rattle.live.specs.declared.last_flush.LastFlush.{LastFlush}
+use Rattle.live.specs.declared.session.Live.{Live}
+use Rattle.live.specs.Crates.{ListsInOrder, ShowsCrates}
+use Rattle.live.specs.Fault.{IsRefusal}
+use Rattle.live.specs.Image.{texts_of_flush}
+use Rattle.live.specs.Page.{Flush, LiveFile, crates_by, crates_of_flush, entries, node_seen, numbers_of_flush, page, path_by, paths_of_flush, roots_by}
+use Rattle.live.specs.Refresh.{IsGraphBy, KeepsLast, RefreshesLive}
+use Rattle.live.specs.Session.{State, ended_state, flush_of, flush_turn, flushed_turn}
+use Rattle.live.specs.Turn.{CountsFlush, EndsTurn, HasEnded, Holds, IsCurrent, IsLast, KeepsFlush, LeavesAsWas, ShowsShape, TakesTurn}
 use Rattle.live.specs.Written.{AppendsFront, AppendsProperFront}
-use Rattle.live.proofs.Existing.{existing_files-Follows, existing_found, file_told, files_live, mentioned_paths-distinct}
-use Rattle.live.proofs.Outcomes.{AppendsFront-nil}
+use Rattle.live.proofs.Existing.{existing_found, existing_numbered, file_told, files_live, mentioned_paths-distinct, numbered_texts}
+use Rattle.live.proofs.Listed.{lists_in_order, shows_project}
 use Rattle.live.proofs.Slots.{number_is, slot_of}
+use Rattle.live.specs.LiveTexts.{files_kept}
+use Rattle.live.proofs.TextRows.{files_kept-live}
 
--- where no root places files, all are in one set
-all-here : (paths : List PathContent) → paths_at [] paths 0 ≡ paths
-all-here [] = refl
-all-here (path ∷ paths) = ap (λ l. path ∷ l) (all-here paths)
+-- ---- what a call leaves as it was
 
--- and their page without entries is the page of a flush
-page-of-all : (files : List (PathContent × List ℕ)) → flush.page [] (map (λ f. f.0) files) [] ≡ page (record { files = files })
-unfolding page flush.page
-page-of-all files =
-    ap (λ texts. compact_text (page_data no_items (item (set_data (sorted_texts texts) true) no_items)) ++ 10 ∷ [])
-    (ap (map (λ (p : PathContent). p.text)) (all-here (map (λ f. f.0) files)) ∙ map-map (λ (p : PathContent). p.text) (λ f. f.0) files)
+-- what is kept of a flush is stored; the rest is as it was
+pub record IsStored (old new : Live) (last : LastFlush) : Type 0 where
+  pub flushed : new.flushed ≡ Some last
+  pub config : new.config ≡ old.config
+  pub files : new.files ≡ old.files
+  pub texts : new.texts ≡ old.texts
+  pub answers : new.answers ≡ old.answers
+  pub project : new.project ≡ old.project
+  pub db : new.db ≡ old.db
+  pub probes : new.probes ≡ old.probes
+  pub ended : new.ended ≡ old.ended
+
+-- a session has ended; the rest is as it was, but for the database, of which nothing is said
+pub record IsEnded (old new : Live) : Type 0 where
+  pub config : new.config ≡ old.config
+  pub files : new.files ≡ old.files
+  pub texts : new.texts ≡ old.texts
+  pub answers : new.answers ≡ old.answers
+  pub project : new.project ≡ old.project
+  pub flushed : new.flushed ≡ old.flushed
+  pub ended : new.ended ≡ true
+
+-- ---- the crates of a graph
+
+-- a crate of a graph is seen by its entry as the definition has it
+pub nodes-seen : (crates : List CrateBuilder) → map node_of crates ≡ map node_seen (map crate_seen crates)
+nodes-seen [] = refl
+nodes-seen (krate ∷ crates) =
+    let rest = nodes-seen crates in
+    let deps = map-map (λ dep. (dep.name, dep.target)) _ krate.basic.dependencies in
+    λ i. record { root_file = krate.basic.root_file_id; dependencies = sym deps i } ∷ rest i
+
+-- the crates by what a flush was given, where that has a graph or none
+graph-crates : (p : Option ProjectContent) (files : List (ℕ × PathContent)) (graph : Option Graph) → IsGraphBy p files graph
+    → (crates : List Crate) × (crates_by p files ≡ Ok crates)
+graph-crates None files graph none = ([], refl)
+graph-crates (Some p) files None none = absurd none
+graph-crates (Some p) files (Some graph) is = (map crate_seen graph.crates, is.crates)
+
+-- a node whose root file exists has one path in both
+nodes-alike : (paths others : ℕ → Option (List ℕ)) (files : List (ℕ × PathContent)) (crates : List CrateBuilder)
+    → ((file : ℕ) (path : PathContent) → lookup (nat_eq file) files ≡ Some path → paths file ≡ others file)
+    → BeginIn files crates → All (λ node. paths node.root_file ≡ others node.root_file) (map node_of crates)
+nodes-alike paths others files [] same begin = All-nil (λ node. paths node.root_file ≡ others node.root_file)
+nodes-alike paths others files (krate ∷ crates) same begin =
+    let Begins : CrateBuilder → Type 0 = λ k. (path : PathContent) × (lookup (nat_eq k.basic.root_file_id) files ≡ Some path) in
+    let first = All-head Begins krate crates begin in
+    All-cons (λ (node : Node). paths node.root_file ≡ others node.root_file) (node_of krate) (map node_of crates)
+    (same krate.basic.root_file_id first.0 first.1) (nodes-alike paths others files crates same (All-tail Begins krate crates begin))
+
+-- nothing is found in no list
+none-there : (place krate : ℕ) → slice_get [] place ≡ Some krate → ⊥
+none-there place krate at = cc
+
+-- no crates, no entries
+pub entries-none : (paths : ℕ → Option (List ℕ)) → entries_of paths [] ≡ []
+unfolding sorted
+entries-none paths = refl
 
 module _ (live live' : Live) (r : RefreshesLive live live') (s : State) (h : Holds live s) (going : s.ended ≡ false) where
+  -- what the flush is of
+  abbrev flush : Flush
+  flush = flush_of s
+
+  abbrev roots : List FileRoot
+  roots = roots_by live.project
+
   current : IsCurrent live s
   current = h.database going
+
+  same_roots : roots ≡ roots_by flush.project
+  same_roots = ap roots_by h.project
+
+  -- the files that exist are those of the flush, by number
+  numbers-are : existing_files live.files ≡ numbers_of_flush flush
+  numbers-are = existing_numbered live.files s.marks h.texts.follows
+
+  same-paths : map (λ file. file.1) (existing_files live.files) ≡ paths_of_flush flush
+  same-paths = ap (map (λ file. file.1)) numbers-are ∙ map-map (λ (file : ℕ × PathContent). file.1) (λ file. (file.number, file.path)) flush.files
+
+  -- its paths are those of its files with their texts
+  texts-paths : map (λ file. file.0) (texts_of_flush flush) ≡ paths_of_flush flush
+  texts-paths = map-map (λ (file : PathContent × List ℕ). file.0) (λ (file : LiveFile). (file.path, file.text)) flush.files
 
   -- a file that lives is found among those that exist
   found : (number : ℕ) (entry : PathContent × FileState) (text : List ℕ)
@@ -64,61 +152,135 @@ module _ (live live' : Live) (r : RefreshesLive live live') (s : State) (h : Hol
       → texts_known live'.db number ≡ Some text
   text_now place number text state at lives =
       let distinct : IsDistinct vfs_path_eq (paths_of live.files) = subst (IsDistinct vfs_path_eq) (sym h.texts.follows.numbers) (mentioned_paths-distinct s.marks) in
-      text_is [] live.files live.db live'.db r.refreshes number place (found number (place, state) text at lives) text
+      text_is roots live.files live.db live'.db r.refreshes number place (found number (place, state) text at lives) text
       current.valid (current.brings.each place number text (number_is live.files number (place, state) distinct at) lives)
 
   -- the files that exist are shown as those that live
-  files-shown : map (file_image live'.db) (existing_files live.files) ≡ map (file_shape []) (live_files s.marks)
-  files-shown = files_live (file_image live'.db) (file_shape []) live.files s.marks h.texts.follows (λ number entry text at lives. λ i. record {
+  files-shown : map (file_image live'.db) (existing_files live.files) ≡ map (file_shape roots) (texts_of_flush flush)
+  files-shown = files_live (file_image live'.db) (file_shape roots) live.files s.marks h.texts.follows (λ number entry text at lives. λ i. record {
     path = entry.0;
     text = text_now entry.0 number text entry.1 at lives i;
-    place = place_is [] live.files live.db live'.db r.refreshes number entry.0 (found number entry text at lives) i;
-  })
+    place = place_is roots live.files live.db live'.db r.refreshes number entry.0 (found number entry text at lives) i;
+  }) ∙ ap (map (file_shape roots)) (sym (numbered_texts s.marks))
 
-  same-paths : map (λ file. file.1) (existing_files live.files) ≡ paths_of_flush (flush_of s)
-  same-paths = existing_files-Follows live.files s.marks h.texts.follows
+  -- the database shows the base of the flush
+  base-shown : base_image live'.db ≡ base_shape (roots_by flush.project) (paths_of_flush flush)
+  base-shown = base_is roots live.files live.db live'.db r.refreshes ∙ (λ i. base_shape (same_roots i) (same-paths i))
 
-  -- the database shows the flush
-  base-shown : base_image live'.db ≡ base_shape [] (paths_of_flush (flush_of s))
-  base-shown = base_is [] live.files live.db live'.db r.refreshes ∙ ap (base_shape []) same-paths
+  -- ---- crates
 
-  -- with its files
+  -- the crates of the flush
+  pub made : (crates : List Crate) × (crates_of_flush flush ≡ Ok crates)
+  made =
+      let of = graph-crates live.project (existing_files live.files) r.graph r.lowers in
+      (of.0, (λ i. crates_by (sym h.project i) (sym numbers-are i)) ∙ of.1)
+
+  -- a file that exists has one path in the database and in the flush
+  path-same : (file : ℕ) (path : PathContent) → lookup (nat_eq file) (existing_files live.files) ≡ Some path → path_in live'.db.files file ≡ path_by (numbers_of_flush flush) file
+  path-same file path there =
+      path_is roots live.files live.db live'.db r.refreshes file path there
+      ∙ sym (ap (option_map (λ (p : PathContent). p.text)) there)
+      ∙ ap (λ files. option_map (λ (p : PathContent). p.text) (lookup (nat_eq file) files)) numbers-are
+
+  -- the entries that the database shows are those of the crates: the same by whether there is a project, and what the flush was given
+  entries-split : (p : Option ProjectContent) (graph : Option Graph) → live.project ≡ p → IsGraphBy p (existing_files live.files) graph → GivesCrates r.cmp graph live.db live'.db
+      → (crates : List Crate) → crates_by p (existing_files live.files) ≡ Ok crates → entries_shown live'.db ≡ entries flush crates
+  entries-split None graph is none given crates are =
+      let kept : KeepsCrates live.db live'.db = subst (λ g. GivesCrates r.cmp g live.db live'.db) none given in
+      let empty : [] ≡ crates = cc in
+      no_entries live'.db (kept.listed ∙ current.crates is) ∙ sym (entries-none (path_by (numbers_of_flush flush)))
+      ∙ ap (λ (cs : List Crate). entries_of (path_by (numbers_of_flush flush)) (map node_seen cs)) empty
+  entries-split (Some p) None is none given crates are = absurd none
+  entries-split (Some p) (Some graph) is lowers given crates are =
+      let same : map crate_seen graph.crates ≡ crates = let both : Ok (map crate_seen graph.crates) ≡ Ok crates = sym lowers.crates ∙ are in cc in
+      entries_after_set r.cmp graph.crates given.before live'.db given.ids given.set.set (path_in live'.db.files)
+      ∙ entries_alike (path_in live'.db.files) (path_by (numbers_of_flush flush)) (map node_of graph.crates)
+      (nodes-alike (path_in live'.db.files) (path_by (numbers_of_flush flush)) (existing_files live.files) graph.crates path-same lowers.begins)
+      ∙ ap (entries_of (path_by (numbers_of_flush flush))) (nodes-seen graph.crates ∙ ap (map node_seen) same)
+
+  entries-are : entries_shown live'.db ≡ entries flush made.0
+  unfolding made graph-crates
+  entries-are =
+      let of = graph-crates live.project (existing_files live.files) r.graph r.lowers in
+      entries-split live.project r.graph refl r.lowers r.crates of.0 of.1
+
+  -- the page of the database is that of the flush
+  pub page_shown : page_of live'.db ≡ page flush made.0
+  unfolding page
+  page_shown = page_is roots live.files live.db live'.db r.refreshes
+      ∙ (λ i. placed.page (same_roots i) (same-paths i) (entries-are i))
+
+  -- so the turn writes it
+  pub turn_is : flush_turn s ≡ flushed_turn s flush (Ok made.0)
+  turn_is = ap (flushed_turn s flush) made.1
+
+  -- ---- what is shown, and what is held
+
+  -- the list names each crate once and after its dependencies, and the crates are those of the project
+  listed-split : (p : Option ProjectContent) (graph : Option Graph) → live.project ≡ p → IsGraphBy p (existing_files live.files) graph → GivesCrates r.cmp graph live.db live'.db
+      → ListsInOrder live'.db × ShowsCrates live'.db p (existing_files live.files)
+  unfolding IsDistinct
+  listed-split None graph is none given =
+      let kept : KeepsCrates live.db live'.db = subst (λ g. GivesCrates r.cmp g live.db live'.db) none given in
+      let empty : live'.db.listed ≡ [] = kept.listed ∙ current.crates is in
+      (record { once = rw empty tt; behind = λ place krate dep input at. absurd (none-there place krate (ap (λ l. slice_get l place) (sym empty) ∙ at)) }, empty)
+  listed-split (Some p) None is none given = absurd none
+  listed-split (Some p) (Some graph) is lowers given = (
+    lists_in_order r.cmp graph.crates given.before live'.db given.ids given.set.set,
+    shows_project r.cmp p (existing_files live.files) graph given.before live'.db given.ids given.set.set lowers,
+  )
+
   pub shows_shape : ShowsShape live' s
-  shows_shape = record {
-    shows = ap (image live'.db) r.files ∙ (λ i. record { base = base-shown i; files = files_sorted (files-shown i) });
-  }
+  shows_shape =
+      let listed = listed-split live.project r.graph refl r.lowers r.crates in record {
+        shows = ap (image live'.db) r.files ∙ (λ i. record {
+          base = (base-shown ∙ ap (base_shape (roots_by flush.project)) (sym texts-paths)) i;
+          files = files_sorted ((files-shown ∙ ap (λ rs. map (file_shape rs) (texts_of_flush flush)) same_roots) i);
+        });
+        order = listed.0;
+        crates = subst (λ files. ShowsCrates live'.db s.project files) numbers-are (subst (λ p. ShowsCrates live'.db p (existing_files live.files)) h.project listed.1);
+      }
 
-  -- which lists no crates, as before
-  no_crates : live'.db.listed ≡ []
-  no_crates = r.crates.listed ∙ current.crates
+  -- what the session holds then is the state after the flush, but for what is kept of it
+  module _ (after : Live) (last : LastFlush) (keeps : KeepsLast live last) (is : IsStored live' after last) where
+    last-is : IsLast (paths_of after.files) last flush
+    last-is =
+        let same : paths_of after.files ≡ paths_of live.files = ap paths_of (is.files ∙ r.files) in
+        record {
+          within = subst (λ places. length last.texts ≤ length places) (sym same) (omega (arith, rows_few));
+          files = ap (λ places. files_kept 0 places last.texts) same ∙ ap (files_kept 0 (paths_of live.files)) keeps.texts
+              ∙ ap (λ places. files_kept 0 places live.texts) (sym (append-nil (paths_of live.files)))
+              ∙ files_kept-live live.files live.texts s.marks [] h.texts;
+          project = keeps.project ∙ h.project;
+        }
+      where
+        -- there are as many rows as paths
+        rows_few : length last.texts ≡ length (paths_of live.files)
+        rows_few = ap length keeps.texts ∙ ap length h.texts.texts ∙ length-map _ _ ∙ ap length (sym h.texts.follows.numbers)
 
-  -- what the session holds is the state after the flush
-  pub holds_flush : Holds live' (record s { flushed = Some (flush_of s) })
-  holds_flush = record {
-    config = r.config ∙ h.config;
-    limit = ap (λ f. f.limit) r.files ∙ h.limit;
-    texts = record {
-      follows = subst (λ f. Follows f s.marks) (sym r.files) (record { numbers = h.texts.follows.numbers; states = h.texts.follows.states });
-      texts = r.texts ∙ h.texts.texts;
-    };
-    ended = r.ended ∙ h.ended;
-    database = λ _. record {
-      brings = subst (λ f. BringsTo f (texts_known live'.db) s.marks) (sym r.files) (record {
-        each = λ place number text has lives.
-            let slot = slot_of live.files place number has in text_now place number text slot.state slot.entry lives;
-      });
-      valid = ap (λ f. all_pass is_utf8 f.batch) r.files;
-      shown = base-shown;
-      crates = no_crates;
-    };
-  }
-
-  -- and its page is that of the flush
-  pub page_shown : page_of live'.db ≡ page (flush_of s)
-  page_shown = page_is [] live.files live.db live'.db r.refreshes
-      ∙ ap (flush.page [] (map (λ file. file.1) (existing_files live.files))) (no_entries live'.db no_crates)
-      ∙ ap (λ paths. flush.page [] paths []) same-paths
-      ∙ page-of-all (live_files s.marks)
+    pub holds_flush : Holds after (record s { flushed = Some flush })
+    holds_flush = record {
+      config = is.config ∙ r.config ∙ h.config;
+      limit = ap (λ f. f.limit) (is.files ∙ r.files) ∙ h.limit;
+      texts = record {
+        follows = subst (λ f. Follows f s.marks) (sym (is.files ∙ r.files)) (record { numbers = h.texts.follows.numbers; states = h.texts.follows.states });
+        texts = is.texts ∙ r.texts ∙ h.texts.texts;
+      };
+      answers = is.answers ∙ r.answers ∙ h.answers;
+      project = is.project ∙ r.project ∙ h.project;
+      flushed = subst (λ kept. KeepsFlush (paths_of after.files) kept (Some flush)) (sym is.flushed) last-is;
+      ended = is.ended ∙ r.ended ∙ h.ended;
+      database = λ _. record {
+        brings = rw is.db (subst (λ f. BringsTo f (texts_known live'.db) s.marks) (sym (is.files ∙ r.files)) (record {
+          each = λ place number text has lives.
+              let slot = slot_of live.files place number has in text_now place number text slot.state slot.entry lives;
+        }));
+        valid = ap (λ f. all_pass is_utf8 f.batch) (is.files ∙ r.files);
+        shown = rw is.db base-shown;
+        crates = λ none. rw is.db (subst (λ p. ShowsCrates live'.db p (existing_files live.files)) (sym (is.project ∙ r.project) ∙ none)
+            (listed-split live.project r.graph refl r.lowers r.crates).1);
+      };
+    }
 
 -- a session that has not ended holds a state that has not
 pub going_of : (live : Live) (s : State) → Holds live s → (HasEnded live → ⊥) → s.ended ≡ false
@@ -129,82 +291,107 @@ going_of live s h going = not-true s.ended (λ e. going (h.ended ∙ e))
     not-true false h = refl
 
 -- a page that was appended is the flush's turn
-pub takes_flush : (live live' : Live) (s : State) (old new : Option (List ℕ)) → RefreshesLive live live' → Holds live s → (HasEnded live → ⊥)
-    → Appends old new (page_of live'.db) → TakesTurn (flush_turn s) live' (old, new)
-takes_flush live live' s old new r h going appended = record {
-  accepted = refl;
-  holds = holds_flush live live' r s h (going_of live s h going);
-  appended = subst (Appends old new) (page_shown live live' r s h (going_of live s h going) ∙ sym (append-nil (page (flush_of s)))) appended;
-}
+pub takes_flush : (live live' after : Live) (s : State) (last : LastFlush) (old new : Option (List ℕ)) → RefreshesLive live live' → KeepsLast live last → Holds live s → (HasEnded live → ⊥)
+    → IsStored live' after last → Appends old new (page_of live'.db) → TakesTurn (flush_turn s) after (old, new)
+takes_flush live live' after s last old new r keeps h going is appended =
+    let on = going_of live s h going in
+    let flush = flush_of s in
+    let crates = (made live live' r s h on).0 in
+    subst (λ t. TakesTurn t after (old, new)) (sym (turn_is live live' r s h on)) (record {
+      accepted = refl;
+      holds = holds_flush live live' r s h on after last keeps is;
+      appended = subst (Appends old new) (page_shown live live' r s h on ∙ sym (append-nil (page flush crates))) appended;
+    })
+
+-- what a flush shows stays shown once it is kept
+pub shows_after : (live live' after : Live) (s : State) (last : LastFlush) → RefreshesLive live live' → Holds live s → (HasEnded live → ⊥) → IsStored live' after last
+    → ShowsShape after s
+shows_after live live' after s last r h going is =
+    let shown = shows_shape live live' r s h (going_of live s h going) in
+    record { shows = rw (is.db, is.files) shown.shows; order = rw is.db shown.order; crates = rw is.db shown.crates }
 
 -- a session that has ended holds the state that has, whatever its database is
-pub holds_ended : (live ended : Live) (s : State) → Holds live s → ended.config ≡ live.config → ended.texts ≡ live.texts
-    → ended.files ≡ record live.files { batch = ended.files.batch } → ended.ended ≡ true → Holds ended (ended_state s)
-holds_ended live ended s h config texts files has_ended = record {
+pub holds_ended : (live ended : Live) (s : State) → Holds live s → ended.config ≡ live.config → ended.texts ≡ live.texts → ended.answers ≡ live.answers → ended.project ≡ live.project
+    → ended.flushed ≡ live.flushed → ended.files ≡ record live.files { batch = ended.files.batch } → ended.ended ≡ true → Holds ended (ended_state s)
+holds_ended live ended s h config texts answers project flushed files has_ended = record {
   config = config ∙ h.config;
   limit = ap (λ f. f.limit) files ∙ h.limit;
   texts = record {
     follows = subst (λ f. Follows f s.marks) (sym files) (record { numbers = h.texts.follows.numbers; states = h.texts.follows.states });
     texts = texts ∙ h.texts.texts;
   };
+  answers = answers ∙ h.answers;
+  project = project ∙ h.project;
+  flushed = subst (λ last. KeepsFlush (paths_of ended.files) last s.flushed) (sym flushed)
+      (subst (λ paths. KeepsFlush paths live.flushed s.flushed) (sym (ap paths_of files)) h.flushed);
   ended = has_ended;
   database = λ going. absurd (cc);
 }
 
--- an error of a flush is no refusal
-pub no_refusal : (error : LiveError) → IsOneOf flush_statuses (status_of error) → IsRefusal error → ⊥
-no_refusal OutOfMemory only refusal = omega arith
-no_refusal Usage only refusal = omega arith
-no_refusal ReadFault only refusal = omega arith
-no_refusal WriteFault only refusal = omega arith
-no_refusal (Script line) only refusal = cc
-no_refusal (TooMany limit) only refusal = cc
-
 -- a page that was not written whole ends the session
 pub writes_flush : (live live' ended : Live) (s : State) (error : LiveError) (old new : Option (List ℕ)) → RefreshesLive live live' → Holds live s → (HasEnded live → ⊥)
-    → IsOneOf flush_statuses (status_of error) → (error ≡ WriteFault → AppendsProperFront (old, new) (page_of live'.db ∷ []))
-    → AppendsFront (old, new) (page_of live'.db ∷ [])
-    → ended.config ≡ live'.config → ended.texts ≡ live'.texts → ended.files ≡ live'.files → ended.ended ≡ true
+    → (error ≡ OutOfMemory) ⊎ (error ≡ WriteFault) → (error ≡ WriteFault → AppendsProperFront (old, new) (page_of live'.db ∷ []))
+    → AppendsFront (old, new) (page_of live'.db ∷ []) → IsEnded live' ended
     → EndsTurn (flush_turn s) (ended_state s) error ended (old, new)
-writes_flush live live' ended s error old new r h going only cut front config texts files has_ended =
-    let shown = page_shown live live' r s h (going_of live s h going) in
-    let is : ended.files ≡ record live.files { batch = ended.files.batch } =
-    files ∙ r.files ∙ ap (λ b. record live.files { batch = b }) (sym (ap (λ f. f.batch) (files ∙ r.files))) in
-    record {
+writes_flush live live' ended s error old new r h going only cut front is =
+    let on = going_of live s h going in
+    let shown = page_shown live live' r s h on in
+    let files : ended.files ≡ record live.files { batch = ended.files.batch } =
+    is.files ∙ r.files ∙ ap (λ b. record live.files { batch = b }) (sym (ap (λ f. f.batch) (is.files ∙ r.files))) in
+    subst (λ t. EndsTurn t (ended_state s) error ended (old, new)) (sym (turn_is live live' r s h on)) (record {
       fails = record {
         written = subst (λ p. AppendsFront (old, new) (p ∷ [])) shown front;
         cut = λ e. subst (λ p. AppendsProperFront (old, new) (p ∷ [])) shown (cut e);
-        refused = λ refusal. absurd (no_refusal error only refusal);
+        refused = λ refusal. absurd (no-refusal error only refusal);
       };
-      holds = holds_ended live ended s h (config ∙ r.config) (texts ∙ r.texts) is has_ended;
-    }
+      holds = holds_ended live ended s h (is.config ∙ r.config) (is.texts ∙ r.texts) (is.answers ∙ r.answers) (is.project ∙ r.project) (is.flushed ∙ r.flushed) files is.ended;
+    })
+  where
+    no-refusal : (error : LiveError) → (error ≡ OutOfMemory) ⊎ (error ≡ WriteFault) → IsRefusal error → ⊥
+    no-refusal error (inl memory) refusal = let r : IsRefusal OutOfMemory = subst IsRefusal memory refusal in omega (arith, r)
+    no-refusal error (inr fault) refusal = let r : IsRefusal WriteFault = subst IsRefusal fault refusal in omega (arith, r)
 
--- and so does a flush that runs out of memory before the page
-pub memory_flush : (live ended : Live) (s : State) (error : LiveError) (held : Option (List ℕ)) → Holds live s → error ≡ OutOfMemory
-    → ended.config ≡ live.config → ended.texts ≡ live.texts → ended.files ≡ record live.files { batch = ended.files.batch } → ended.ended ≡ true
-    → EndsTurn (flush_turn s) (ended_state s) error ended (held, held)
-memory_flush live ended s error held h memory config texts files has_ended = record {
-  fails = record {
-    written = AppendsFront-nil held (flush_turn s).pages;
-    cut = λ e. absurd (cc);
-    refused = λ refusal. absurd (let r : IsRefusal OutOfMemory = subst IsRefusal memory refusal in omega (arith, r));
-  };
-  holds = holds_ended live ended s h config texts files has_ended;
-}
+-- ---- what a call brings
 
--- what a call brought, of a session whose files, database and probes it was given
-pub refreshes_live : {E : Type 0} (live live' : Live) (result : Result (Unit {0}) E) → OnOk result (Refreshes [] live.files live.db live'.db)
-    → OnOk result (KeepsCrates live.db live'.db)
-    → OnOk result (CountsPlacing [] (existing_files live.files) live.probes.ledger live'.probes.ledger)
-    → OnOk result (live'.files ≡ record live.files { batch = [] })
-    → live'.config ≡ live.config → live'.ended ≡ live.ended → live'.texts ≡ live.texts → OnOk result (RefreshesLive live live')
-refreshes_live live live' (Ok done) brings crates probes files config ended texts = record {
-  refreshes = brings;
+-- of a session whose files, database and probes it was given, with the roots and the graph of its project
+pub refreshes_live : (live live' : Live) (given : List FileRoot) (graph : Option Graph) (cmp : Id → Id → Ordering) → given ≡ roots_by live.project
+    → IsGraphBy live.project (existing_files live.files) graph → GivesCrates cmp graph live.db live'.db → Refreshes given live.files live.db live'.db
+    → CountsPlacing (root_lists given) (existing_files live.files) live.probes.ledger live'.probes.ledger → live'.files ≡ record live.files { batch = [] }
+    → live'.config ≡ live.config → live'.texts ≡ live.texts → live'.answers ≡ live.answers → live'.project ≡ live.project → live'.flushed ≡ live.flushed → live'.ended ≡ live.ended
+    → RefreshesLive live live'
+refreshes_live live live' given graph cmp same lowers crates brings probes files config texts answers project flushed ended = record {
+  graph = graph;
+  lowers = lowers;
+  cmp = cmp;
   crates = crates;
-  probes = probes;
+  refreshes = subst (λ rs. Refreshes rs live.files live.db live'.db) same brings;
+  probes = subst (λ rs. CountsPlacing (root_lists rs) (existing_files live.files) live.probes.ledger live'.probes.ledger) same probes;
   config = config;
-  ended = ended;
   texts = texts;
+  answers = answers;
+  project = project;
+  flushed = flushed;
+  ended = ended;
   files = files;
 }
-refreshes_live live live' (Err e) brings crates probes files config ended texts = tt
+
+-- without a project no crate is made or changed: the same by what was given
+keeps-split : (p : Option ProjectContent) (files : List (ℕ × PathContent)) (graph : Option Graph) (cmp : Id → Id → Ordering) (old new : Database) → IsGraphBy p files graph → p ≡ None
+    → GivesCrates cmp graph old new → KeepsCrates old new
+keeps-split None files graph cmp old new none is given = subst (λ g. GivesCrates cmp g old new) none given
+keeps-split (Some p) files graph cmp old new lowers is given = absurd (cc)
+
+-- what a flush that succeeds leaves as it was
+pub flush_leaves : (live live' after : Live) (last : LastFlush) → RefreshesLive live live' → CountsFlush live live' → IsStored live' after last
+    → LeavesAsWas FlushEvent false live after
+flush_leaves live live' after last r counts is = record {
+  config = is.config ∙ r.config;
+  database = λ other. absurd (other refl);
+  all = λ e. absurd (cc);
+  crates = λ _ none. rw is.db (keeps-split live.project (existing_files live.files) r.graph r.cmp live.db live'.db r.lowers none r.crates);
+  probes = λ other. absurd (other refl);
+  counts = λ _. rw is.probes counts;
+  placed = λ _ _. rw is.probes r.probes;
+  going = λ _. is.ended ∙ r.ended;
+  ends = λ e. absurd (cc);
+}

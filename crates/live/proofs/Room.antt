@@ -5,7 +5,7 @@ use Rattle.std.specs.Option.{is_some}
 use Rattle.std.proofs.lemmas.Bool.Decides.{nat_tests}
 use Rattle.std.proofs.lemmas.Map.Made.{is_some-lookup}
 use Rattle.std.proofs.lemmas.Grind.{common_steps}
-use Rattle.vfs_core.specs.Files.{Files, Follows, IsFullFor, entry_state, no_files}
+use Rattle.vfs_core.specs.Files.{Files, Follows, IsFullFor, entry_state, no_files, paths_of}
 use Rattle.vfs_core.specs.VfsPath.{PathContent, vfs_path_eq}
 use Rattle.vfs_core.specs.declared.marks.Mark.{Mark}
 use Rattle.vfs_core.specs.declared.marks.MarkKind.{MarkKind}
@@ -23,8 +23,9 @@ use Rattle.live_input.specs.Config.{first_config}
 use Rattle.live.specs.Fault.{IsRefusal}
 use Rattle.live.specs.Image.{ShowsFlush}
 use Rattle.live.specs.Marked.{AddsMarkTo}
-use Rattle.live.specs.Turn.{EndsTurn, Holds, RefusesTurn, TakesTurn, first_state}
+use Rattle.live.specs.Turn.{EndsTurn, Holds, KeepsFlush, RefusesTurn, TakesTurn, first_state}
 use Rattle.live_flush.specs.Shape.{texts_known}
+use Rattle.live.proofs.Kept.{flush_mark}
 use Rattle.live.proofs.Outcomes.{AppendsFront-nil}
 
 -- the paths of the marks are those of the files
@@ -60,18 +61,22 @@ Follows-nil limit = record { numbers = refl; states = λ place. refl }
 
 -- a session to which nothing was said
 pub Holds-first : (live : Live) → live.config ≡ first_config → live.files ≡ no_files live.config.limits.paths → live.texts ≡ []
-    → ((known : ℕ → Option (List ℕ)) → BringsTo live.files known []) → live.ended ≡ false → live.db ≡ empty_database 0
+    → ((known : ℕ → Option (List ℕ)) → BringsTo live.files known []) → live.answers ≡ [] → live.project ≡ None → live.flushed ≡ None
+    → live.ended ≡ false → live.db ≡ empty_database 0
     → Holds live first_state
-Holds-first live config files texts brings ended empty = record {
+Holds-first live config files texts brings answers project flushed ended empty = record {
   config = config;
   limit = ap (λ f. f.limit) files ∙ ap (λ c. c.limits.paths) config;
   texts = record { follows = subst (λ f. Follows f []) (sym files) (Follows-nil live.config.limits.paths); texts = texts };
+  answers = answers;
+  project = project;
+  flushed = subst (λ last. KeepsFlush (paths_of live.files) last None) (sym flushed) tt;
   ended = ended;
   database = λ going. record {
     brings = brings (texts_known live.db);
     valid = ap (λ f. all_pass is_utf8 f.batch) files;
     shown = tt;
-    crates = ap (λ db. db.listed) empty;
+    crates = λ none. ap (λ db. db.listed) empty;
   };
 }
 
@@ -85,6 +90,10 @@ module _ (live live' : Live) (s : State) (path : PathContent) (kind : MarkKind) 
     config = adds.config ∙ h.config;
     limit = adds.adds.limit ∙ h.limit;
     texts = adds.adds.keeps s.marks h.texts;
+    answers = adds.answers ∙ h.answers;
+    project = adds.project ∙ h.project;
+    flushed = subst (λ last. KeepsFlush (paths_of live'.files) last s.flushed) (sym adds.flushed)
+        (flush_mark live.files live'.files mark s.marks live.flushed s.flushed h.texts.follows (adds.adds.keeps s.marks h.texts).follows h.flushed);
     ended = adds.ended ∙ h.ended;
     database = λ going.
         let current = h.database going in record {
@@ -92,7 +101,7 @@ module _ (live live' : Live) (s : State) (path : PathContent) (kind : MarkKind) 
               (adds.adds.brings (texts_known live.db) s.marks h.texts.follows current.brings);
           valid = adds.adds.texts current.valid;
           shown = subst (λ d. ShowsFlush d s.flushed) (sym adds.db) current.shown;
-          crates = ap (λ db. db.listed) adds.db ∙ current.crates;
+          crates = λ none. ap (λ db. db.listed) adds.db ∙ current.crates (sym adds.project ∙ none);
         };
   }
 

@@ -14,7 +14,7 @@ use Rattle.live_input.specs.declared.lines.LineError.TheVariants.{ReadFault as R
 use Rattle.live_input.proofs.Gaves.{Gave-fresh}
 use Rattle.live.specs.declared.session.Live.{Live}
 use Rattle.live.specs.declared.fault.LiveError.{LiveError}
-use Rattle.live.specs.declared.fault.LiveError.TheVariants.{OutOfMemory, Usage, ReadFault, WriteFault, Script, TooMany}
+use Rattle.live.specs.declared.fault.LiveError.TheVariants.{OutOfMemory, Usage, ReadFault, WriteFault, Script, BadManifest, Io, CargoMetadata, NoJson, Json, NotAbsolute, UnknownPackage, BadCrateName, NoParent, NoCargoProject, TooMany}
 use Rattle.live_input.specs.Event.{event}
 use Rattle.live.specs.Fault.{IsOneOf, IsRefusal, fault_of, line_statuses, run_statuses, status_of}
 use Rattle.live.specs.Run.{Completes, Fails, Finishes, HasCause, Ran, Stops, TakesAtMost}
@@ -22,6 +22,7 @@ use Rattle.live.specs.Session.{State, Outcome, session, turn_of, turns}
 use Rattle.live.specs.Turn.{FailsTurn, Holds, TakesTurn}
 use Rattle.live.specs.Written.{AppendsFront, HasWriteCause}
 use Rattle.live.proofs.Outcomes.{AppendsFront-all, Front-line, Ran-line, Stops-line, turns-next, turns-nil}
+use Rattle.live.proofs.Statuses.{among}
 use Rattle.live.proofs.Deciding.{Front-session, Ran-within, Stops-limit, Stops-session, session-within}
 
 -- between two lines: these lines were given, and their turns were taken
@@ -143,20 +144,10 @@ cause_next Z Ended old new before now reads writes writes' told later = record {
 
 -- an error of a line is one of a run
 wider : (error : LiveError) → IsOneOf line_statuses (status_of error) → IsOneOf run_statuses (status_of error)
-wider OutOfMemory only = refl
-wider Usage only = absurd (cc)
-wider ReadFault only = refl
-wider WriteFault only = refl
-wider (Script line) only = refl
-wider (TooMany limit) only = refl
+wider error only = among line_statuses run_statuses refl (status_of error) only
 
 no_read : (error : LiveError) → IsOneOf line_statuses (status_of error) → status_of error ≡ 3 → ⊥
-no_read OutOfMemory only e = omega arith
-no_read Usage only e = omega arith
-no_read ReadFault only e = cc
-no_read WriteFault only e = omega arith
-no_read (Script line) only e = omega arith
-no_read (TooMany limit) only e = omega arith
+no_read error only e = let three : IsOneOf line_statuses 3 = subst (IsOneOf line_statuses) e only in cc
 
 write_fault : (error : LiveError) → status_of error ≡ 4 → error ≡ WriteFault
 write_fault OutOfMemory e = absurd (omega arith)
@@ -164,6 +155,16 @@ write_fault Usage e = absurd (omega arith)
 write_fault ReadFault e = absurd (omega arith)
 write_fault WriteFault e = refl
 write_fault (Script line) e = absurd (omega arith)
+write_fault (BadManifest path) e = absurd (omega arith)
+write_fault (Io line) e = absurd (omega arith)
+write_fault (CargoMetadata stderr) e = absurd (omega arith)
+write_fault NoJson e = absurd (omega arith)
+write_fault (Json field) e = absurd (omega arith)
+write_fault (NotAbsolute text) e = absurd (omega arith)
+write_fault (UnknownPackage id) e = absurd (omega arith)
+write_fault (BadCrateName name) e = absurd (omega arith)
+write_fault (NoParent text) e = absurd (omega arith)
+write_fault NoCargoProject e = absurd (omega arith)
 write_fault (TooMany limit) e = absurd (omega arith)
 
 pub cause_line : (error : LiveError) (reads reads' writes mid writes' : ℕ) → HasWriteCause {T = Unit {0}} (Err error) line_statuses (mid, writes') → writes ≤ mid
@@ -182,6 +183,16 @@ completes_err o Usage live old new reads reads' writes writes' fails cause read 
 completes_err o ReadFault live old new reads reads' writes writes' fails cause read write = absurd (read (cause.read refl))
 completes_err o WriteFault live old new reads reads' writes writes' fails cause read write = absurd (write (cause.write refl))
 completes_err o (Script line) live old new reads reads' writes writes' fails cause read write = inr (fails.refused (omega arith)).refused
+completes_err o (BadManifest path) live old new reads reads' writes writes' fails cause read write = inr (fails.refused (omega arith)).refused
+completes_err o (Io line) live old new reads reads' writes writes' fails cause read write = inr (fails.refused (omega arith)).refused
+completes_err o (CargoMetadata stderr) live old new reads reads' writes writes' fails cause read write = inr (fails.refused (omega arith)).refused
+completes_err o NoJson live old new reads reads' writes writes' fails cause read write = inr (fails.refused (omega arith)).refused
+completes_err o (Json field) live old new reads reads' writes writes' fails cause read write = inr (fails.refused (omega arith)).refused
+completes_err o (NotAbsolute text) live old new reads reads' writes writes' fails cause read write = inr (fails.refused (omega arith)).refused
+completes_err o (UnknownPackage id) live old new reads reads' writes writes' fails cause read write = inr (fails.refused (omega arith)).refused
+completes_err o (BadCrateName name) live old new reads reads' writes writes' fails cause read write = inr (fails.refused (omega arith)).refused
+completes_err o (NoParent text) live old new reads reads' writes writes' fails cause read write = inr (fails.refused (omega arith)).refused
+completes_err o NoCargoProject live old new reads reads' writes writes' fails cause read write = inr (fails.refused (omega arith)).refused
 completes_err o (TooMany limit) live old new reads reads' writes writes' fails cause read write = inr (fails.refused (omega arith)).refused
 
 -- and success is a session with no refusal

@@ -2,7 +2,7 @@
 use Rattle.std.proofs.Common.{◌≡◌, ℕ, suc, ◌+◌, ◌<◌, ◌≤◌, Bool, true, false, cond, not, ◌||◌, List, [], ◌∷◌, ◌++◌, Option, Some, None, is_some, refl, sym, ◌∙◌, ap, subst, arith, map, set, length, position, nat_lt, nat_eq, true≢false, if◌then◌else◌}
 use Rattle.std.proofs.lemmas.Bool.Decides.{nat_tests}
 use Rattle.std.proofs.lemmas.List.{map-append}
-use Rattle.std.specs.List.{AllByRecursion, cons_option, IsDistinct, filter_map, list_any, position_or_len}
+use Rattle.std.specs.List.{AllByRecursion, cons_option, enumerate_from, IsDistinct, filter_map, list_any, position_or_len}
 use Rattle.std.specs.Option.{option_map, unwrap_or}
 use Rattle.std.specs.Map.{keys_of, lookup}
 use Rattle.vfs_core.specs.declared.changed_file.Change.TheVariants.{Modify}
@@ -14,29 +14,41 @@ use Rattle.vfs_core.specs.declared.marks.MarkKind.TheVariants.{Out}
 use Rattle.vfs_core.specs.FileState.{is_change, state_of}
 use Rattle.vfs_core.specs.Files.{Files, Follows, is_change_at, kind_of, number_of, paths_of, state_at}
 use Rattle.vfs_core.specs.Hash.{content_hash}
-use Rattle.vfs_core.specs.Marks.{is_out, kept_text, live_files, live_text_after, live_text, mentioned_paths, merged_text, same_hash, with_path}
+use Rattle.vfs_core.specs.Marks.{is_out, kept_text, live_text_after, live_text, mentioned_paths, merged_text, same_hash, with_path}
 use Rattle.vfs_core.specs.VfsPathOrder.{vfs_path_eq-same, vfs_path_equiv}
 use Rattle.vfs_core.specs.VfsPath.{PathContent, vfs_path_eq}
 use Rattle.vfs_core.proofs.FileLemmas.{position-in}
-use Rattle.live.proofs.Existing.{mentioned_paths-distinct}
+use Rattle.live.proofs.Existing.{file_by, mentioned_paths-distinct}
 use Rattle.vfs_core.proofs.MarkLemmas.{live_text_mark}
 use Rattle.live.specs.LiveTexts.{KeepsTexts, files_kept, rows_of, with_text}
+use Rattle.live.specs.Page.{LiveFile}
+use Rattle.live.specs.Session.{numbered_files}
 
 -- one row more
-kept_cons : (place : PathContent) (places : List PathContent) (text : Option (List ℕ)) (rows : List (Option (List ℕ))) (kept : List (PathContent × List ℕ)) → files_kept places rows ≡ kept
-    → files_kept (place ∷ places) (text ∷ rows) ≡ cons_option (option_map (λ t. (place, t)) text) kept
-kept_cons place places None rows kept h = h
-kept_cons place places (Some t) rows kept h = ap (λ (l : List (PathContent × List ℕ)). (place, t) ∷ l) h
+kept_cons : (number : ℕ) (place : PathContent) (places : List PathContent) (text : Option (List ℕ)) (rows : List (Option (List ℕ))) (kept : List LiveFile) → files_kept (number + 1) places rows ≡ kept
+    → files_kept number (place ∷ places) (text ∷ rows) ≡ cons_option (option_map (λ t. record { number = number; path = place; text = t }) text) kept
+kept_cons number place places None rows kept h = h
+kept_cons number place places (Some t) rows kept h = ap (λ (l : List LiveFile). record { number = number; path = place; text = t } ∷ l) h
 
 -- the files that the rows keep are those that have a text, whatever paths come later
-pub kept_by : (f : PathContent → Option (List ℕ)) (places more : List PathContent) → files_kept (places ++ more) (map f places) ≡ filter_map (λ place. option_map (λ text. (place, text)) (f place)) places
-kept_by f [] [] = refl
-kept_by f [] (place ∷ more) = refl
-kept_by f (place ∷ places) more = kept_cons place (places ++ more) (f place) (map f places) _ (kept_by f places more)
+pub kept_rows : (f : PathContent → Option (List ℕ)) (number : ℕ) (places more : List PathContent) → files_kept number (places ++ more) (map f places) ≡ filter_map (file_by f) (enumerate_from number places)
+kept_rows f number [] [] = refl
+kept_rows f number [] (place ∷ more) = refl
+kept_rows f number (place ∷ places) more = kept_cons number place (places ++ more) (f place) (map f places) _ (kept_rows f (number + 1) places more)
 
 -- and so they are the live files
-pub kept_live : (marks : List Mark) (more : List PathContent) → files_kept (mentioned_paths marks ++ more) (rows_of marks) ≡ live_files marks
-kept_live marks more = kept_by (live_text marks) (mentioned_paths marks) more
+pub kept_live : (marks : List Mark) (more : List PathContent) → files_kept 0 (mentioned_paths marks ++ more) (rows_of marks) ≡ numbered_files marks
+kept_live marks more = kept_rows (live_text marks) 0 (mentioned_paths marks) more
+
+-- more paths than rows keep no more files
+pub kept_more : (number : ℕ) (places more : List PathContent) (rows : List (Option (List ℕ))) → length rows ≤ length places → files_kept number (places ++ more) rows ≡ files_kept number places rows
+kept_more number [] [] [] h = refl
+kept_more number [] (place ∷ more) [] h = refl
+kept_more number [] more (row ∷ rows) h = absurd (omega (arith, h))
+kept_more number (place ∷ places) more [] h = refl
+kept_more number (place ∷ places) more (None ∷ rows) h = kept_more (number + 1) places more rows (omega (arith, h))
+kept_more number (place ∷ places) more (Some text ∷ rows) h =
+    ap (λ (l : List LiveFile). record { number = number; path = place; text = text } ∷ l) (kept_more (number + 1) places more rows (omega (arith, h)))
 
 -- an item that is not there, by its place
 or-left : (a b : Bool) → a || b ≡ false → a ≡ false
@@ -251,6 +263,6 @@ KeepsTexts_out old new rows path marks keeps follows =
     }
 
 -- what the rows keep is what lives, whatever paths come later
-pub files_kept-live : (files : Files) (rows : List (Option (List ℕ))) (marks : List Mark) (more : List PathContent) → KeepsTexts files rows marks → files_kept (paths_of files ++ more) rows ≡ live_files marks
+pub files_kept-live : (files : Files) (rows : List (Option (List ℕ))) (marks : List Mark) (more : List PathContent) → KeepsTexts files rows marks → files_kept 0 (paths_of files ++ more) rows ≡ numbered_files marks
 files_kept-live files rows marks more keeps =
-    ap (λ r. files_kept (paths_of files ++ more) r) keeps.texts ∙ ap (λ ps. files_kept (ps ++ more) (rows_of marks)) keeps.follows.numbers ∙ kept_live marks more
+    ap (λ r. files_kept 0 (paths_of files ++ more) r) keeps.texts ∙ ap (λ ps. files_kept 0 (ps ++ more) (rows_of marks)) keeps.follows.numbers ∙ kept_live marks more

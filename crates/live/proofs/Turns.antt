@@ -11,7 +11,7 @@ use Rattle.input_db.specs.Database.{Database}
 use Rattle.live_input.specs.declared.event.Event.{Event}
 use Rattle.live_input.specs.declared.event.Event.TheVariants.{Flush}
 use Rattle.live.specs.declared.fault.LiveError.{LiveError}
-use Rattle.live.specs.declared.fault.LiveError.TheVariants.{OutOfMemory, Usage, ReadFault, WriteFault, Script, TooMany}
+use Rattle.live.specs.declared.fault.LiveError.TheVariants.{OutOfMemory, TooMany}
 use Rattle.live.specs.declared.session.Live.{Live}
 use Rattle.live.specs.Fault.{IsOneOf, flush_statuses, line_statuses, status_of, turn_statuses}
 use Rattle.live.specs.Marked.{AddsMarkTo}
@@ -21,6 +21,7 @@ use Rattle.live.specs.Turn.{EndsTurn, FailsTurn, Holds, LeavesAsWas, TakesTurn}
 use Rattle.live.specs.Written.{HasWriteCause}
 use Rattle.live.proofs.Outcomes.{AppendsFront-nil}
 use Rattle.live.proofs.Room.{marks_err, marks_ok}
+use Rattle.live.proofs.Statuses.{among}
 
 -- an error out of memory or of numbers for paths
 abbrev pub IsMarkError : LiveError → Type 0
@@ -52,17 +53,17 @@ mark_cause error count (inl memory) = record {
   later = omega arith;
   only = subst (λ e. IsOneOf turn_statuses (status_of e)) (sym memory) refl;
   write = λ e. absurd (cc);
-  paths = λ limit e. absurd (cc);
+  limits = λ e. cc;
 }
 mark_cause error count (inr paths) = record {
   later = omega arith;
   only = subst (λ e. IsOneOf turn_statuses (status_of e)) (sym paths) refl;
   write = λ e. absurd (cc);
-  paths = λ limit e. cc;
+  limits = λ e. cc;
 }
 
 pub marks_cause : (result : Result (Unit {0}) LiveError) (count : ℕ) → IfErr result IsMarkError → HasWriteCause result turn_statuses (count, count)
-marks_cause (Ok done) count only = record { later = omega arith; only = tt; write = λ e. absurd (cc); paths = λ limit e. absurd (cc) }
+marks_cause (Ok done) count only = record { later = omega arith; only = tt; write = λ e. absurd (cc); limits = λ e. cc }
 marks_cause (Err error) count only = mark_cause error count only
 
 -- a count that is as it was
@@ -70,7 +71,7 @@ pub no_probes : (most count : ℕ) → RaisesAtMost most count count
 no_probes most count = record { steps = 0; within = omega arith; raised = refl }
 
 -- a database that is as it was has its crates
-crates_same : (old new : Database) → new ≡ old → KeepsCrates old new
+pub crates_same : (old new : Database) → new ≡ old → KeepsCrates old new
 crates_same old new same = record {
   crates = ap (λ d. d.crates) same;
   listed = ap (λ d. d.listed) same;
@@ -85,7 +86,7 @@ marks_leave live live' mark (Ok done) event other adds same = record {
   config = adds.config;
   database = λ _. adds.db;
   all = λ e. absurd (cc);
-  crates = λ _. crates_same live.db live'.db adds.db;
+  crates = λ _ none. crates_same live.db live'.db adds.db;
   probes = λ _. adds.probes;
   counts = λ e. absurd (other e);
   placed = λ _ e. absurd (other e);
@@ -96,7 +97,7 @@ marks_leave live live' mark (Err error) event other adds same = record {
   config = ap (λ l. l.config) same;
   database = λ _. ap (λ l. l.db) same;
   all = λ _ _. same;
-  crates = λ e. absurd (cc);
+  crates = λ e none. absurd (cc);
   probes = λ _. ap (λ l. l.probes) same;
   counts = λ e. absurd (other e);
   placed = λ e _. absurd (cc);
@@ -104,7 +105,7 @@ marks_leave live live' mark (Err error) event other adds same = record {
   ends = λ _ e. absurd (other e);
 }
 
--- no mark is a flush
+-- no event but a flush is one
 pub marks_no_flush : (P : Type 0) (result : Result (Unit {0}) LiveError) (event : Event) → (event ≡ Flush → ⊥) → OnOk result (event ≡ Flush → P)
 marks_no_flush P (Ok done) event other = λ e. absurd (other e)
 marks_no_flush P (Err error) event other = tt
@@ -122,35 +123,27 @@ module _ (live live' : Live) (result : Result (Unit {0}) LiveError) (old new : O
   fails_event fails =
       subst (λ v. IfErr result (λ e. (s : State) → Holds live s → EndsTurn (turn s v) (state_after_failure s v) e live' (old, new))) (sym is) fails
 
--- an error of a flush is one of a turn
-flush-wider : (error : LiveError) → IsOneOf flush_statuses (status_of error) → IsOneOf turn_statuses (status_of error)
-flush-wider OutOfMemory only = refl
-flush-wider Usage only = absurd (cc)
-flush-wider ReadFault only = absurd (cc)
-flush-wider WriteFault only = refl
-flush-wider (Script line) only = absurd (cc)
-flush-wider (TooMany limit) only = refl
-
--- and of a turn one of a line
-turn-wider : (error : LiveError) → IsOneOf turn_statuses (status_of error) → IsOneOf line_statuses (status_of error)
-turn-wider OutOfMemory only = refl
-turn-wider Usage only = absurd (cc)
-turn-wider ReadFault only = absurd (cc)
-turn-wider WriteFault only = refl
-turn-wider (Script line) only = absurd (cc)
-turn-wider (TooMany limit) only = refl
-
 wider : (P Q : LiveError → Type 0) (result : Result (Unit {0}) LiveError) → ((error : LiveError) → P error → Q error) → IfErr result P → IfErr result Q
 wider P Q (Ok done) more only = tt
 wider P Q (Err error) more only = more error only
 
+-- an error of a flush is one of a turn
 pub cause_event : (result : Result (Unit {0}) LiveError) (old new : ℕ) → HasWriteCause result flush_statuses (old, new) → HasWriteCause result turn_statuses (old, new)
-cause_event result old new cause =
-    record { later = cause.later; only = wider _ _ result flush-wider cause.only; write = cause.write; paths = cause.paths }
+cause_event result old new cause = record {
+  later = cause.later;
+  only = wider _ _ result (λ error only. among flush_statuses turn_statuses refl (status_of error) only) cause.only;
+  write = cause.write;
+  limits = cause.limits;
+}
 
+-- and of a turn one of a line
 pub cause_turn : (result : Result (Unit {0}) LiveError) (old new : ℕ) → HasWriteCause result turn_statuses (old, new) → HasWriteCause result line_statuses (old, new)
-cause_turn result old new cause =
-    record { later = cause.later; only = wider _ _ result turn-wider cause.only; write = cause.write; paths = cause.paths }
+cause_turn result old new cause = record {
+  later = cause.later;
+  only = wider _ _ result (λ error only. among turn_statuses line_statuses refl (status_of error) only) cause.only;
+  write = cause.write;
+  limits = cause.limits;
+}
 
 -- a line that found no memory, or is no event
 pub line_memory : (t : Turn) (live : Live) (held : Option (List ℕ)) → FailsTurn t OutOfMemory live (held, held)

@@ -7,14 +7,31 @@ use Rattle.vfs_core.specs.VfsPath.{PathContent}
 use Rattle.vfs_core.specs.declared.marks.MarkKind.{MarkKind}
 use Rattle.live_input.specs.declared.config.LiveConfig.{LiveConfig}
 use Rattle.live_input.specs.declared.event.Event.{Event}
-use Rattle.live_input.specs.declared.event.Event.TheVariants.{Exclude, File, Flush}
+use Rattle.live_input.specs.declared.event.Event.TheVariants.{Answer, Build, Exclude, File, Flush, Load}
 use Rattle.live.specs.declared.fault.LiveError.{LiveError}
 use Rattle.live_input.specs.Event.{event}
 use Rattle.live.specs.Laws.{IsJoined, SessionsJoin, counted_on}
 use Rattle.bounded_lines.specs.Lines.{final, front, last_line, lines_of, newline, partial_line, pieces, whole_lines}
-use Rattle.live.specs.Session.{Outcome, State, has_room, mark_turn, session, start, take_line, take_line_after, turn, turn_of, turns}
+use Rattle.live.specs.Session.{Outcome, State, built, flush_of, flushed_turn, has_room, loaded, mark_turn, of_building, project_after_build, session, sources_of, start, take_line, take_line_after, turn, turn_of, turns}
 use Rattle.bounded_lines.proofs.Cuts.{parts_of}
 use Rattle.live.proofs.Deciding.{session-within}
+use Rattle.std.specs.Prelude.{Result, Ok, Err}
+use Rattle.outside.specs.declared.command.Output.{Output}
+use Rattle.pm_build.specs.Reading.{Reading}
+use Rattle.pm_build.specs.declared.build_error.BuildError.TheVariants as build
+use Rattle.pm_lower.specs.declared.load_error.LoadError.{LoadError}
+use Rattle.pm_lower.specs.declared.load_error.LoadError.TheVariants as load
+use Rattle.pm_lower.specs.declared.project_workspace.ProjectWorkspace.{ProjectWorkspace}
+use Rattle.pm_rows.specs.Lowering.{Crate}
+use Rattle.pm_rows.specs.declared.lower_error.LowerError.{LowerError}
+use Rattle.pm_rows.specs.declared.lower_error.LowerError.TheVariants as lower
+use Rattle.live_project.specs.Build.{built_project}
+use Rattle.live_project.specs.Project.{ProjectContent, read_sources}
+use Rattle.live_project.specs.declared.project_error.ProjectError.{ProjectError}
+use Rattle.live_project.specs.declared.project_error.ProjectError.TheVariants as project
+use Rattle.live_project.specs.declared.sources.Sources.{Sources}
+use Rattle.live.specs.Fault.{of_load_error}
+use Rattle.live.specs.Page.{Flush as FlushContent, crates_of_flush}
 
 -- the pieces of a text, the first of which goes on a piece before it
 abbrev onto_piece : List ℕ → List (List ℕ) → List (List ℕ)
@@ -81,11 +98,51 @@ mark_turn-split : (s : State) (path : PathContent) (kind : MarkKind) (lines : �
 mark_turn-split s path kind lines true e = rw e refl
 mark_turn-split s path kind lines false e = rw e refl
 
+refusal-counted : (lines : ℕ) (error : LoadError) → counted_on lines (of_load_error error) ≡ of_load_error error
+refusal-counted lines (load.CargoMetadata stderr) = refl
+refusal-counted lines (load.Io line) = refl
+refusal-counted lines (load.Json field) = refl
+refusal-counted lines load.NoJson = refl
+refusal-counted lines (load.NotAbsolute text) = refl
+refusal-counted lines (load.NoParent text) = refl
+refusal-counted lines (load.UnknownPackage id) = refl
+refusal-counted lines (load.TooMany limit) = refl
+refusal-counted lines load.OutOfMemory = refl
+
+load-counted : (s : State) (sources : Sources) (lines : ℕ) (reading : Result ProjectWorkspace ProjectError)
+    → option_map (counted_on lines) (loaded s sources reading).refusal ≡ (loaded s sources reading).refusal
+load-counted s sources lines (Ok workspace) = refl
+load-counted s sources lines (Err (project.BadManifest path)) = refl
+load-counted s sources lines (Err (project.Refused error)) = ap Some (refusal-counted lines error)
+load-counted s sources lines (Err project.OutOfMemory) = refl
+
+built-counted : (s : State) (lines : ℕ) (reading : Reading ProjectContent)
+    → option_map (counted_on lines) (built s (of_building reading)).refusal ≡ (built s (of_building reading)).refusal
+built-counted s lines (Ok project) = refl
+built-counted s lines (Err (build.Io line)) = refl
+built-counted s lines (Err (build.NotAbsolute text)) = refl
+built-counted s lines (Err build.OutOfMemory) = refl
+
+build-counted : (s : State) (lines : ℕ) (project : Option ProjectContent) (output : Output)
+    → option_map (counted_on lines) (built s (project_after_build project output)).refusal ≡ (built s (project_after_build project output)).refusal
+build-counted s lines None output = refl
+build-counted s lines (Some project) output = built-counted s lines (built_project project output)
+
+flush-counted : (s : State) (flush : FlushContent) (lines : ℕ) (crates : Result (List Crate) LowerError)
+    → option_map (counted_on lines) (flushed_turn s flush crates).refusal ≡ (flushed_turn s flush crates).refusal
+flush-counted s flush lines (Ok crates) = refl
+flush-counted s flush lines (Err (lower.BadCrateName name)) = refl
+flush-counted s flush lines (Err (lower.TooMany limit)) = refl
+flush-counted s flush lines (Err lower.OutOfMemory) = refl
+
 turn-counted : (s : State) (e : Event) (lines : ℕ) → option_map (counted_on lines) (turn s e).refusal ≡ (turn s e).refusal
 unfolding turn
 turn-counted s (File path text) lines = mark_turn-split s path _ lines (has_room s path) refl
 turn-counted s (Exclude path) lines = mark_turn-split s path _ lines (has_room s path) refl
-turn-counted s Flush lines = refl
+turn-counted s (Answer line output) lines = refl
+turn-counted s (Load path) lines = load-counted s (sources_of s path) lines (read_sources (sources_of s path))
+turn-counted s (Build output) lines = build-counted s lines s.project output
+turn-counted s Flush lines = flush-counted s (flush_of s) lines (crates_of_flush (flush_of s))
 
 -- a line's turn by another number
 turn_of-counted : (s : State) (e : Option Event) (lines number : ℕ) → (turn_of s (lines + number) e).refusal ≡ option_map (counted_on lines) (turn_of s number e).refusal
@@ -139,11 +196,26 @@ mark_turn-config : (s : State) (path : PathContent) (kind : MarkKind) (room : Bo
 mark_turn-config s path kind true e = rw e refl
 mark_turn-config s path kind false e = rw e refl
 
+load-config : (s : State) (sources : Sources) (reading : Result ProjectWorkspace ProjectError) → (loaded s sources reading).state.config ≡ s.config
+load-config s sources (Ok workspace) = refl
+load-config s sources (Err error) = refl
+
+build-config : (s : State) (outcome : Result ProjectContent LiveError) → (built s outcome).state.config ≡ s.config
+build-config s (Ok project) = refl
+build-config s (Err error) = refl
+
+flush-config : (s : State) (flush : FlushContent) (crates : Result (List Crate) LowerError) → (flushed_turn s flush crates).state.config ≡ s.config
+flush-config s flush (Ok crates) = refl
+flush-config s flush (Err error) = refl
+
 turn-config : (s : State) (e : Event) → (turn s e).state.config ≡ s.config
 unfolding turn
 turn-config s (File path text) = mark_turn-config s path _ (has_room s path) refl
 turn-config s (Exclude path) = mark_turn-config s path _ (has_room s path) refl
-turn-config s Flush = refl
+turn-config s (Answer line output) = refl
+turn-config s (Load path) = load-config s (sources_of s path) (read_sources (sources_of s path))
+turn-config s (Build output) = build-config s (project_after_build s.project output)
+turn-config s Flush = flush-config s (flush_of s) (crates_of_flush (flush_of s))
 
 turn_of-config : (s : State) (number : ℕ) (e : Option Event) → (turn_of s number e).state.config ≡ s.config
 turn_of-config s number None = refl

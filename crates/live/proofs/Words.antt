@@ -5,7 +5,7 @@ use Rattle.std.specs.Option.{option_map}
 use Rattle.live.specs.declared.session.Live.{Live}
 use Rattle.live_input.specs.declared.config.LiveConfig.{LiveConfig}
 use Rattle.live.specs.declared.fault.LiveError.{LiveError}
-use Rattle.live.specs.declared.fault.LiveError.TheVariants.{OutOfMemory, Usage, ReadFault, WriteFault, Script, TooMany}
+use Rattle.live.specs.declared.fault.LiveError.TheVariants.{OutOfMemory, Usage, ReadFault, WriteFault, Script, BadManifest, Io, CargoMetadata, NoJson, Json, NotAbsolute, UnknownPackage, BadCrateName, NoParent, NoCargoProject, TooMany}
 use Rattle.std.specs.Prelude.{IfErr, IsErrOf, OnOk, String}
 use Rattle.std.specs.declared.alloc.Global.{Global}
 use Rattle.live.specs.Cli.{CompletesAs, CompletesFor, FailsFor, FinishesAs, StatusOf, TakesFor, UsageError, UsageExactly, with_config, state_of_command, state_for, texts_of}
@@ -17,6 +17,7 @@ use Rattle.live.specs.Run.{Completes, FailsFrom, Finishes, HasCause, TakesAtMost
 use Rattle.live.specs.Session.{State, session}
 use Rattle.live.specs.Written.{AppendsFront}
 use Rattle.live.proofs.Outcomes.{AppendsFront-after, AppendsFront-nil}
+use Rattle.live.proofs.Statuses.{among}
 
 -- an error that is no refusal and comes before anything was written
 pub fails_early : (start : Option State) (error : LiveError) (live : Live) (left held : Option (List ℕ)) → (IsRefusal error → ⊥) → FailsFor start error live left (held, held)
@@ -78,12 +79,7 @@ zero_completes start all completes s given = done_as (session s all).refusal (co
 
 -- what the causes of a run are with more statuses
 wider_words : (error : LiveError) → IsOneOf run_statuses (status_of error) → IsOneOf word_statuses (status_of error)
-wider_words OutOfMemory only = refl
-wider_words Usage only = refl
-wider_words ReadFault only = refl
-wider_words WriteFault only = refl
-wider_words (Script line) only = refl
-wider_words (TooMany limit) only = refl
+wider_words error only = among run_statuses word_statuses refl (status_of error) only
 
 wider_status : (error : LiveError) → IsOneOf all_statuses (status_of error)
 wider_status OutOfMemory = refl
@@ -91,6 +87,16 @@ wider_status Usage = refl
 wider_status ReadFault = refl
 wider_status WriteFault = refl
 wider_status (Script line) = refl
+wider_status (BadManifest path) = refl
+wider_status (Io line) = refl
+wider_status (CargoMetadata stderr) = refl
+wider_status NoJson = refl
+wider_status (Json field) = refl
+wider_status (NotAbsolute text) = refl
+wider_status (UnknownPackage id) = refl
+wider_status (BadCrateName name) = refl
+wider_status (NoParent text) = refl
+wider_status NoCargoProject = refl
 wider_status (TooMany limit) = refl
 
 pub cause_words : (error : LiveError) (reads reads' writes writes' : ℕ) → HasCause run_statuses (status_of error) (reads, reads') (writes, writes')
@@ -138,6 +144,16 @@ is_usage Usage e = refl
 is_usage ReadFault e = absurd (omega arith)
 is_usage WriteFault e = absurd (omega arith)
 is_usage (Script line) e = absurd (omega arith)
+is_usage (BadManifest path) e = absurd (omega arith)
+is_usage (Io line) e = absurd (omega arith)
+is_usage (CargoMetadata stderr) e = absurd (omega arith)
+is_usage NoJson e = absurd (omega arith)
+is_usage (Json field) e = absurd (omega arith)
+is_usage (NotAbsolute text) e = absurd (omega arith)
+is_usage (UnknownPackage id) e = absurd (omega arith)
+is_usage (BadCrateName name) e = absurd (omega arith)
+is_usage (NoParent text) e = absurd (omega arith)
+is_usage NoCargoProject e = absurd (omega arith)
 is_usage (TooMany limit) e = absurd (omega arith)
 
 usage_status : (error : LiveError) (status : ℕ) → status ≡ status_of error → IsErrOf {T = Unit {0}} (Err error) Usage ⊎ IsErrOf {T = Unit {0}} (Err error) OutOfMemory → (status ≡ 2) ⊎ (status ≡ 1)

@@ -5,8 +5,16 @@ use Rattle.outside.specs.declared.limits.Limit.{Limit}
 use Rattle.outside.specs.declared.limits.Limit.TheVariants.{Bytes, Paths, Packages, Targets, Crates}
 use Rattle.live_input.specs.declared.lines.LineError.{LineError}
 use Rattle.live_input.specs.declared.lines.LineError.TheVariants.{ReadFault as ReadFault', TooMany as TooMany', OutOfMemory as OutOfMemory', Ended as Ended'}
+use Rattle.live_project.specs.declared.project_error.ProjectError.{ProjectError}
+use Rattle.live_project.specs.declared.project_error.ProjectError.TheVariants as project
+use Rattle.pm_build.specs.declared.build_error.BuildError.{BuildError}
+use Rattle.pm_build.specs.declared.build_error.BuildError.TheVariants as build
+use Rattle.pm_lower.specs.declared.load_error.LoadError.{LoadError}
+use Rattle.pm_lower.specs.declared.load_error.LoadError.TheVariants as load
+use Rattle.pm_rows.specs.declared.lower_error.LowerError.{LowerError}
+use Rattle.pm_rows.specs.declared.lower_error.LowerError.TheVariants as lower
 use Rattle.live.specs.declared.fault.LiveError.{LiveError}
-use Rattle.live.specs.declared.fault.LiveError.TheVariants.{OutOfMemory, Usage, ReadFault, WriteFault, Script, TooMany}
+use Rattle.live.specs.declared.fault.LiveError.TheVariants.{OutOfMemory, Usage, ReadFault, WriteFault, Script, BadManifest, Io, CargoMetadata, NoJson, Json, NotAbsolute, UnknownPackage, BadCrateName, NoParent, NoCargoProject, TooMany}
 use Rattle.live.specs.declared.fault.StepError.{StepError}
 use Rattle.live.specs.declared.fault.StepError.TheVariants.{Refused, Ended}
 
@@ -17,6 +25,16 @@ status_of Usage = 2
 status_of ReadFault = 3
 status_of WriteFault = 4
 status_of (Script line) = 5
+status_of (BadManifest path) = 6
+status_of (Io line) = 8
+status_of (CargoMetadata stderr) = 9
+status_of NoJson = 10
+status_of (Json field) = 11
+status_of (NotAbsolute text) = 12
+status_of (UnknownPackage id) = 13
+status_of (BadCrateName name) = 14
+status_of (NoParent text) = 15
+status_of NoCargoProject = 16
 status_of (TooMany limit) = 17
 
 -- the name of what there is too much of
@@ -34,12 +52,63 @@ text_of Usage = codes "usage: live [options] or live generate N"
 text_of ReadFault = codes "read fault"
 text_of WriteFault = codes "write fault"
 text_of (Script line) = codes "script line " ++ decimal line
+text_of (BadManifest path) = codes "bad manifest: " ++ path
+text_of (Io line) = codes "cannot start: " ++ line
+text_of (CargoMetadata stderr) = codes "cargo metadata failed: " ++ stderr
+text_of NoJson = codes "no json in the metadata answer"
+text_of (Json field) = codes "bad json at " ++ field
+text_of (NotAbsolute text) = codes "not absolute: " ++ text
+text_of (UnknownPackage id) = codes "unknown package: " ++ id
+text_of (BadCrateName name) = codes "bad crate name: " ++ name
+text_of (NoParent text) = codes "no parent: " ++ text
+text_of NoCargoProject = codes "no cargo project"
 text_of (TooMany limit) = codes "too many " ++ limit_name limit
 
 -- the text that a step's error prints
 abbrev pub step_error_text : StepError → List ℕ
 step_error_text (Refused error) = codes "Refused"
 step_error_text Ended = codes "Ended"
+
+-- ---- refusals of the crates below
+
+-- why a project is not read
+abbrev pub of_load_error : LoadError → LiveError
+of_load_error (load.CargoMetadata stderr) = CargoMetadata stderr
+of_load_error (load.Io line) = Io line
+of_load_error (load.Json field) = Json field
+of_load_error load.NoJson = NoJson
+of_load_error (load.NotAbsolute text) = NotAbsolute text
+of_load_error (load.NoParent text) = NoParent text
+of_load_error (load.UnknownPackage id) = UnknownPackage id
+of_load_error (load.TooMany limit) = TooMany limit
+of_load_error load.OutOfMemory = OutOfMemory
+
+-- why no project is loaded
+abbrev pub of_project_error : ProjectError → LiveError
+of_project_error (project.BadManifest path) = BadManifest path
+of_project_error (project.Refused error) = of_load_error error
+of_project_error project.OutOfMemory = OutOfMemory
+
+-- why a build gives no outputs
+abbrev pub of_build_error : BuildError → LiveError
+of_build_error (build.Io line) = Io line
+of_build_error (build.NotAbsolute text) = NotAbsolute text
+of_build_error build.OutOfMemory = OutOfMemory
+
+-- why a project has no crates
+abbrev pub of_lower_error : LowerError → LiveError
+of_lower_error (lower.BadCrateName name) = BadCrateName name
+of_lower_error (lower.TooMany limit) = TooMany limit
+of_lower_error lower.OutOfMemory = OutOfMemory
+
+-- the error of a run whose line was not given
+abbrev pub fault_of : LineError → LiveError
+fault_of ReadFault' = ReadFault
+fault_of TooMany' = TooMany Bytes
+fault_of OutOfMemory' = OutOfMemory
+fault_of Ended' = OutOfMemory
+
+-- ---- statuses
 
 -- the errors that a session gives, each a refusal of the script: those of status 5 and above
 abbrev pub IsRefusal : LiveError → Type 0
@@ -51,31 +120,28 @@ IsOneOf statuses status = list_any (nat_eq status) statuses ≡ true
 
 -- the statuses of the errors that a flush may give
 abbrev pub flush_statuses : List ℕ
-flush_statuses = 1 ∷ 4 ∷ []
+flush_statuses = 1 ∷ 4 ∷ 14 ∷ 17 ∷ []
+
+-- those of a load
+abbrev pub load_statuses : List ℕ
+load_statuses = 1 ∷ 6 ∷ 8 ∷ 9 ∷ 10 ∷ 11 ∷ 12 ∷ 13 ∷ 15 ∷ 17 ∷ []
 
 -- those of the errors of one event
 abbrev pub turn_statuses : List ℕ
-turn_statuses = 1 ∷ 4 ∷ 17 ∷ []
+turn_statuses = 1 ∷ 4 ∷ 6 ∷ 8 ∷ 9 ∷ 10 ∷ 11 ∷ 12 ∷ 13 ∷ 14 ∷ 15 ∷ 16 ∷ 17 ∷ []
 
 -- those of reading lines
 abbrev pub line_statuses : List ℕ
-line_statuses = 1 ∷ 4 ∷ 5 ∷ 17 ∷ []
+line_statuses = 1 ∷ 4 ∷ 5 ∷ 6 ∷ 8 ∷ 9 ∷ 10 ∷ 11 ∷ 12 ∷ 13 ∷ 14 ∷ 15 ∷ 16 ∷ 17 ∷ []
 
 -- those of a run over a script
 abbrev pub run_statuses : List ℕ
-run_statuses = 1 ∷ 3 ∷ 4 ∷ 5 ∷ 17 ∷ []
+run_statuses = 1 ∷ 3 ∷ 4 ∷ 5 ∷ 6 ∷ 8 ∷ 9 ∷ 10 ∷ 11 ∷ 12 ∷ 13 ∷ 14 ∷ 15 ∷ 16 ∷ 17 ∷ []
 
 -- those of the words
 abbrev pub word_statuses : List ℕ
-word_statuses = 1 ∷ 2 ∷ 3 ∷ 4 ∷ 5 ∷ 17 ∷ []
+word_statuses = 1 ∷ 2 ∷ 3 ∷ 4 ∷ 5 ∷ 6 ∷ 8 ∷ 9 ∷ 10 ∷ 11 ∷ 12 ∷ 13 ∷ 14 ∷ 15 ∷ 16 ∷ 17 ∷ []
 
 -- all statuses, that of success among them
 abbrev pub all_statuses : List ℕ
 all_statuses = 0 ∷ word_statuses
-
--- the error of a run whose line was not given
-abbrev pub fault_of : LineError → LiveError
-fault_of ReadFault' = ReadFault
-fault_of TooMany' = TooMany Bytes
-fault_of OutOfMemory' = OutOfMemory
-fault_of Ended' = OutOfMemory

@@ -2,18 +2,14 @@
 use Rattle.std.specs.Prelude.{◌≡◌, ℕ, ◌≤◌, ◌+◌, List, [], ◌++◌, None, length}
 use Rattle.std.specs.Option.{option_map}
 use Rattle.live.specs.declared.fault.LiveError.{LiveError}
-use Rattle.live.specs.declared.fault.LiveError.TheVariants.{OutOfMemory, Usage, ReadFault, WriteFault, Script, TooMany}
+use Rattle.live.specs.declared.fault.LiveError.TheVariants.{Script}
 use Rattle.bounded_lines.specs.Lines.{partial_line}
 use Rattle.live.specs.Session.{Outcome, State, session}
 
 -- a refusal of a text that follows so many lines: their numbers are counted on
 abbrev pub counted_on : ℕ → LiveError → LiveError
-counted_on lines OutOfMemory = OutOfMemory
-counted_on lines Usage = Usage
-counted_on lines ReadFault = ReadFault
-counted_on lines WriteFault = WriteFault
 counted_on lines (Script line) = Script (lines + line)
-counted_on lines (TooMany limit) = TooMany limit
+counted_on lines error = error
 
 -- an outcome is that of a first text and then of a second: the pages of both, and the state and the refusal of the second
 pub record IsJoined (first second both : Outcome) : Type 0 where

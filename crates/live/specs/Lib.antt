@@ -1,4 +1,5 @@
 pub mod Cli
+pub mod Crates
 pub mod Fault
 pub mod Laws
 pub mod LiveTexts

@@ -1,12 +1,16 @@
 -- The texts of the files that live, beside the table of files: a row for each path, in order of first mention.
-use Rattle.std.specs.Prelude.{◌≡◌, ℕ, Bool, true, List, [], ◌∷◌, ◌++◌, Option, Some, None, map, if◌then◌else◌}
+use Rattle.std.specs.Prelude.{◌≡◌, ℕ, ◌+◌, Bool, true, List, [], ◌∷◌, ◌++◌, Option, Some, None, fold, map, slice_get, if◌then◌else◌}
 use Rattle.std.proofs.Common.{set}
+use Rattle.std.specs.Option.{option_and_then}
 use Rattle.std.specs.Str.{is_utf8}
+use Rattle.trees.specs.Tree as tree
 use Rattle.vfs_core.specs.declared.marks.Mark.{Mark}
 use Rattle.vfs_core.specs.Files.{Files, Follows, TakesMark, TakesOut}
 use Rattle.vfs_core.specs.Marks.{live_text, mentioned_paths}
 use Rattle.vfs_core.specs.Texts.{BringsMark, BringsOut, BringsTo, KeepsPassing, all_pass}
 use Rattle.vfs_core.specs.VfsPath.{PathContent}
+use Rattle.live_project.specs.Sources.{with_kept_file}
+use Rattle.live.specs.Page.{LiveFile}
 
 -- the row of each path that marks speak of: the text of its file, where the file lives
 abbrev pub rows_of : List Mark → List (Option (List ℕ))
@@ -22,12 +26,25 @@ abbrev pub with_text : List (Option (List ℕ)) → Option ℕ → Bool → Opti
 with_text rows None is_changed text = rows ++ (if is_changed then text else None) ∷ []
 with_text rows (Some number) is_changed text = if is_changed then set rows number text else rows
 
--- the files whose texts stand in rows, by the paths of their numbers
-abbrev pub files_kept : List PathContent → List (Option (List ℕ)) → List (PathContent × List ℕ)
-files_kept [] rows = []
-files_kept (place ∷ places) [] = []
-files_kept (place ∷ places) (None ∷ rows) = files_kept places rows
-files_kept (place ∷ places) (Some text ∷ rows) = (place, text) ∷ files_kept places rows
+-- the files whose texts stand in rows, by the paths of their numbers, which count from here on; a path behind the rows has no file
+abbrev pub files_kept : ℕ → List PathContent → List (Option (List ℕ)) → List LiveFile
+files_kept number [] rows = []
+files_kept number (place ∷ places) [] = []
+files_kept number (place ∷ places) (None ∷ rows) = files_kept (number + 1) places rows
+files_kept number (place ∷ places) (Some text ∷ rows) = record { number = number; path = place; text = text } ∷ files_kept (number + 1) places rows
+
+-- the text in the row of a number
+abbrev pub text_at : List (Option (List ℕ)) → ℕ → Option (List ℕ)
+text_at rows number = option_and_then (λ text. text) (slice_get rows number)
+
+-- the files of a tree, with one more where its row has a text; a virtual path is in no tree
+abbrev pub with_row : tree.Files → PathContent → Option (List ℕ) → tree.Files
+with_row files path None = files
+with_row files path (Some text) = with_kept_file files (path, text)
+
+-- the tree of these files, by the rows of their numbers
+unfoldable pub kept_by : List (Option (List ℕ)) → List (ℕ × PathContent) → tree.Files
+kept_by rows files = fold (λ kept file. with_row kept file.1 (text_at rows file.0)) [] files
 
 -- contents, or a deletion where there are none, came for a path
 pub record TakesContents (old new : Files) (path : PathContent) (contents : Option (List ℕ)) : Type 0 where

@@ -1,18 +1,70 @@
--- The page of a flush where no project was loaded, by the files that live alone.
-use Rattle.std.specs.Prelude.{ℕ, true, List, [], ◌∷◌, ◌++◌, map}
-use Rattle.serde_json.specs.Data.{no_items, item}
-use Rattle.serde_json.specs.Written.{compact_text}
+-- The page of a flush, by the files that live and the project, if one was loaded: no database is in it. The entries are those of the crates
+-- that the project has by these files; the sets are those of the project's roots in order, and behind them the last set.
+use Rattle.std.specs.Prelude.{ℕ, List, [], map, nat_eq, Option, Some, None, Result, Ok}
+use Rattle.std.specs.Map.{lookup}
+use Rattle.std.specs.Option.{option_map}
+use Rattle.live_flush.specs.Page as placed
+use Rattle.live_flush.specs.declared.file_root.FileRoot.{FileRoot}
+use Rattle.live_project.specs.Crates.{lowered}
+use Rattle.live_project.specs.Project.{ProjectContent}
+use Rattle.live_project.specs.Roots.{roots_of_project}
+use Rattle.pages.specs.Entries.{Node, Paths, entries_of}
+use Rattle.pages.specs.declared.crate_entry.CrateEntry.{CrateEntry}
+use Rattle.pm_rows.specs.Lowering.{Crate}
+use Rattle.pm_rows.specs.declared.lower_error.LowerError.{LowerError}
 use Rattle.vfs_core.specs.VfsPath.{PathContent}
-use Rattle.pages.specs.Page.{page_data, set_data, sorted_texts}
 
--- what a flush brings into the database: the files that live, each with its text
+-- a file that lives: its number, which is the place of its path among those of which the events spoke, its path and its text
+pub record LiveFile : Type 0 where
+  pub number : ℕ
+  pub path : PathContent
+  pub text : List ℕ
+
+-- what a flush brings into the database: the files that live, by number, and the project, if one was loaded
 pub record Flush : Type 0 where
-  pub files : List (PathContent × List ℕ)
+  pub files : List LiveFile
+  pub project : Option ProjectContent
 
--- the paths of a flush's files in order
-abbrev pub flush_paths : Flush → List (List ℕ)
-flush_paths flush = sorted_texts (map (λ f. f.0.text) flush.files)
+-- ---- files
 
--- the page of a flush where no project was loaded: no entry, and the last set, which is local
-unfoldable pub page : Flush → List ℕ
-page flush = compact_text (page_data no_items (item (set_data (flush_paths flush) true) no_items)) ++ 10 ∷ []
+-- the paths of a flush's files
+abbrev pub paths_of_flush : Flush → List PathContent
+paths_of_flush flush = map (λ file. file.path) flush.files
+
+-- the paths by the numbers of the files
+abbrev pub numbers_of_flush : Flush → List (ℕ × PathContent)
+numbers_of_flush flush = map (λ file. (file.number, file.path)) flush.files
+
+-- the path of a file by its number
+abbrev pub path_by : List (ℕ × PathContent) → Paths
+path_by files number = option_map (λ path. path.text) (lookup (nat_eq number) files)
+
+-- ---- the project
+
+-- the roots that place files: none without a project
+abbrev pub roots_by : Option ProjectContent → List FileRoot
+roots_by None = []
+roots_by (Some p) = roots_of_project p.workspace
+
+-- the crates by the files that live, or why there are none; no project has none
+abbrev pub crates_by : Option ProjectContent → List (ℕ × PathContent) → Result (List Crate) LowerError
+crates_by None files = Ok []
+crates_by (Some p) files = lowered p files
+
+-- the crates of a flush, or why it is refused
+abbrev pub crates_of_flush : Flush → Result (List Crate) LowerError
+crates_of_flush flush = crates_by flush.project (numbers_of_flush flush)
+
+-- ---- the page
+
+-- a crate as its entry sees it
+abbrev pub node_seen : Crate → Node
+node_seen krate = record { root_file = krate.root; dependencies = map (λ dep. (dep.name, dep.target)) krate.deps }
+
+-- the entries of crates
+abbrev pub entries : Flush → List Crate → List CrateEntry
+entries flush crates = entries_of (path_by (numbers_of_flush flush)) (map node_seen crates)
+
+-- the page of a flush with these crates
+unfoldable pub page : Flush → List Crate → List ℕ
+page flush crates = placed.page (roots_by flush.project) (paths_of_flush flush) (entries flush crates)

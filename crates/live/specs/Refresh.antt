@@ -1,17 +1,76 @@
--- What a flush does to a session where no project was loaded: the files are placed by no root, and no crate is given.
-use Rattle.std.specs.Prelude.{◌≡◌, []}
+-- What a flush does to a session before its page is written: the files are placed by the roots of the project, and the crates that the
+-- project has by them are set. Without a project no root places them, and no crate is given.
+use Rattle.std.specs.Prelude.{◌≡◌, ◌⊎◌, ℕ, List, [], Option, Some, None, Result, Ok, Err, map}
+use Rattle.std.specs.declared.cmp.Ordering.{Ordering}
 use Rattle.vfs_core.specs.Files.{existing_files}
+use Rattle.vfs_core.specs.VfsPath.{PathContent}
 use Rattle.vfs_sets.specs.Probes.{CountsPlacing}
-use Rattle.live_flush.specs.Refresh.{KeepsCrates, Refreshes}
+use Rattle.crate_graph.specs.Graph.{Graph}
+use Rattle.input_db.specs.Identity.{Id}
+use Rattle.pm_rows.specs.Lowering.{LacksCyclesAlone, crate_seen}
+use Rattle.pm_rows.specs.Refusal.{Refuses}
+use Rattle.pm_rows.specs.declared.lower_error.LowerError.{LowerError}
+use Rattle.live_flush.specs.FileRoots.{root_lists}
+use Rattle.live_flush.specs.Refresh.{GivesCrates, Refreshes}
+use Rattle.live_project.specs.Crates.{BeginIn, lowered, wanted}
+use Rattle.live_project.specs.Project.{ProjectContent}
+use Rattle.live.specs.declared.fault.LiveError.{LiveError}
+use Rattle.live.specs.declared.fault.LiveError.TheVariants.{OutOfMemory}
+use Rattle.live.specs.declared.last_flush.LastFlush.{LastFlush}
 use Rattle.live.specs.declared.session.Live.{Live}
+use Rattle.live.specs.Fault.{of_lower_error}
+use Rattle.live.specs.Page.{crates_by, roots_by}
 
--- the files that exist, and those changes whose file has a root, are in the database; the changes are taken, and each probe is
--- counted. All else is as it was
+-- ---- the graph
+
+-- a graph has the crates of a project by these files, each begins in one of them, and a wanted edge is a dependency exactly where its
+-- target does not reach its source
+pub record IsGraphOf (p : ProjectContent) (files : List (ℕ × PathContent)) (graph : Graph) : Type 0 where
+  pub crates : lowered p files ≡ Ok (map crate_seen graph.crates)
+  pub begins : BeginIn files graph.crates
+  pub missing : LacksCyclesAlone (wanted p files) graph.crates
+
+-- the graph of a project, and none where there is no project
+abbrev pub IsGraphBy : Option ProjectContent → List (ℕ × PathContent) → Option Graph → Type 0
+IsGraphBy None files graph = graph ≡ None
+IsGraphBy (Some p) files None = ⊥
+IsGraphBy (Some p) files (Some graph) = IsGraphOf p files graph
+
+-- a call gives that graph, or the refusal of the project's crates
+abbrev pub GivesGraph : Option ProjectContent → List (ℕ × PathContent) → Result (Option Graph) LowerError → Type 0
+GivesGraph p files (Ok graph) = IsGraphBy p files graph
+GivesGraph p files (Err error) = Refuses error (crates_by p files)
+
+-- ---- a session
+
+-- the files that exist, those changes whose file has a root, and the crates are in the database; the changes are taken, and each probe
+-- is counted. All else is as it was
 pub record RefreshesLive (old new : Live) : Type 0 where
-  pub refreshes : Refreshes [] old.files old.db new.db
-  pub crates : KeepsCrates old.db new.db
-  pub probes : CountsPlacing [] (existing_files old.files) old.probes.ledger new.probes.ledger
+  pub graph : Option Graph
+  pub lowers : IsGraphBy old.project (existing_files old.files) graph
+  pub cmp : Id → Id → Ordering
+  pub crates : GivesCrates cmp graph old.db new.db
+  pub refreshes : Refreshes (roots_by old.project) old.files old.db new.db
+  pub probes : CountsPlacing (root_lists (roots_by old.project)) (existing_files old.files) old.probes.ledger new.probes.ledger
   pub config : new.config ≡ old.config
-  pub ended : new.ended ≡ old.ended
   pub texts : new.texts ≡ old.texts
+  pub answers : new.answers ≡ old.answers
+  pub project : new.project ≡ old.project
+  pub flushed : new.flushed ≡ old.flushed
+  pub ended : new.ended ≡ old.ended
   pub files : new.files ≡ record old.files { batch = [] }
+
+-- what is kept of a flush: the texts and the project
+pub record KeepsLast (live : Live) (last : LastFlush) : Type 0 where
+  pub texts : last.texts ≡ live.texts
+  pub project : last.project ≡ live.project
+
+-- a flush is refused with the refusal of the project's crates
+pub record IsFlushRefusal (live : Live) (error : LiveError) : Type 0 where
+  pub refusal : LowerError
+  pub lowers : crates_by live.project (existing_files live.files) ≡ Err refusal
+  pub told : error ≡ of_lower_error refusal
+
+-- a flush fails out of memory, or it is refused
+abbrev pub FailsFlush : Live → LiveError → Type 0
+FailsFlush live error = (error ≡ OutOfMemory) ⊎ IsFlushRefusal live error

@@ -1,27 +1,46 @@
 -- The session: what a script does, line by line, to a state, which pages it writes, and what it refuses.
-use Rattle.std.specs.Prelude.{ℕ, Bool, true, List, [], ◌∷◌, ◌++◌, Option, Some, None, length, take, unwrap_or, nat_le, nat_lt, ◌||◌, ◌+◌, if◌then◌else◌}
-use Rattle.std.specs.List.{fold, list_any}
+use Rattle.std.specs.Prelude.{ℕ, Bool, true, List, [], ◌∷◌, ◌++◌, Option, Some, None, Result, Ok, Err, length, take, unwrap_or, nat_le, nat_lt, ◌||◌, ◌+◌, if◌then◌else◌}
+use Rattle.std.specs.List.{enumerate_from, filter_map, fold, list_any}
+use Rattle.std.specs.Option.{option_map}
+use Rattle.outside.specs.Command.{question_of}
+use Rattle.outside.specs.Runner.{with_answer}
+use Rattle.outside.specs.declared.command.CommandLine.{CommandLine}
+use Rattle.outside.specs.declared.command.Output.{Output}
+use Rattle.outside.specs.declared.command.Question.{Question}
 use Rattle.outside.specs.declared.limits.Limit.TheVariants.{Bytes, Paths}
+use Rattle.bounded_lines.specs.Lines.{lines_of, whole_lines}
 use Rattle.vfs_core.specs.VfsPath.{PathContent, vfs_path_eq}
 use Rattle.vfs_core.specs.declared.marks.Mark.{Mark}
 use Rattle.vfs_core.specs.declared.marks.MarkKind.{MarkKind}
 use Rattle.vfs_core.specs.declared.marks.MarkKind.TheVariants.{Out}
-use Rattle.vfs_core.specs.Marks.{live_files, mentioned_paths}
+use Rattle.vfs_core.specs.Marks.{live_files, live_text, mentioned_paths}
 use Rattle.vfs_core.specs.Files.{kind_of}
+use Rattle.pm_build.specs.Reading.{Reading}
+use Rattle.pm_lower.specs.declared.project_workspace.ProjectWorkspace.{ProjectWorkspace}
+use Rattle.pm_rows.specs.Lowering.{Crate}
+use Rattle.pm_rows.specs.declared.lower_error.LowerError.{LowerError}
 use Rattle.live_input.specs.declared.config.LiveConfig.{LiveConfig}
 use Rattle.live_input.specs.declared.event.Event.{Event}
-use Rattle.live_input.specs.declared.event.Event.TheVariants.{Exclude, File, Flush as FlushEvent}
-use Rattle.live.specs.declared.fault.LiveError.{LiveError}
-use Rattle.live.specs.declared.fault.LiveError.TheVariants.{Script, TooMany}
+use Rattle.live_input.specs.declared.event.Event.TheVariants.{Answer, Build, Exclude, File, Flush as FlushEvent, Load}
 use Rattle.live_input.specs.Event.{event}
-use Rattle.bounded_lines.specs.Lines.{lines_of, whole_lines}
-use Rattle.live.specs.Page.{Flush, page}
+use Rattle.live_project.specs.Build.{built_project}
+use Rattle.live_project.specs.Project.{ProjectContent, read_sources}
+use Rattle.live_project.specs.Sources.{kept_files}
+use Rattle.live_project.specs.declared.project_error.ProjectError.{ProjectError}
+use Rattle.live_project.specs.declared.sources.Sources.{Sources}
+use Rattle.live.specs.declared.fault.LiveError.{LiveError}
+use Rattle.live.specs.declared.fault.LiveError.TheVariants.{NoCargoProject, Script, TooMany}
+use Rattle.live.specs.Fault.{of_build_error, of_lower_error, of_project_error}
+use Rattle.live.specs.Page.{Flush, LiveFile, crates_of_flush, page}
 
--- what a session knows: its configuration, what was said of files (newest first), what the last flush brought into the
--- database, if there was one, and whether it has ended
+-- what a session knows: its configuration, what was said of files (newest first), the answers that were recorded, by their questions,
+-- the project that was loaded last with what its last build gave, if one was loaded, what the last flush brought into the database, if there was one, and whether it has
+-- ended
 pub record State : Type 0 where
   pub config : LiveConfig
   pub marks : List Mark
+  pub answers : List (Question × Output)
+  pub project : Option ProjectContent
   pub flushed : Option Flush
   pub ended : Bool
 
@@ -39,9 +58,11 @@ pub record Turn : Type 0 where
 abbrev pub takes : State → List (List ℕ) → Turn
 takes s pages = record { state = s; pages = pages; refusal = None }
 
--- an event that is refused leaves the state as it was
+-- an event that is refused leaves this state, and writes nothing
 abbrev pub refuses : State → LiveError → Turn
 refuses s error = record { state = s; pages = []; refusal = Some error }
+
+-- ---- files
 
 -- whether a path has a number, or there is room for one more
 abbrev pub has_room : State → PathContent → Bool
@@ -53,30 +74,95 @@ mark_turn s path kind =
     if has_room s path then takes (record s { marks = record { path = path; kind = kind } ∷ s.marks }) []
     else refuses s (TooMany Paths)
 
--- what a flush brings into the database: the files that live
-abbrev pub flush_of : State → Flush
-flush_of s = record { files = live_files s.marks }
+-- ---- answers and projects
 
--- a flush writes one page, and is the last flush from then on
+-- an answer is recorded, in place of an earlier one of the same question
+abbrev pub answer_turn : State → CommandLine → Output → Turn
+answer_turn s line output = takes (record s { answers = with_answer (question_of line) output s.answers }) []
+
+-- what a load keeps: the configuration, the answers and the files that live at that load, and its path
+abbrev pub sources_of : State → List ℕ → Sources
+sources_of s path = record { config = s.config; answers = s.answers; files = kept_files (live_files s.marks); path = path }
+
+-- a load of what was read, or of its refusal, which leaves the state as it was
+abbrev pub loaded : State → Sources → Result ProjectWorkspace ProjectError → Turn
+loaded s sources (Ok workspace) = takes (record s { project = Some (record { sources = sources; workspace = workspace }) }) []
+loaded s sources (Err error) = refuses s (of_project_error error)
+
+-- a load is judged by what it keeps alone
+abbrev pub load_turn : State → List ℕ → Turn
+load_turn s path = loaded s (sources_of s path) (read_sources (sources_of s path))
+
+-- ---- builds
+
+-- the project after a build of it, or why the build is refused
+abbrev pub of_building : Reading ProjectContent → Result ProjectContent LiveError
+of_building (Ok project) = Ok project
+of_building (Err error) = Err (of_build_error error)
+
+-- a build is one of the project that is loaded, and the outputs after it are its own alone
+abbrev pub project_after_build : Option ProjectContent → Output → Result ProjectContent LiveError
+project_after_build None output = Err NoCargoProject
+project_after_build (Some project) output = of_building (built_project project output)
+
+-- a build that gives this project, or its refusal, which leaves the state as it was
+abbrev pub built : State → Result ProjectContent LiveError → Turn
+built s (Ok project) = takes (record s { project = Some project }) []
+built s (Err error) = refuses s error
+
+-- a build
+abbrev pub build_turn : State → Output → Turn
+build_turn s output = built s (project_after_build s.project output)
+
+-- ---- flushes
+
+-- the file of a numbered path, where it lives
+abbrev pub live_file : List Mark → ℕ × PathContent → Option LiveFile
+live_file marks place = option_map (λ text. record { number = place.0; path = place.1; text = text }) (live_text marks place.1)
+
+-- the files that live, by number
+abbrev pub numbered_files : List Mark → List LiveFile
+numbered_files marks = filter_map (live_file marks) (enumerate_from 0 (mentioned_paths marks))
+
+-- what a flush brings into the database: the files that live, and the project
+abbrev pub flush_of : State → Flush
+flush_of s = record { files = numbered_files s.marks; project = s.project }
+
+-- a flush with crates writes one page, and is the last flush from then on; one that has none is refused, and ends the session
+abbrev pub flushed_turn : State → Flush → Result (List Crate) LowerError → Turn
+flushed_turn s flush (Ok crates) = takes (record s { flushed = Some flush }) (page flush crates ∷ [])
+flushed_turn s flush (Err error) = refuses (ended_state s) (of_lower_error error)
+
+-- a flush
 abbrev pub flush_turn : State → Turn
-flush_turn s = takes (record s { flushed = Some (flush_of s) }) (page (flush_of s) ∷ [])
+flush_turn s = flushed_turn s (flush_of s) (crates_of_flush (flush_of s))
+
+-- ---- events
 
 -- one event
 unfoldable pub turn : State → Event → Turn
 turn s (File path text) = mark_turn s path (kind_of text)
 turn s (Exclude path) = mark_turn s path Out
+turn s (Answer line output) = answer_turn s line output
+turn s (Load path) = load_turn s path
+turn s (Build output) = build_turn s output
 turn s FlushEvent = flush_turn s
 
 -- the state after an event that failed with nothing else said: a flush ends the session
 abbrev pub state_after_failure : State → Event → State
 state_after_failure s (File path text) = s
 state_after_failure s (Exclude path) = s
+state_after_failure s (Answer line output) = s
+state_after_failure s (Load path) = s
+state_after_failure s (Build output) = s
 state_after_failure s FlushEvent = ended_state s
 
 -- the line of this number: its event's turn, and a line that is no event is refused
 abbrev pub turn_of : State → ℕ → Option Event → Turn
 turn_of s number None = refuses s (Script number)
 turn_of s number (Some e) = turn s e
+
+-- ---- scripts
 
 -- what the lines so far made: the state, the pages in order, how many lines there were, the first refusal
 pub record Outcome : Type 0 where

@@ -1,40 +1,63 @@
 -- When a `Live` holds a state, and what one step does to both: the state's parts, one clause each.
-use Rattle.std.specs.Prelude.{◌≡◌, ℕ, ◌≤◌, Bool, true, false, List, [], Option, Some, None, Result, Ok, Err}
+use Rattle.std.specs.Prelude.{◌≡◌, ◌≤◌, Bool, true, false, List, [], length, Option, Some, None, Result, Ok, Err}
 use Rattle.std.specs.Str.{is_utf8}
 use Rattle.std.specs.Io.KnownBytes.{Appends}
 use Rattle.vfs_core.specs.Texts.{BringsTo, all_pass}
-use Rattle.vfs_core.specs.Files.{existing_files}
+use Rattle.vfs_core.specs.Files.{existing_files, paths_of}
+use Rattle.vfs_core.specs.VfsPath.{PathContent}
 use Rattle.vfs_sets.specs.Probes.{CountsPlacing, RaisesAtMost, most_probes}
-use Rattle.live.specs.declared.session.Live.{Live}
+use Rattle.live_flush.specs.FileRoots.{root_lists}
+use Rattle.live_flush.specs.Refresh.{KeepsCrates}
+use Rattle.live_flush.specs.Shape.{image, texts_known}
+use Rattle.live_input.specs.Config.{first_config}
 use Rattle.live_input.specs.declared.event.Event.{Event}
 use Rattle.live_input.specs.declared.event.Event.TheVariants.{Flush as FlushEvent}
 use Rattle.live.specs.declared.fault.LiveError.{LiveError}
 use Rattle.live.specs.declared.fault.LiveError.TheVariants.{WriteFault}
 use Rattle.live.specs.declared.fault.StepError.{StepError}
 use Rattle.live.specs.declared.fault.StepError.TheVariants.{Refused, Ended}
-use Rattle.live_input.specs.Config.{first_config}
+use Rattle.live.specs.declared.last_flush.LastFlush.{LastFlush}
+use Rattle.live.specs.declared.session.Live.{Live}
+use Rattle.live.specs.Crates.{ListsInOrder, ShowsCrates}
 use Rattle.live.specs.Fault.{IsRefusal, turn_statuses}
-use Rattle.live_flush.specs.Refresh.{KeepsCrates}
-use Rattle.live_flush.specs.Shape.{image, texts_known}
 use Rattle.live.specs.Image.{ShowsFlush, shape_of_flush}
-use Rattle.live.specs.LiveTexts.{KeepsTexts}
+use Rattle.live.specs.LiveTexts.{KeepsTexts, files_kept}
+use Rattle.live.specs.Page.{Flush, numbers_of_flush, roots_by}
 use Rattle.live.specs.Session.{State, Turn, flush_of, state_after_failure, turn}
 use Rattle.live.specs.Written.{AppendsFront, AppendsPages, AppendsProperFront, Counts, HasWriteCause, Told}
 
+-- ---- a state that is held
+
 -- the database of a session shows what the last flush brought into it, and the changes of files since then bring its texts to
--- those that live, each of which is a text. It lists no crates
+-- those that live, each of which is a text. It lists no crates as long as no project was loaded
 pub record IsCurrent (live : Live) (s : State) : Type 0 where
   pub brings : BringsTo live.files (texts_known live.db) s.marks
   pub valid : all_pass is_utf8 live.files.batch ≡ true
   pub shown : ShowsFlush live.db s.flushed
-  pub crates : live.db.listed ≡ []
+  pub crates : live.project ≡ None → live.db.listed ≡ []
 
--- a session holds a state: its files and their texts are those of the marks, and until the session ends its database is
--- current
+-- what is kept of a flush is its files, by the paths of the table, which only grow, and its project
+pub record IsLast (paths : List PathContent) (last : LastFlush) (flush : Flush) : Type 0 where
+  pub within : length last.texts ≤ length paths
+  pub files : files_kept 0 paths last.texts ≡ flush.files
+  pub project : last.project ≡ flush.project
+
+-- the last flush is kept, where there was one
+abbrev pub KeepsFlush : List PathContent → Option LastFlush → Option Flush → Type 0
+KeepsFlush paths None None = Unit {0}
+KeepsFlush paths None (Some flush) = ⊥
+KeepsFlush paths (Some last) None = ⊥
+KeepsFlush paths (Some last) (Some flush) = IsLast paths last flush
+
+-- a session holds a state: its files and their texts are those of the marks, it has the answers, the project and the last flush, and
+-- until it ends its database is current
 pub record Holds (live : Live) (s : State) : Type 0 where
   pub config : live.config ≡ s.config
   pub limit : live.files.limit ≡ s.config.limits.paths
   pub texts : KeepsTexts live.files live.texts s.marks
+  pub answers : live.answers ≡ s.answers
+  pub project : live.project ≡ s.project
+  pub flushed : KeepsFlush (paths_of live.files) live.flushed s.flushed
   pub ended : live.ended ≡ s.ended
   pub database : s.ended ≡ false → IsCurrent live s
 
@@ -44,7 +67,9 @@ HasEnded live = live.ended ≡ true
 
 -- before the first event: the configuration is that of no words
 abbrev pub first_state : State
-first_state = record { config = first_config; marks = []; flushed = None; ended = false }
+first_state = record { config = first_config; marks = []; answers = []; project = None; flushed = None; ended = false }
+
+-- ---- one step
 
 -- a turn that is not refused was taken: the state after it is held, and its pages were appended
 pub record TakesTurn (t : Turn) (live : Live) (held : Told) : Type 0 where
@@ -84,21 +109,25 @@ HasStepCause (Err Ended) writes = writes.0 ≤ writes.1
 abbrev pub CountsFlush : Live → Live → Type 0
 CountsFlush old new = RaisesAtMost (most_probes (existing_files old.files)) old.probes.ledger new.probes.ledger
 
--- what a step leaves as it was: the configuration; the database and the count of probes, unless it is a flush; the crates of
--- the database, where it succeeds; all, where it fails and is no flush; and whether the session has ended, where it succeeds. A
--- flush that fails ends the session, and each flush counts its probes: one that succeeds all of them, among no roots
+-- what a step leaves as it was: the configuration; the database and the count of probes, unless it is a flush; the crates of the
+-- database, where it succeeds and no project was loaded; all, where it fails and is no flush; and whether the session has ended, where it
+-- succeeds. A flush that fails ends the session, and each flush counts its probes: one that succeeds all of them, among the roots of the
+-- project
 pub record LeavesAsWas (event : Event) (failed : Bool) (old new : Live) : Type 0 where
   pub config : new.config ≡ old.config
   pub database : (event ≡ FlushEvent → ⊥) → new.db ≡ old.db
   pub all : failed ≡ true → (event ≡ FlushEvent → ⊥) → new ≡ old
-  pub crates : failed ≡ false → KeepsCrates old.db new.db
+  pub crates : failed ≡ false → old.project ≡ None → KeepsCrates old.db new.db
   pub probes : (event ≡ FlushEvent → ⊥) → new.probes ≡ old.probes
   pub counts : event ≡ FlushEvent → CountsFlush old new
   pub placed : failed ≡ false → event ≡ FlushEvent
-      → CountsPlacing [] (existing_files old.files) old.probes.ledger new.probes.ledger
+      → CountsPlacing (root_lists (roots_by old.project)) (existing_files old.files) old.probes.ledger new.probes.ledger
   pub going : failed ≡ false → new.ended ≡ old.ended
   pub ends : failed ≡ true → event ≡ FlushEvent → HasEnded new
 
--- after a flush the database shows the shape of the files that live
+-- after a flush the database shows the shape of the files that live, by the roots of the project; its list names each crate once and
+-- after its dependencies, and its crates are those of the project
 pub record ShowsShape (live : Live) (s : State) : Type 0 where
   pub shows : image live.db live.files ≡ shape_of_flush (flush_of s)
+  pub order : ListsInOrder live.db
+  pub crates : ShowsCrates live.db s.project (numbers_of_flush (flush_of s))

@@ -1,10 +1,9 @@
 -- What a sink took of the pages of a session, all of them or a front, and whether faults were counted.
-use Rattle.std.specs.Prelude.{◌≡◌, ℕ, ◌<◌, ◌≤◌, List, Option, Result, IfErr, IsErrOf, length, take}
+use Rattle.std.specs.Prelude.{ℕ, ◌<◌, ◌≤◌, List, Option, Result, IfErr, IsErrOf, length, take}
 use Rattle.std.specs.List.{concat}
 use Rattle.std.specs.Io.KnownBytes.{Appends}
 use Rattle.outside.specs.Causes.{Rose}
-use Rattle.outside.specs.declared.limits.Limit.{Limit}
-use Rattle.outside.specs.declared.limits.Limit.TheVariants.{Paths}
+use Rattle.outside.specs.declared.limits.Limit.TheVariants.{Bytes}
 use Rattle.live.specs.declared.fault.LiveError.{LiveError}
 use Rattle.live.specs.declared.fault.LiveError.TheVariants.{TooMany, WriteFault}
 use Rattle.live.specs.Fault.{IsOneOf, status_of}
@@ -33,10 +32,10 @@ pub record AppendsProperFront (held : Told) (pages : List (List ℕ)) : Type 0 w
   pub short : count < length (concat pages)
   pub front : Appends held.0 held.1 (take count (concat pages))
 
--- an error has one of these statuses, the only limit is that of paths, and the sink's count of faults, which does not fall,
+-- an error has one of these statuses, the limit of bytes is none that it names, and the sink's count of faults, which does not fall,
 -- rose where it is a write fault
 pub record HasWriteCause {T : Type 0} (result : Result T LiveError) (statuses : List ℕ) (writes : Counts) : Type 0 where
   pub later : writes.0 ≤ writes.1
   pub only : IfErr result (λ error. IsOneOf statuses (status_of error))
   pub write : IsErrOf result WriteFault → Rose writes.0 writes.1
-  pub paths : (limit : Limit) → IsErrOf result (TooMany limit) → limit ≡ Paths
+  pub limits : IsErrOf result (TooMany Bytes) → ⊥

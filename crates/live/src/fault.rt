@@ -1,10 +1,15 @@
 //! What a run can meet, with its exit status and its text.
 
-ghost use Rattle.std.specs.Prelude.{◌≡◌, IfOk, string_bytes};
+ghost use Rattle.std.specs.Prelude.{◌≡◌, ◌++◌, IfOk, Some, string_bytes};
+ghost use Rattle.std.specs.Fmt.{DisplaysOnOk};
 ghost use Rattle.live.specs.Fault.{limit_name, status_of, text_of};
 
-use base_text::Limit;
-use std::alloc::{AllocError, Global};
+use base_text::{Limit, Text, TryClone};
+use live_project::ProjectError;
+use pm_build::BuildError;
+use pm_lower::LoadError;
+use pm_rows::LowerError;
+use std::alloc::{AllocError, AllocFailed, Global};
 use std::error::Error;
 use std::fmt;
 
@@ -21,6 +26,26 @@ pub enum LiveError {
     WriteFault,
     /// The line of this number, counted from 1 in each run, is no event.
     Script(u64),
+    /// The path of a load does not begin with `/`, is the root, or has another file name than `Cargo.toml`: the path as it was given.
+    BadManifest(Text),
+    /// The command that gives metadata has no answer: its line.
+    Io(Text),
+    /// The command that gives metadata failed: what it wrote for people.
+    CargoMetadata(Text),
+    /// The answer of that command has no document.
+    NoJson,
+    /// The document does not fit: the first place that it misses.
+    Json(Text),
+    /// A path of the document, that of the workspace's root, or one that a build gave does not begin with `/`: its text.
+    NotAbsolute(Text),
+    /// A node of the document, or one of its dependencies, is of no package: the id.
+    UnknownPackage(Text),
+    /// The name of a dependency between two crates holds a dash: the name.
+    BadCrateName(Text),
+    /// The path of a manifest is the root: the path.
+    NoParent(Text),
+    /// A build while no project of cargo is loaded.
+    NoCargoProject,
     /// The next of this kind would pass its limit.
     TooMany(Limit),
 }
@@ -39,12 +64,26 @@ impl fmt::Display for LiveError {
             LiveError::ReadFault => f.write_str("read fault"),
             LiveError::WriteFault => f.write_str("write fault"),
             LiveError::Script(line) => write!(f, "script line {line}"),
-            LiveError::TooMany(limit) => {
-                let kind = kind_text(*limit);
-                write!(f, "too many {kind}")
-            }
+            LiveError::BadManifest(path) => write_both(f, "bad manifest: ", path.as_str()),
+            LiveError::Io(line) => write_both(f, "cannot start: ", line.as_str()),
+            LiveError::CargoMetadata(err) => write_both(f, "cargo metadata failed: ", err.as_str()),
+            LiveError::NoJson => f.write_str("no json in the metadata answer"),
+            LiveError::Json(field) => write_both(f, "bad json at ", field.as_str()),
+            LiveError::NotAbsolute(text) => write_both(f, "not absolute: ", text.as_str()),
+            LiveError::UnknownPackage(id) => write_both(f, "unknown package: ", id.as_str()),
+            LiveError::BadCrateName(name) => write_both(f, "bad crate name: ", name.as_str()),
+            LiveError::NoParent(text) => write_both(f, "no parent: ", text.as_str()),
+            LiveError::NoCargoProject => f.write_str("no cargo project"),
+            LiveError::TooMany(limit) => write_both(f, "too many ", kind_text(*limit)),
         }
     }
+}
+
+// Writes two texts, one behind the other.
+fn write_both<W: fmt::Write>(f: &mut fmt::Formatter<W>, first: &str, second: &str) -> fmt::Result
+    ensures { DisplaysOnOk W.write_str_gives f.old result (Some (first.now ++ second.now)) f.new }
+{
+    write!(f, "{first}{second}")
 }
 
 impl Error for LiveError {}
@@ -60,6 +99,106 @@ impl From<AllocError> for LiveError {
     }
 }
 
+impl<T: Drop> From<AllocFailed<T>> for LiveError {
+    ghost use Rattle.std.specs.Prelude.{◌≡◌};
+    ghost use Rattle.live.specs.declared.fault.LiveError.TheVariants.{OutOfMemory};
+
+    ghost from_gives = { λ _ e. e ≡ OutOfMemory };
+
+    fn from(_error: AllocFailed<T>) -> Self {
+        LiveError::OutOfMemory
+    }
+}
+
+impl From<LoadError> for LiveError {
+    ghost use Rattle.std.specs.Prelude.{◌≡◌};
+    ghost use Rattle.live.specs.Fault.{of_load_error};
+
+    ghost from_gives = { λ error e. e ≡ of_load_error error };
+
+    fn from(error: LoadError) -> Self {
+        match error {
+            LoadError::CargoMetadata { stderr } => LiveError::CargoMetadata(stderr),
+            LoadError::Io { line } => LiveError::Io(line),
+            LoadError::Json { field } => LiveError::Json(field),
+            LoadError::NoJson => LiveError::NoJson,
+            LoadError::NotAbsolute(text) => LiveError::NotAbsolute(text),
+            LoadError::NoParent(text) => LiveError::NoParent(text),
+            LoadError::UnknownPackage(id) => LiveError::UnknownPackage(id),
+            LoadError::TooMany(limit) => LiveError::TooMany(limit),
+            LoadError::OutOfMemory => LiveError::OutOfMemory,
+        }
+    }
+}
+
+impl From<ProjectError> for LiveError {
+    ghost use Rattle.std.specs.Prelude.{◌≡◌};
+    ghost use Rattle.live.specs.Fault.{of_project_error};
+
+    ghost from_gives = { λ error e. e ≡ of_project_error error };
+
+    fn from(error: ProjectError) -> Self {
+        match error {
+            ProjectError::BadManifest(path) => LiveError::BadManifest(path),
+            ProjectError::Refused(error) => LiveError::from(error),
+            ProjectError::OutOfMemory => LiveError::OutOfMemory,
+        }
+    }
+}
+
+impl From<BuildError> for LiveError {
+    ghost use Rattle.std.specs.Prelude.{◌≡◌};
+    ghost use Rattle.live.specs.Fault.{of_build_error};
+
+    ghost from_gives = { λ error e. e ≡ of_build_error error };
+
+    fn from(error: BuildError) -> Self {
+        match error {
+            BuildError::Io(line) => LiveError::Io(line),
+            BuildError::NotAbsolute(text) => LiveError::NotAbsolute(text),
+            BuildError::OutOfMemory => LiveError::OutOfMemory,
+        }
+    }
+}
+
+impl From<LowerError> for LiveError {
+    ghost use Rattle.std.specs.Prelude.{◌≡◌};
+    ghost use Rattle.live.specs.Fault.{of_lower_error};
+
+    ghost from_gives = { λ error e. e ≡ of_lower_error error };
+
+    fn from(error: LowerError) -> Self {
+        match error {
+            LowerError::BadCrateName(name) => LiveError::BadCrateName(name),
+            LowerError::TooMany(limit) => LiveError::TooMany(limit),
+            LowerError::OutOfMemory => LiveError::OutOfMemory,
+        }
+    }
+}
+
+impl TryClone for LiveError {
+    fn try_clone(&self, alloc: Global) -> Result<Self, AllocError> {
+        match self {
+            LiveError::OutOfMemory => Ok(LiveError::OutOfMemory),
+            LiveError::Usage => Ok(LiveError::Usage),
+            LiveError::ReadFault => Ok(LiveError::ReadFault),
+            LiveError::WriteFault => Ok(LiveError::WriteFault),
+            LiveError::Script(line) => Ok(LiveError::Script(*line)),
+            LiveError::BadManifest(path) => Ok(LiveError::BadManifest(path.try_clone(alloc)?)),
+            LiveError::Io(line) => Ok(LiveError::Io(line.try_clone(alloc)?)),
+            LiveError::CargoMetadata(err) => Ok(LiveError::CargoMetadata(err.try_clone(alloc)?)),
+            LiveError::NoJson => Ok(LiveError::NoJson),
+            LiveError::Json(field) => Ok(LiveError::Json(field.try_clone(alloc)?)),
+            LiveError::NotAbsolute(text) => Ok(LiveError::NotAbsolute(text.try_clone(alloc)?)),
+            LiveError::UnknownPackage(id) => Ok(LiveError::UnknownPackage(id.try_clone(alloc)?)),
+            LiveError::BadCrateName(name) => Ok(LiveError::BadCrateName(name.try_clone(alloc)?)),
+            LiveError::NoParent(text) => Ok(LiveError::NoParent(text.try_clone(alloc)?)),
+            LiveError::NoCargoProject => Ok(LiveError::NoCargoProject),
+            LiveError::TooMany(limit) => Ok(LiveError::TooMany(*limit)),
+        }
+    }
+}
+
 impl LiveError {
     /// The exit status of a program that ends with this error.
     pub fn status(&self) -> u8
@@ -71,6 +210,16 @@ impl LiveError {
             LiveError::ReadFault => 3,
             LiveError::WriteFault => 4,
             LiveError::Script(_) => 5,
+            LiveError::BadManifest(_) => 6,
+            LiveError::Io(_) => 8,
+            LiveError::CargoMetadata(_) => 9,
+            LiveError::NoJson => 10,
+            LiveError::Json(_) => 11,
+            LiveError::NotAbsolute(_) => 12,
+            LiveError::UnknownPackage(_) => 13,
+            LiveError::BadCrateName(_) => 14,
+            LiveError::NoParent(_) => 15,
+            LiveError::NoCargoProject => 16,
             LiveError::TooMany(_) => 17,
         }
     }
@@ -83,6 +232,15 @@ pub enum StepError {
     Refused(LiveError),
     /// An earlier flush was refused.
     Ended,
+}
+
+impl TryClone for StepError {
+    fn try_clone(&self, alloc: Global) -> Result<Self, AllocError> {
+        match self {
+            StepError::Refused(error) => Ok(StepError::Refused(error.try_clone(alloc)?)),
+            StepError::Ended => Ok(StepError::Ended),
+        }
+    }
 }
 
 impl fmt::Display for StepError {

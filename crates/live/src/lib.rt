@@ -3,6 +3,8 @@
 
 pub mod cli;
 pub mod fault;
+mod kept_files;
+pub mod last_flush;
 pub mod laws;
 pub mod live_texts;
 mod page;
@@ -12,9 +14,11 @@ pub mod session;
 
 pub use cli::{live_cli, tell};
 pub use fault::{LiveError, StepError, fault_text};
+pub use last_flush::LastFlush;
 pub use live_input::{
     Command, Event, EventError, LineError, Lines, LiveConfig, WordsError, config, event, lines,
 };
+pub use live_project::{LiveAnswers, Project, Sources};
 pub use live_texts::LiveTexts;
 pub use run::live_run;
 pub use session::Live;

@@ -5,10 +5,11 @@ ghost use Rattle.std.specs.Str.{is_utf8};
 ghost use Rattle.vfs_core.specs.Files.{IsFullFor, bytes_of, kind_of};
 ghost use Rattle.vfs_core.specs.Texts.{contents_pass};
 ghost use Rattle.vfs_core.specs.declared.marks.MarkKind.TheVariants.{Out};
-ghost use Rattle.live.specs.LiveTexts.{AddsMark};
+ghost use Rattle.std.specs.Option.{option_copied};
+ghost use Rattle.live.specs.LiveTexts.{AddsMark, text_at};
 
 use crate::rows::Rows;
-use base_text::{SharedText, Text, TryClone};
+use base_text::{FileId, SharedText, Text, TryClone};
 use std::alloc::{AllocError, Global};
 use std::marker::Model;
 use std::rc::Rc;
@@ -43,6 +44,13 @@ impl LiveTexts {
     {
         let rows = Rc::new(alloc, Rows::new(alloc))?;
         Ok(LiveTexts { rows })
+    }
+
+    /// The text of the file of a number, where the file lives.
+    pub fn text(&self, id: FileId) -> Option<&SharedText>
+        ensures { option_copied result ≡ text_at self.now id }
+    {
+        self.rows.text(id)
     }
 
     /// Sets the text of a file, or deletes the file where there is none.

@@ -1,11 +1,11 @@
 //! Writing the page of a flush.
 
-ghost use Rattle.std.specs.Prelude.{◌∷◌, [], OnErr, OnOk};
+ghost use Rattle.std.specs.Prelude.{◌≡◌, ◌∷◌, ◌⊎◌, [], IfErr, OnErr, OnOk};
 ghost use Rattle.std.specs.Io.KnownBytes.{Appends};
 ghost use Rattle.std.specs.Result.{IsErrOf};
 ghost use Rattle.live.specs.Fault.{flush_statuses};
 ghost use Rattle.live.specs.Written.{AppendsFront, AppendsProperFront, HasWriteCause};
-ghost use Rattle.live.specs.declared.fault.LiveError.TheVariants.{WriteFault};
+ghost use Rattle.live.specs.declared.fault.LiveError.TheVariants.{OutOfMemory, WriteFault};
 ghost use Rattle.pages.specs.Page.{page_of};
 
 use crate::fault::LiveError;
@@ -25,6 +25,7 @@ pub(crate) fn write_page<K: ByteSink>(
         (page_of db.now ∷ [])) }
     ensures cut { IsErrOf result WriteFault
         → AppendsProperFront (K.held out.old, K.held out.new) (page_of db.now ∷ []) }
+    ensures only { IfErr result (λ e. (e ≡ OutOfMemory) ⊎ (e ≡ WriteFault)) }
     ensures cause { HasWriteCause result flush_statuses (K.faults out.old, K.faults out.new) }
 {
     let text = page(alloc, db)?;

@@ -3,9 +3,10 @@
 ghost use Rattle.std.specs.Prelude.{◌≡◌, ◌++◌, ◌<◌, ◌∷◌, [], IfOk, IsErrOf, OnErr, OnOk, None, true, vec_len, vec_capacity};
 ghost use Rattle.std.proofs.Common.{set};
 ghost use Rattle.vfs_core.specs.Files.{IsFullFor, bytes_of, is_change_at, number_of};
-ghost use Rattle.live.specs.LiveTexts.{TakesContents, TakesExclusion, with_text};
+ghost use Rattle.std.specs.Option.{option_copied};
+ghost use Rattle.live.specs.LiveTexts.{TakesContents, TakesExclusion, text_at, with_text};
 
-use base_text::{SharedText, TryClone};
+use base_text::{FileId, SharedText, TryClone};
 use std::alloc::{AllocError, Global};
 use std::marker::Model;
 use vfs_core::{Vfs, VfsError, VfsPath};
@@ -46,6 +47,16 @@ impl Rows {
     {
         Rows {
             texts: Vec::new(alloc),
+        }
+    }
+
+    /// The text of the file of a number, where the file lives.
+    pub(crate) fn text(&self, id: FileId) -> Option<&SharedText>
+        ensures { option_copied result ≡ text_at self.now id }
+    {
+        match self.texts.get(id.index() as usize) {
+            None => None,
+            Some(text) => text.as_ref(),
         }
     }
 

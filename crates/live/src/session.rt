@@ -2,21 +2,30 @@
 
 ghost use Rattle.live_input.specs.Config.{Fits};
 
+mod build;
+mod flush;
+mod load;
+
 use crate::fault::{LiveError, StepError};
+use crate::last_flush::LastFlush;
 use crate::live_texts::LiveTexts;
-use crate::page::write_page;
-use base_text::{ByteSink, Counter, Ledger, Limit, Numbers, Steps, Text, TryClone};
+use base_text::{ByteSink, Counter, Ledger, Limit, Numbers, Shared, Steps, Text, TryClone};
 use input_db::{InputDb, Nonce};
 use live_input::{Event, LiveConfig};
+use live_project::{LiveAnswers, Project, SharedConfig};
+use pm_lower::ProjectWorkspace;
 use std::alloc::{AllocError, Global};
 use vfs_core::{Vfs, VfsError, VfsPath};
 
 /// A session: what a script said so far.
 #[derive(Drop)]
 pub struct Live {
-    config: LiveConfig,
+    config: SharedConfig,
     files: Vfs,
     texts: LiveTexts,
+    answers: LiveAnswers,
+    project: Option<Shared<Project>>,
+    flushed: Option<LastFlush>,
     db: InputDb,
     probes: Steps<Counter>,
     ended: bool,
@@ -24,18 +33,18 @@ pub struct Live {
 }
 
 impl Live {
-    ghost use Rattle.std.specs.Prelude.{◌≡◌, ◌↔◌, ◌⊎◌, ◌≤◌, ◌^◌, [], ◌∷◌, IfOk, IfErr, IsErrOf, IsTrue, OnErr, OnOk, Some, Err, is_err};
+    ghost use Rattle.std.specs.Prelude.{◌≡◌, ◌↔◌, ◌⊎◌, ◌≤◌, ◌^◌, [], ◌∷◌, IfOk, IfErr, IsErrOf, IsTrue, None, OnErr, OnOk, Some, Err, is_err};
+    ghost use Rattle.std.specs.Option.{option_copied, option_map};
     ghost use Rattle.input_db.specs.Database.{empty_database};
     ghost use Rattle.vfs_core.specs.Files.{IsFullFor, kind_of};
     ghost use Rattle.vfs_core.specs.declared.marks.MarkKind.TheVariants.{Out};
     ghost use Rattle.live_input.specs.Config.{Fits, config_of};
-    ghost use Rattle.live.specs.Fault.{IsOneOf, flush_statuses, status_of, turn_statuses};
-    ghost use Rattle.live.specs.Marked.{AddsMarkTo, SparesFiles};
-    ghost use Rattle.live.specs.Refresh.{RefreshesLive};
-    ghost use Rattle.live.specs.Session.{State, ended_state, flush_of, flush_turn, state_after_failure, turn};
-    ghost use Rattle.live.specs.Turn.{CountsFlush, EndsTurn, FailsStep, HasEnded, HasStepCause, Holds, LeavesAsWas, ShowsShape, TakesTurn, first_state};
+    ghost use Rattle.live.specs.Fault.{turn_statuses};
+    ghost use Rattle.live.specs.Marked.{AddsMarkTo};
+    ghost use Rattle.live.specs.Session.{State, state_after_failure, turn};
+    ghost use Rattle.live.specs.Turn.{EndsTurn, FailsStep, HasEnded, HasStepCause, Holds, LeavesAsWas, ShowsShape, TakesTurn, first_state};
     ghost use Rattle.live.specs.Written.{HasWriteCause};
-    ghost use Rattle.live_input.specs.declared.event.Event.TheVariants.{Exclude, File, Flush};
+    ghost use Rattle.live_input.specs.declared.event.Event.TheVariants.{Flush};
     ghost use Rattle.live.specs.declared.fault.LiveError.TheVariants.{OutOfMemory, TooMany};
     ghost use Rattle.live.specs.declared.fault.StepError.TheVariants.{Ended};
     ghost use Rattle.outside.specs.declared.limits.Limit.TheVariants.{Paths};
@@ -50,11 +59,15 @@ impl Live {
     {
         let nonce = Nonce::new(&mut Numbers::new()).unwrap_or(Nonce::invalid());
         let texts = LiveTexts::new(alloc)?;
+        let answers = LiveAnswers::new(alloc)?;
         let config = LiveConfig::new(alloc)?;
         Ok(Live {
             files: Vfs::new(alloc, config.limits.paths),
-            config,
+            config: SharedConfig::new(config),
             texts,
+            answers,
+            project: None,
+            flushed: None,
             db: InputDb::new(alloc, nonce),
             probes: Steps {
                 ledger: Counter::new(),
@@ -63,7 +76,7 @@ impl Live {
         })
     }
 
-    /// Changes the configuration alone. Paths that have a number keep it.
+    /// Changes the configuration alone. Paths that have a number keep it, and a project keeps the configuration of its load.
     pub fn configure(&mut self, config: LiveConfig)
         requires { Fits config }
         ensures holds { (s : State) → Holds self.old s
@@ -73,9 +86,11 @@ impl Live {
         ensures files { self.new.files ≡ record self.old.files { limit = config.limits.paths } }
         ensures kept { (self.new.db ≡ self.old.db) × (self.new.texts ≡ self.old.texts)
             × (self.new.probes ≡ self.old.probes) }
+        ensures projects { (self.new.answers ≡ self.old.answers)
+            × (self.new.project ≡ self.old.project) × (self.new.flushed ≡ self.old.flushed) }
     {
         self.files.set_limit(config.limits.paths);
-        self.config = config;
+        self.config = SharedConfig::new(config);
     }
 
     /// The configuration. A changed one can be given to `configure`.
@@ -83,7 +98,7 @@ impl Live {
         ensures config { result.now ≡ self.now.config }
         ensures fits { Fits result.now }
     {
-        &self.config
+        self.config.get()
     }
 
     /// Whether an earlier flush was refused. No event is taken any more then.
@@ -105,6 +120,30 @@ impl Live {
         ensures { result.now ≡ self.now.texts }
     {
         &self.texts
+    }
+
+    /// The answers that were recorded.
+    pub fn answers(&self) -> &LiveAnswers
+        ensures { result.now ≡ self.now.answers }
+    {
+        &self.answers
+    }
+
+    /// The project that was loaded last, as its load read it, with what its last build gave.
+    pub fn project(&self) -> Option<&ProjectWorkspace>
+        ensures { option_copied result ≡ option_map (λ p. p.workspace) self.now.project }
+    {
+        match &self.project {
+            None => None,
+            Some(project) => Some(project.get().workspace()),
+        }
+    }
+
+    /// What the last flush brought into the database, if there was one.
+    pub fn flushed(&self) -> Option<&LastFlush>
+        ensures { option_copied result ≡ self.now.flushed }
+    {
+        self.flushed.as_ref()
     }
 
     /// The database that the last flush made.
@@ -182,6 +221,9 @@ impl Live {
         match event {
             Event::File { path, text } => self.put_file(alloc, path, text),
             Event::Exclude { path } => self.exclude(path),
+            Event::Answer { line, output } => self.record_answer(line, output),
+            Event::Load { path } => self.load(alloc, path),
+            Event::Build { output } => self.build(alloc, &output),
             Event::Flush => self.flush(alloc, out),
         }
     }
@@ -221,49 +263,5 @@ impl Live {
             Err(VfsError::TooMany) => Err(LiveError::TooMany(Limit::Paths)),
             Err(VfsError::OutOfMemory) => Err(LiveError::OutOfMemory),
         }
-    }
-
-    // Brings the files into the database and writes a page. A flush that is refused, or whose page
-    // does not reach the sink whole, ends the session.
-    fn flush<K: ByteSink>(&mut self, alloc: Global, out: &mut K) -> Result<(), LiveError>
-        requires { ¬ HasEnded self.old }
-        ensures ok { OnOk result ((s : State) → Holds self.old s
-            → TakesTurn (flush_turn s) self.new (K.held out.old, K.held out.new)) }
-        ensures image { OnOk result ((s : State) → Holds self.old s → ShowsShape self.new s) }
-        ensures err { IfErr result (λ e. (s : State) → Holds self.old s
-            → EndsTurn (flush_turn s) (ended_state s) e self.new (K.held out.old, K.held out.new)) }
-        ensures cause { HasWriteCause result flush_statuses (K.faults out.old, K.faults out.new) }
-        ensures rest { LeavesAsWas Flush (is_err result) self.old self.new }
-    {
-        match self.refresh(alloc) {
-            Ok(()) => {}
-            Err(error) => {
-                self.ended = true;
-                return Err(LiveError::from(error));
-            }
-        }
-        match write_page(alloc, &self.db, out) {
-            Ok(()) => Ok(()),
-            Err(error) => {
-                self.ended = true;
-                Err(error)
-            }
-        }
-    }
-
-    // Brings the files that exist, and what has changed of them, into the database. No root places them, and there are no crates.
-    fn refresh(&mut self, alloc: Global) -> Result<(), AllocError>
-        ensures ok { OnOk result (RefreshesLive self.old self.new) }
-        ensures err { OnErr result (SparesFiles self.old self.new) }
-        ensures probes { CountsFlush self.old self.new }
-    {
-        live_flush::refresh(
-            alloc,
-            &mut self.files,
-            &mut self.db,
-            &[],
-            None,
-            &mut self.probes,
-        )
     }
 }

@@ -1,5 +1,7 @@
 use Rattle.std.proofs.Common.{ap}
 use Rattle.live.specs.Session.{turn, state_after_failure}
+use Rattle.live.proofs.Builds.{build_cause, build_leaves, fails_build, takes_build}
+use Rattle.live.proofs.Loads.{answer_leaves, fails_answer, fails_load, load_cause, load_leaves, memory_cause, takes_answer, takes_load}
 use Rattle.live.proofs.Turns.{cause_event, fails_event, fails_mark, marks_cause, marks_leave, marks_no_flush, takes_event, takes_mark}
 use Rattle.live.proofs.session.Live.turn.Goals as goal
 
@@ -47,3 +49,48 @@ returns-in-Flush-clause-err g c = fails_event _ _ _ _ _ _ c.in-Flush.is c.flush.
 
 pub returns-in-Flush-clause-cause : goal.returns-in-Flush-clause-cause
 returns-in-Flush-clause-cause g c = cause_event _ _ _ c.flush.ensures.cause
+
+pub returns-in-Answer-clause-ok : goal.returns-in-Answer-clause-ok
+returns-in-Answer-clause-ok g c = takes_answer _ _ _ _ _ _ _ c.in-Answer.is c.record_answer.ensures.ok
+
+pub returns-in-Answer-clause-err : goal.returns-in-Answer-clause-err
+returns-in-Answer-clause-err g c = fails_answer _ _ _ _ _ _ _ c.in-Answer.is c.record_answer.ensures.only c.record_answer.ensures.err
+
+pub returns-in-Answer-clause-cause : goal.returns-in-Answer-clause-cause
+returns-in-Answer-clause-cause g c = memory_cause _ _ c.record_answer.ensures.only
+
+pub returns-in-Answer-clause-image : goal.returns-in-Answer-clause-image
+returns-in-Answer-clause-image g c = marks_no_flush _ _ _ (λ e. let is = c.in-Answer.is in absurd (cc))
+
+pub returns-in-Answer-clause-rest : goal.returns-in-Answer-clause-rest
+returns-in-Answer-clause-rest g c = answer_leaves _ _ c.in-Answer.line c.in-Answer.output _ _ (λ e. let is = c.in-Answer.is in absurd (cc)) c.record_answer.ensures.ok c.record_answer.ensures.err
+
+pub returns-in-Load-clause-ok : goal.returns-in-Load-clause-ok
+returns-in-Load-clause-ok g c = takes_load _ _ _ _ _ _ c.in-Load.is c.load.ensures.ok
+
+pub returns-in-Load-clause-err : goal.returns-in-Load-clause-err
+returns-in-Load-clause-err g c = fails_load _ _ _ _ _ _ c.in-Load.is c.load.ensures.refused c.load.ensures.err
+
+pub returns-in-Load-clause-cause : goal.returns-in-Load-clause-cause
+returns-in-Load-clause-cause g c = load_cause _ _ _ _ c.load.ensures.refused
+
+pub returns-in-Load-clause-image : goal.returns-in-Load-clause-image
+returns-in-Load-clause-image g c = marks_no_flush _ _ _ (λ e. let is = c.in-Load.is in absurd (cc))
+
+pub returns-in-Load-clause-rest : goal.returns-in-Load-clause-rest
+returns-in-Load-clause-rest g c = load_leaves _ _ _ _ _ (λ e. let is = c.in-Load.is in absurd (cc)) c.load.ensures.ok c.load.ensures.err
+
+pub returns-in-Build-clause-ok : goal.returns-in-Build-clause-ok
+returns-in-Build-clause-ok g c = takes_build _ _ _ _ _ _ c.in-Build.is c.build.ensures.ok
+
+pub returns-in-Build-clause-err : goal.returns-in-Build-clause-err
+returns-in-Build-clause-err g c = fails_build _ _ _ _ _ _ c.in-Build.is c.build.ensures.refused c.build.ensures.err
+
+pub returns-in-Build-clause-cause : goal.returns-in-Build-clause-cause
+returns-in-Build-clause-cause g c = build_cause _ _ _ _ c.build.ensures.refused
+
+pub returns-in-Build-clause-image : goal.returns-in-Build-clause-image
+returns-in-Build-clause-image g c = marks_no_flush _ _ _ (λ e. let is = c.in-Build.is in absurd (cc))
+
+pub returns-in-Build-clause-rest : goal.returns-in-Build-clause-rest
+returns-in-Build-clause-rest g c = build_leaves _ _ _ _ _ (λ e. let is = c.in-Build.is in absurd (cc)) c.build.ensures.ok c.build.ensures.err

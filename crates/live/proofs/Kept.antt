@@ -1,0 +1,91 @@
+-- What a session keeps of its files: the tree of a load, and the files of the last flush.
+use Rattle.std.proofs.Common.{◌≡◌, ℕ, suc, ◌+◌, Bool, true, false, List, [], ◌∷◌, ◌++◌, Option, Some, None, map, slice_get, refl, sym, ap, subst, ◌∙◌, arith, length-append, if◌then◌else◌}
+use Rattle.std.specs.List.{enumerate_from, filter_map, fold, list_any}
+use Rattle.std.specs.Option.{option_and_then, option_map}
+use Rattle.std.proofs.lemmas.List.{append-nil}
+use Rattle.std.proofs.lemmas.List.Sums.{fold-append}
+use Rattle.std.proofs.lemmas.Option.{slice_get-map}
+use Rattle.trees.specs.Tree as tree
+use Rattle.vfs_core.specs.declared.marks.Mark.{Mark}
+use Rattle.vfs_core.specs.Files.{Files, Follows, existing_files, paths_of}
+use Rattle.vfs_core.specs.Marks.{live_files, live_text, mentioned_paths}
+use Rattle.vfs_core.specs.VfsPath.{PathContent, vfs_path_eq}
+use Rattle.live_project.specs.Sources.{kept_files, with_kept_file}
+use Rattle.live.specs.declared.last_flush.LastFlush.{LastFlush}
+use Rattle.live.specs.LiveTexts.{KeepsTexts, kept_by, text_at, with_row}
+use Rattle.live.specs.Page.{Flush}
+use Rattle.live.specs.Turn.{KeepsFlush}
+use Rattle.live.proofs.Existing.{existing_numbered, file_by, live_of, numbered}
+use Rattle.live.proofs.TextRows.{kept_more}
+
+-- ---- the tree of a load
+
+-- one more file, by its row
+abbrev put_row : List (Option (List ℕ)) → tree.Files → ℕ × PathContent → tree.Files
+put_row rows kept file = with_row kept file.1 (text_at rows file.0)
+
+-- files put in by their rows are those with a text: the same by whether the first has one
+rows-split : (text_of : PathContent → Option (List ℕ)) (rows : List (Option (List ℕ))) (number : ℕ) (place : PathContent) (places : List PathContent) (kept : tree.Files) (text : Option (List ℕ))
+    → text_of place ≡ text → slice_get rows number ≡ Some text
+    → ((before : tree.Files) → fold (put_row rows) before (map numbered (filter_map (file_by text_of) (enumerate_from (number + 1) places))) ≡ fold with_kept_file before (live_of text_of places))
+    → fold (put_row rows) kept (map numbered (filter_map (file_by text_of) (enumerate_from number (place ∷ places)))) ≡ fold with_kept_file kept (live_of text_of (place ∷ places))
+rows-split text_of rows number place places kept None is row more = rw is (more kept)
+rows-split text_of rows number place places kept (Some text) is row more =
+    rw is (ap (λ (found : Option (Option (List ℕ))). fold (put_row rows) (with_row kept place (option_and_then (λ t. t) found))
+    (map numbered (filter_map (file_by text_of) (enumerate_from (number + 1) places)))) row
+    ∙ more (with_kept_file kept (place, text)))
+
+rows-kept : (text_of : PathContent → Option (List ℕ)) (rows : List (Option (List ℕ))) (number : ℕ) (places : List PathContent) (kept : tree.Files)
+    → ((k : ℕ) (place : PathContent) → slice_get places k ≡ Some place → slice_get rows (number + k) ≡ Some (text_of place))
+    → fold (put_row rows) kept (map numbered (filter_map (file_by text_of) (enumerate_from number places))) ≡ fold with_kept_file kept (live_of text_of places)
+rows-kept text_of rows number [] kept same = refl
+rows-kept text_of rows number (place ∷ places) kept same =
+    rows-split text_of rows number place places kept (text_of place) refl
+    (ap (slice_get rows) (let n : number ≡ number + 0 = omega arith in n) ∙ same 0 place refl)
+    (λ before. rows-kept text_of rows (number + 1) places before
+    (λ k p at. ap (slice_get rows) (let n : number + 1 + k ≡ number + suc k = omega arith in n) ∙ same (suc k) p at))
+
+-- the tree that a load keeps is that of the live files
+pub kept_tree : (files : Files) (rows : List (Option (List ℕ))) (marks : List Mark) → KeepsTexts files rows marks → kept_by rows (existing_files files) ≡ kept_files (live_files marks)
+unfolding kept_by kept_files
+kept_tree files rows marks keeps =
+    ap (fold (put_row rows) []) (existing_numbered files marks keeps.follows)
+    ∙ rows-kept (live_text marks) rows 0 (mentioned_paths marks) []
+    (λ k place at. ap (slice_get rows) (let n : 0 + k ≡ k = omega arith in n) ∙ ap (λ r. slice_get r k) keeps.texts
+    ∙ slice_get-map (live_text marks) (mentioned_paths marks) k ∙ ap (option_map (live_text marks)) at)
+
+-- one more file
+pub kept_by-more : (rows : List (Option (List ℕ))) (files : List (ℕ × PathContent)) (file : ℕ × PathContent) → kept_by rows (files ++ file ∷ []) ≡ with_row (kept_by rows files) file.1 (text_at rows file.0)
+unfolding kept_by
+kept_by-more rows files file = fold-append (put_row rows) [] files (file ∷ [])
+
+-- ---- the last flush
+
+-- the paths of the marks with one more are those before, and maybe that of the mark
+rest-split : (path : PathContent) (places : List PathContent) (is_known : Bool) → (more : List PathContent) × ((if is_known then places else places ++ path ∷ []) ≡ places ++ more)
+rest-split path places true = ([], sym (append-nil places))
+rest-split path places false = (path ∷ [], refl)
+
+paths-more : (old new : Files) (mark : Mark) (marks : List Mark) → Follows old marks → Follows new (mark ∷ marks) → (more : List PathContent) × (paths_of new ≡ paths_of old ++ more)
+paths-more old new mark marks before after =
+    let rest = rest-split mark.path (mentioned_paths marks) (list_any (vfs_path_eq mark.path) (mentioned_paths marks)) in
+    (rest.0, after.numbers ∙ rest.1 ∙ ap (λ places. places ++ rest.0) (sym before.numbers))
+
+-- more paths leave what is kept of the last flush
+flush-more : (paths more : List PathContent) (last : Option LastFlush) (flushed : Option Flush) → KeepsFlush paths last flushed → KeepsFlush (paths ++ more) last flushed
+flush-more paths more None None keeps = tt
+flush-more paths more None (Some flush) keeps = keeps
+flush-more paths more (Some last) None keeps = keeps
+flush-more paths more (Some last) (Some flush) keeps =
+    let long = length-append paths more in record {
+      within = omega (arith, keeps.within, long);
+      files = kept_more 0 paths more last.texts keeps.within ∙ keeps.files;
+      project = keeps.project;
+    }
+
+-- and so does a mark
+pub flush_mark : (old new : Files) (mark : Mark) (marks : List Mark) (last : Option LastFlush) (flushed : Option Flush) → Follows old marks → Follows new (mark ∷ marks)
+    → KeepsFlush (paths_of old) last flushed → KeepsFlush (paths_of new) last flushed
+flush_mark old new mark marks last flushed before after keeps =
+    let more = paths-more old new mark marks before after in
+    subst (λ paths. KeepsFlush paths last flushed) (sym more.1) (flush-more (paths_of old) more.0 last flushed keeps)

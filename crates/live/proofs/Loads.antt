@@ -1,0 +1,304 @@
+-- One event that is no mark and no flush: an answer that is recorded, or a load.
+use Rattle.std.proofs.Common.{◌≡◌, ℕ, List, [], Option, Some, Result, Ok, Err, inl, inr, refl, sym, ap, subst, ◌∙◌, arith}
+use Rattle.std.specs.Prelude.{IfErr, OnErr, OnOk, is_err}
+use Rattle.outside.specs.Command.{question_of}
+use Rattle.outside.specs.Runner.{with_answer}
+use Rattle.outside.specs.Sink.{Appends-nil}
+use Rattle.outside.specs.declared.command.CommandLine.{CommandLine}
+use Rattle.outside.specs.declared.command.Output.{Output}
+use Rattle.outside.specs.declared.limits.Limit.TheVariants.{Bytes, Paths, Packages, Targets, Crates}
+use Rattle.pm_lower.specs.declared.load_error.LoadError.{LoadError}
+use Rattle.pm_lower.specs.declared.load_error.LoadError.TheVariants as load
+use Rattle.pm_lower.specs.declared.project_workspace.ProjectWorkspace.{ProjectWorkspace}
+use Rattle.live_project.specs.Project.{NamesLoadLimit, ProjectContent, Refuses, read_sources}
+use Rattle.live_project.specs.declared.project_error.ProjectError.{ProjectError}
+use Rattle.live_project.specs.declared.project_error.ProjectError.TheVariants as project
+use Rattle.live_project.specs.declared.sources.Sources.{Sources}
+use Rattle.live_input.specs.declared.event.Event.{Event}
+use Rattle.live_input.specs.declared.event.Event.TheVariants.{Answer, Flush, Load}
+use Rattle.live.specs.declared.fault.LiveError.{LiveError}
+use Rattle.live.specs.declared.fault.LiveError.TheVariants.{OutOfMemory, TooMany, WriteFault}
+use Rattle.live.specs.declared.session.Live.{Live}
+use Rattle.live.specs.Fault.{IsOneOf, IsRefusal, of_load_error, of_project_error, status_of, turn_statuses}
+use Rattle.live.specs.Marked.{AddsAnswer, FailsLoad, IsLoadRefusal, LoadsProject, TakesProject, sources_kept}
+use Rattle.live.specs.Session.{State, load_turn, loaded, sources_of, state_after_failure, turn}
+use Rattle.live.specs.Turn.{EndsTurn, Holds, LeavesAsWas, TakesTurn}
+use Rattle.live.specs.Written.{HasWriteCause}
+use Rattle.live.proofs.Kept.{kept_tree}
+use Rattle.live.proofs.Outcomes.{AppendsFront-nil}
+use Rattle.live.proofs.Turns.{crates_same}
+
+-- ---- states that are held
+
+module _ (live live' : Live) (s : State) (h : Holds live s) where
+  -- one more answer is held
+  pub Holds-answer : (line : CommandLine) (output : Output) → AddsAnswer live live' line output
+      → Holds live' (record s { answers = with_answer (question_of line) output s.answers })
+  Holds-answer line output after = record {
+    config = ap (λ l. l.config) after ∙ h.config;
+    limit = ap (λ l. l.files.limit) after ∙ h.limit;
+    texts = rw after h.texts;
+    answers = ap (λ l. l.answers) after ∙ ap (with_answer (question_of line) output) h.answers;
+    project = ap (λ l. l.project) after ∙ h.project;
+    flushed = rw after h.flushed;
+    ended = ap (λ l. l.ended) after ∙ h.ended;
+    database = λ going. let current = h.database going in rw after (record {
+      brings = current.brings;
+      valid = current.valid;
+      shown = current.shown;
+      crates = current.crates;
+    });
+  }
+
+  -- what a load of the session keeps is what one of the state keeps
+  pub same_sources : (path : List ℕ) → sources_kept live path ≡ sources_of s path
+  same_sources path = λ i. record {
+    config = h.config i;
+    answers = h.answers i;
+    files = kept_tree live.files live.texts s.marks h.texts i;
+    path = path;
+  }
+
+  -- a project that was loaded or built is held; the database lists crates as before, which is no matter once there is a project
+  pub Holds-project : (project : ProjectContent) → TakesProject live live' project → Holds live' (record s { project = Some project })
+  Holds-project project after = record {
+    config = after.config ∙ h.config;
+    limit = ap (λ f. f.limit) after.files ∙ h.limit;
+    texts = rw (after.files, after.texts) h.texts;
+    answers = after.answers ∙ h.answers;
+    project = after.project_is;
+    flushed = rw (after.files, after.flushed) h.flushed;
+    ended = after.ended ∙ h.ended;
+    database = λ going. let current = h.database going in record {
+      brings = rw (after.files, after.db) current.brings;
+      valid = rw after.files current.valid;
+      shown = rw after.db current.shown;
+      crates = λ none. absurd (let some = sym after.project_is ∙ none in cc);
+    };
+  }
+
+-- ---- turns
+
+-- what was read is the turn of the load
+load-read : (s : State) (path : List ℕ) (workspace : ProjectWorkspace) → read_sources (sources_of s path) ≡ Ok workspace
+    → load_turn s path ≡ loaded s (sources_of s path) (Ok workspace)
+load-read s path workspace read = ap (loaded s (sources_of s path)) read
+
+load-refused : (s : State) (path : List ℕ) (refusal : ProjectError) → read_sources (sources_of s path) ≡ Err refusal
+    → load_turn s path ≡ loaded s (sources_of s path) (Err refusal)
+load-refused s path refusal read = ap (loaded s (sources_of s path)) read
+
+-- an answer that is recorded
+pub takes_answer : (live live' : Live) (line : CommandLine) (output : Output) (result : Result (Unit {0}) LiveError) (held : Option (List ℕ)) (event : Event) → event ≡ Answer line output
+    → OnOk result (AddsAnswer live live' line output) → OnOk result ((s : State) → Holds live s → TakesTurn (turn s event) live' (held, held))
+unfolding turn
+takes_answer live live' line output (Ok done) held event is adds = λ s h.
+    subst (λ e. TakesTurn (turn s e) live' (held, held)) (sym is)
+    (record { accepted = refl; holds = Holds-answer live live' s h line output adds; appended = Appends-nil held })
+takes_answer live live' line output (Err error) held event is adds = tt
+
+-- out of memory nothing is said of the turn
+pub memory_ends : (live live' : Live) (s left : State) (error : LiveError) (held : Option (List ℕ)) (event : Event) → error ≡ OutOfMemory → Holds live' left
+    → EndsTurn (turn s event) left error live' (held, held)
+memory_ends live live' s left error held event memory holds = record {
+  fails = record {
+    written = AppendsFront-nil held (turn s event).pages;
+    cut = λ e. absurd (cc);
+    refused = λ refusal. absurd (let r : IsRefusal OutOfMemory = subst IsRefusal memory refusal in omega (arith, r));
+  };
+  holds = holds;
+}
+
+pub fails_answer : (live live' : Live) (line : CommandLine) (output : Output) (result : Result (Unit {0}) LiveError) (held : Option (List ℕ)) (event : Event) → event ≡ Answer line output
+    → IfErr result (λ e. e ≡ OutOfMemory) → OnErr result (live' ≡ live)
+    → IfErr result (λ e. (s : State) → Holds live s → EndsTurn (turn s event) (state_after_failure s event) e live' (held, held))
+fails_answer live live' line output (Ok done) held event is only same = tt
+fails_answer live live' line output (Err error) held event is only same = λ s h.
+    memory_ends live live' s (state_after_failure s event) error held event only
+    (subst (λ e. Holds live' (state_after_failure s e)) (sym is) (subst (λ l. Holds l s) (sym same) h))
+
+-- a project that is loaded
+pub takes_load : (live live' : Live) (path : List ℕ) (result : Result (Unit {0}) LiveError) (held : Option (List ℕ)) (event : Event) → event ≡ Load path
+    → OnOk result (LoadsProject live live' path) → OnOk result ((s : State) → Holds live s → TakesTurn (turn s event) live' (held, held))
+unfolding turn
+takes_load live live' path (Ok done) held event is loads = λ s h.
+    let same = same_sources live live' s h path in
+    let read : read_sources (sources_of s path) ≡ Ok loads.workspace = ap read_sources (sym same) ∙ loads.read in
+    let after : TakesProject live live' (record { sources = sources_of s path; workspace = loads.workspace }) =
+    subst (λ sources. TakesProject live live' (record { sources = sources; workspace = loads.workspace })) same loads.after in
+    subst (λ e. TakesTurn (turn s e) live' (held, held)) (sym is)
+    (subst (λ t. TakesTurn t live' (held, held)) (sym (load-read s path loads.workspace read))
+    (record { accepted = refl; holds = Holds-project live live' s h (record { sources = sources_of s path; workspace = loads.workspace }) after; appended = Appends-nil held }))
+takes_load live live' path (Err error) held event is loads = tt
+
+-- one that is refused
+refused_ends : (live live' : Live) (path : List ℕ) (s : State) (error : LiveError) (held : Option (List ℕ)) → Holds live s → live' ≡ live → IsLoadRefusal live path error
+    → EndsTurn (load_turn s path) s error live' (held, held)
+refused_ends live live' path s error held h same r =
+    let read : read_sources (sources_of s path) ≡ Err r.refusal = ap read_sources (sym (same_sources live live' s h path)) ∙ r.read in
+    let holds : Holds live' s = subst (λ l. Holds l s) (sym same) h in
+    subst (λ t. EndsTurn t s error live' (held, held)) (sym (load-refused s path r.refusal read)) (record {
+      fails = record {
+        written = AppendsFront-nil held [];
+        cut = λ e. absurd (no-fault r.refusal (sym r.told ∙ e));
+        refused = λ refusal. record { refused = ap Some (sym r.told); holds = holds; appended = Appends-nil held };
+      };
+      holds = holds;
+    })
+  where
+    no-load_fault : (error : LoadError) → of_load_error error ≡ WriteFault → ⊥
+    no-load_fault (load.CargoMetadata stderr) e = cc
+    no-load_fault (load.Io line) e = cc
+    no-load_fault (load.Json field) e = cc
+    no-load_fault load.NoJson e = cc
+    no-load_fault (load.NotAbsolute text) e = cc
+    no-load_fault (load.NoParent text) e = cc
+    no-load_fault (load.UnknownPackage id) e = cc
+    no-load_fault (load.TooMany limit) e = cc
+    no-load_fault load.OutOfMemory e = cc
+
+    no-fault : (refusal : ProjectError) → of_project_error refusal ≡ WriteFault → ⊥
+    no-fault (project.BadManifest path) e = cc
+    no-fault (project.Refused error) e = no-load_fault error e
+    no-fault project.OutOfMemory e = cc
+
+pub fails_load : (live live' : Live) (path : List ℕ) (result : Result (Unit {0}) LiveError) (held : Option (List ℕ)) (event : Event) → event ≡ Load path
+    → IfErr result (FailsLoad live path) → OnErr result (live' ≡ live)
+    → IfErr result (λ e. (s : State) → Holds live s → EndsTurn (turn s event) (state_after_failure s event) e live' (held, held))
+unfolding turn
+fails_load live live' path (Ok done) held event is fails same = tt
+fails_load live live' path (Err error) held event is (inl memory) same = λ s h.
+    memory_ends live live' s (state_after_failure s event) error held event memory
+    (subst (λ e. Holds live' (state_after_failure s e)) (sym is) (subst (λ l. Holds l s) (sym same) h))
+fails_load live live' path (Err error) held event is (inr refused) same = λ s h.
+    subst (λ e. EndsTurn (turn s e) (state_after_failure s e) error live' (held, held)) (sym is) (refused_ends live live' path s error held h same refused)
+
+-- ---- causes
+
+refusal-status : (error : LoadError) → IsOneOf turn_statuses (status_of (of_load_error error))
+refusal-status (load.CargoMetadata stderr) = refl
+refusal-status (load.Io line) = refl
+refusal-status (load.Json field) = refl
+refusal-status load.NoJson = refl
+refusal-status (load.NotAbsolute text) = refl
+refusal-status (load.NoParent text) = refl
+refusal-status (load.UnknownPackage id) = refl
+refusal-status (load.TooMany limit) = refl
+refusal-status load.OutOfMemory = refl
+
+project-status : (refusal : ProjectError) → IsOneOf turn_statuses (status_of (of_project_error refusal))
+project-status (project.BadManifest path) = refl
+project-status (project.Refused error) = refusal-status error
+project-status project.OutOfMemory = refl
+
+-- the limit of bytes is none of a load's
+load-limit : (error : LoadError) → NamesLoadLimit (project.Refused error) → of_load_error error ≡ TooMany Bytes → ⊥
+load-limit (load.CargoMetadata stderr) names e = cc
+load-limit (load.Io line) names e = cc
+load-limit (load.Json field) names e = cc
+load-limit load.NoJson names e = cc
+load-limit (load.NotAbsolute text) names e = cc
+load-limit (load.NoParent text) names e = cc
+load-limit (load.UnknownPackage id) names e = cc
+load-limit (load.TooMany Bytes) names e = names
+load-limit (load.TooMany Paths) names e = cc
+load-limit (load.TooMany Packages) names e = cc
+load-limit (load.TooMany Targets) names e = cc
+load-limit (load.TooMany Crates) names e = cc
+load-limit load.OutOfMemory names e = cc
+
+project-limit : (refusal : ProjectError) → NamesLoadLimit refusal → of_project_error refusal ≡ TooMany Bytes → ⊥
+project-limit (project.BadManifest path) names e = cc
+project-limit (project.Refused error) names e = load-limit error names e
+project-limit project.OutOfMemory names e = cc
+
+no-write : (refusal : ProjectError) → IsOneOf turn_statuses (status_of (of_project_error refusal)) → of_project_error refusal ≡ WriteFault → ⊥
+no-write (project.BadManifest path) only e = cc
+no-write (project.Refused (load.CargoMetadata stderr)) only e = cc
+no-write (project.Refused (load.Io line)) only e = cc
+no-write (project.Refused (load.Json field)) only e = cc
+no-write (project.Refused load.NoJson) only e = cc
+no-write (project.Refused (load.NotAbsolute text)) only e = cc
+no-write (project.Refused (load.NoParent text)) only e = cc
+no-write (project.Refused (load.UnknownPackage id)) only e = cc
+no-write (project.Refused (load.TooMany limit)) only e = cc
+no-write (project.Refused load.OutOfMemory) only e = cc
+no-write project.OutOfMemory only e = cc
+
+pub memory_cause : (result : Result (Unit {0}) LiveError) (count : ℕ) → IfErr result (λ e. e ≡ OutOfMemory) → HasWriteCause result turn_statuses (count, count)
+memory_cause (Ok done) count only = record { later = omega arith; only = tt; write = λ e. absurd (cc); limits = λ e. cc }
+memory_cause (Err error) count only = record {
+  later = omega arith;
+  only = subst (λ e. IsOneOf turn_statuses (status_of e)) (sym only) refl;
+  write = λ e. absurd (cc);
+  limits = λ e. cc;
+}
+
+pub load_cause : (live : Live) (path : List ℕ) (result : Result (Unit {0}) LiveError) (count : ℕ) → IfErr result (FailsLoad live path) → HasWriteCause result turn_statuses (count, count)
+load_cause live path (Ok done) count fails = memory_cause (Ok done) count tt
+load_cause live path (Err error) count (inl memory) = memory_cause (Err error) count memory
+load_cause live path (Err error) count (inr refused) = record {
+  later = omega arith;
+  only = subst (λ e. IsOneOf turn_statuses (status_of e)) (sym refused.told) (project-status refused.refusal);
+  write = λ e. absurd (let is : error ≡ WriteFault = cc in no-write refused.refusal (project-status refused.refusal) (sym refused.told ∙ is));
+  limits = λ e. let is : error ≡ TooMany Bytes = cc in project-limit refused.refusal refused.limits (sym refused.told ∙ is);
+}
+
+-- ---- what stays
+
+-- what leaves all but the answers and the project as it was
+pub others_leave : (live live' : Live) (result : Result (Unit {0}) LiveError) (event : Event) → (event ≡ Flush → ⊥)
+    → OnOk result (live'.config ≡ live.config) → OnOk result (live'.db ≡ live.db) → OnOk result (live'.probes ≡ live.probes) → OnOk result (live'.ended ≡ live.ended)
+    → OnErr result (live' ≡ live) → LeavesAsWas event (is_err result) live live'
+others_leave live live' (Ok done) event other config db probes ended same = record {
+  config = config;
+  database = λ _. db;
+  all = λ e. absurd (cc);
+  crates = λ _ none. crates_same live.db live'.db db;
+  probes = λ _. probes;
+  counts = λ e. absurd (other e);
+  placed = λ _ e. absurd (other e);
+  going = λ _. ended;
+  ends = λ e. absurd (cc);
+}
+others_leave live live' (Err error) event other config db probes ended same = record {
+  config = ap (λ l. l.config) same;
+  database = λ _. ap (λ l. l.db) same;
+  all = λ _ _. same;
+  crates = λ e none. absurd (cc);
+  probes = λ _. ap (λ l. l.probes) same;
+  counts = λ e. absurd (other e);
+  placed = λ e _. absurd (cc);
+  going = λ e. absurd (cc);
+  ends = λ _ e. absurd (other e);
+}
+
+pub answer_leaves : (live live' : Live) (line : CommandLine) (output : Output) (result : Result (Unit {0}) LiveError) (event : Event) → (event ≡ Flush → ⊥)
+    → OnOk result (AddsAnswer live live' line output) → OnErr result (live' ≡ live) → LeavesAsWas event (is_err result) live live'
+answer_leaves live live' line output (Ok done) event other after same =
+    others_leave live live' (Ok done) event other (ap (λ l. l.config) after) (ap (λ l. l.db) after) (ap (λ l. l.probes) after) (ap (λ l. l.ended) after) same
+answer_leaves live live' line output (Err error) event other after same = others_leave live live' (Err error) event other tt tt tt tt same
+
+pub load_leaves : (live live' : Live) (path : List ℕ) (result : Result (Unit {0}) LiveError) (event : Event) → (event ≡ Flush → ⊥)
+    → OnOk result (LoadsProject live live' path) → OnErr result (live' ≡ live) → LeavesAsWas event (is_err result) live live'
+load_leaves live live' path (Ok done) event other loads same =
+    others_leave live live' (Ok done) event other loads.after.config loads.after.db loads.after.probes loads.after.ended same
+load_leaves live live' path (Err error) event other loads same = others_leave live live' (Err error) event other tt tt tt tt same
+
+-- what a call of a load gives, of a session
+pub refuses_load : (live : Live) (path : List ℕ) (refusal : ProjectError) (sources : Sources) → sources ≡ sources_kept live path
+    → Refuses refusal (read_sources sources) → NamesLoadLimit refusal → FailsLoad live path (of_project_error refusal)
+refuses_load live path (project.BadManifest text) sources same h names =
+    inr (record { refusal = project.BadManifest text; read = ap read_sources (sym same) ∙ h; told = refl; limits = names })
+refuses_load live path (project.Refused error) sources same h names =
+    inr (record { refusal = project.Refused error; read = ap read_sources (sym same) ∙ h; told = refl; limits = names })
+refuses_load live path project.OutOfMemory sources same h names = inl refl
+
+pub loads_live : (live mid live' : Live) (path : List ℕ) (sources : Sources) (content : ProjectContent) → sources ≡ sources_kept live path
+    → content.sources ≡ sources → read_sources sources ≡ Ok content.workspace → mid ≡ live → TakesProject mid live' content → LoadsProject live live' path
+loads_live live mid live' path sources content same kept read before after = record {
+  workspace = content.workspace;
+  read = ap read_sources (sym same) ∙ read;
+  after = subst (λ l. TakesProject l live' (record { sources = sources_kept live path; workspace = content.workspace })) before
+      (subst (λ of. TakesProject mid live' (record { sources = of; workspace = content.workspace })) (kept ∙ same) after);
+}
