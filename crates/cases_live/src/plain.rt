@@ -2,18 +2,18 @@
 
 use crate::runs::joined;
 use crate::values::{pages_of, script_of, words_of};
-use base_text::Limit;
+use base_text::{Limit, Text};
 use cases::{Case, Fault, List, Object};
 use live::{LiveConfig, LiveError, fault_text};
 use live_plain::{PlainOutcome, PlainState, plain_session};
 use serde_json::Value;
-use std::alloc::Global;
+use std::alloc::{AllocError, Global};
 
 /// What a call of the plain account gives.
 pub fn answer(alloc: Global, case: Case<'_>) -> Result<Value, Fault> {
     match case.text("call")? {
         "plain_session" => session(alloc, case),
-        "LiveError" => match error_of(case.text("error")?) {
+        "LiveError" => match error_of(alloc, case.text("error")?)? {
             Some(error) => error_answer(alloc, &error),
             None => Err(Fault::Member("error")),
         },
@@ -69,8 +69,9 @@ fn refusal_answer(alloc: Global, refusal: Option<&LiveError>) -> Result<Value, F
     }
 }
 
-fn error_of(name: &str) -> Option<LiveError> {
-    match name {
+// The error of a name, with what it carries.
+fn error_of(alloc: Global, name: &str) -> Result<Option<LiveError>, AllocError> {
+    Ok(match name {
         "OutOfMemory" => Some(LiveError::OutOfMemory),
         "Usage" => Some(LiveError::Usage),
         "ReadFault" => Some(LiveError::ReadFault),
@@ -78,8 +79,28 @@ fn error_of(name: &str) -> Option<LiveError> {
         "Script" => Some(LiveError::Script(12)),
         "Bytes" => Some(LiveError::TooMany(Limit::Bytes)),
         "Paths" => Some(LiveError::TooMany(Limit::Paths)),
-        _ => None,
-    }
+        "Packages" => Some(LiveError::TooMany(Limit::Packages)),
+        "Targets" => Some(LiveError::TooMany(Limit::Targets)),
+        "Crates" => Some(LiveError::TooMany(Limit::Crates)),
+        _ => project_error(alloc, name)?,
+    })
+}
+
+// The error of a name that a project gives.
+fn project_error(alloc: Global, name: &str) -> Result<Option<LiveError>, AllocError> {
+    Ok(Some(match name {
+        "BadManifest" => LiveError::BadManifest(Text::of_str(alloc, "w/Cargo.toml")?),
+        "Io" => LiveError::Io(Text::of_str(alloc, "cargo metadata")?),
+        "CargoMetadata" => LiveError::CargoMetadata(Text::of_str(alloc, "no net")?),
+        "NoJson" => LiveError::NoJson,
+        "Json" => LiveError::Json(Text::of_str(alloc, "packages[0].id")?),
+        "NotAbsolute" => LiveError::NotAbsolute(Text::of_str(alloc, "w")?),
+        "UnknownPackage" => LiveError::UnknownPackage(Text::of_str(alloc, "c")?),
+        "BadCrateName" => LiveError::BadCrateName(Text::of_str(alloc, "a-b")?),
+        "NoParent" => LiveError::NoParent(Text::of_str(alloc, "/")?),
+        "NoCargoProject" => LiveError::NoCargoProject,
+        _ => return Ok(None),
+    }))
 }
 
 // An error's status, and its text for people.

@@ -1,16 +1,16 @@
 //! Sessions step by step.
 
-use crate::values::{numbers_of, pages_of};
+use crate::values::{numbers_of, pages_of, words_at};
 use base_text::{FaultSink, FileId, TryClone};
 use cases::{Case, Fault, List, Object, text_answer, text_of};
 use input_db::{InputDb, SourceDatabase};
-use live::{Event, Live, StepError};
+use live::{Event, Live, LiveConfig, StepError};
 use serde_json::Value;
 use std::alloc::Global;
 use vfs_core::{Vfs, VfsPath};
 
-/// Steps the events of lines: what became of each, the pages, what the database has of files and roots, and
-/// how many probes the flushes took.
+/// Steps the events of lines, and configures the session by the words of a line that has these: what became of each, the
+/// pages, what the database has of files and roots, how many probes the flushes took, and how many packages the project has.
 pub fn answer(alloc: Global, case: Case<'_>) -> Result<Value, Fault> {
     let mut live = Box::new(alloc, Live::new(alloc)?)?;
     let failing = numbers_of(alloc, case, "failing_writes")?;
@@ -30,7 +30,16 @@ fn session(
         .member("pages", pages_of(alloc, out.bytes()))
         .member("database", database(alloc, case, live.files(), live.db()))
         .number("probes", live.probes())
+        .member("packages", packages(live))
         .answer()
+}
+
+// How many packages the project has that was loaded last, and null where none was.
+fn packages(live: &Live) -> Result<Value, Fault> {
+    match live.project() {
+        Some(project) => Ok(Value::from(project.n_packages() as u64)),
+        None => Ok(Value::Null),
+    }
 }
 
 fn step_all(
@@ -52,11 +61,24 @@ fn step_line(
     out: &mut FaultSink,
     line: &Value,
 ) -> Result<Value, Fault> {
+    if Case::new(line).find("configure").is_some() {
+        return configure(alloc, live, Case::new(line));
+    }
     let line = line.to_string(alloc)?;
     match Event::of_line(alloc, line.as_str().as_bytes()) {
         Ok(event) => step_copy(alloc, live, out, &event),
         Err(_) => Err(Fault::Member("lines")),
     }
+}
+
+// Configures the session by words.
+fn configure(alloc: Global, live: &mut Live, line: Case<'_>) -> Result<Value, Fault> {
+    let words = words_at(alloc, line, "configure")?;
+    match LiveConfig::of_words(alloc, words.as_slice()) {
+        Ok(config) => live.configure(config),
+        Err(_) => return Err(Fault::Member("configure")),
+    }
+    text_answer(alloc, "configured")
 }
 
 fn step_copy(

@@ -6,7 +6,12 @@ use std::alloc::{AllocError, Global};
 
 /// The words of a case, none without the member.
 pub fn words_of(alloc: Global, case: Case<'_>) -> Result<Vec<String>, Fault> {
-    let list = case.list("words")?;
+    words_at(alloc, case, "words")
+}
+
+/// The words under a key, none without the member.
+pub fn words_at(alloc: Global, case: Case<'_>, key: &'static str) -> Result<Vec<String>, Fault> {
+    let list = case.list(key)?;
     let mut words = Vec::new(alloc);
     for word in list {
         words.push(word_of(alloc, word)?)?;

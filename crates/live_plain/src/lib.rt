@@ -1,9 +1,13 @@
 //! The plain account of a session: a slow program that computes what the definitions say, as they say
-//! it. It keeps every mark and every line, where `live_run` reads a stream.
+//! it. It keeps every mark, answer and line, where `live_run` reads a stream, and calls the proved reading
+//! and lowering of projects.
 #![tactic(auto)]
 
+mod entries;
+mod files;
 mod lines;
 mod page;
+mod sets;
 mod turn;
 
 ghost use Rattle.std.specs.Prelude.{◌≡◌, IfOk};
@@ -12,18 +16,23 @@ ghost use Rattle.live_input.specs.Config.{config_of};
 ghost use Rattle.live.specs.Session.{session};
 ghost use Rattle.live_plain.specs.Answer.{answer_of, status_after};
 
-use base_text::{Boxed, Items, Limit, Text};
+use crate::files::PlainFile;
+use base_text::{Items, Limit, Shared, Text};
 use live::{LiveConfig, LiveError, WordsError};
+use live_project::{LiveAnswers, Project};
 use std::alloc::{AllocError, Global};
 use std::marker::Model;
-use vfs_core::{Mark, VfsPath};
+use std::rc::Rc;
+use vfs_core::Mark;
 
 /// What a session knows. Contracts see it as the definitions' state.
 #[derive(Drop)]
 pub struct PlainState {
-    config: Boxed<LiveConfig>,
+    config: Shared<LiveConfig>,
     // newest first
     marks: Vec<Mark>,
+    answers: LiveAnswers,
+    project: Option<Shared<Project>>,
     flushed: Option<PlainFlush>,
     ended: bool,
 }
@@ -31,38 +40,53 @@ pub struct PlainState {
 /// What the last flush brought into the database. Contracts see it as the definitions' flush.
 #[derive(Drop)]
 pub(crate) struct PlainFlush {
-    pub files: Vec<(VfsPath, Text)>,
+    pub files: Vec<PlainFile>,
+    pub project: Option<Shared<Project>>,
 }
 
 impl Model for PlainFlush {
     ghost use Rattle.live.specs.Page.{Flush};
+    ghost use Rattle.live_plain.specs.Codes.{flush_code};
 
     ghost Value = { Flush };
 
-    ghost view = { λ f. record { files = f.files.items } };
+    ghost coded = { flush_code };
+
+    ghost view = { λ f. record { files = f.files.items; project = f.project } };
 }
 
 impl Model for PlainState {
+    ghost use Rattle.live_input.specs.Config.{Fits};
     ghost use Rattle.live.specs.Session.{State};
+    ghost use Rattle.live_plain.specs.Codes.{state_code};
 
     ghost Value = { State };
 
-    ghost view = { λ s. record { config = s.config; marks = s.marks.items; flushed = s.flushed; ended = s.ended } };
+    ghost coded = { state_code };
+
+    ghost view = { λ s. record { config = s.config; marks = s.marks.items; answers = s.answers; project = s.project; flushed = s.flushed; ended = s.ended } };
+
+    ghost invariant = { λ s. Fits s.config };
 }
 
 impl PlainState {
     ghost use Rattle.std.specs.Prelude.{◌≡◌, IfOk};
+    ghost use Rattle.live_input.specs.Config.{Fits};
     ghost use Rattle.live.specs.Cli.{with_config};
     ghost use Rattle.live.specs.Turn.{first_state};
 
     /// Before the first event.
     pub fn new(alloc: Global, config: LiveConfig) -> Result<PlainState, AllocError>
+        requires { Fits config }
         ensures { IfOk result (λ state. state ≡ with_config first_state config) }
     {
-        let config = Boxed::new(alloc, config)?;
+        let config = Shared::new(Rc::new(alloc, config)?);
+        let answers = LiveAnswers::new(alloc)?;
         Ok(PlainState {
             config,
             marks: Vec::new(alloc),
+            answers,
+            project: None,
             flushed: None,
             ended: false,
         })
@@ -87,8 +111,11 @@ pub struct PlainOutcome {
 
 impl Model for PlainOutcome {
     ghost use Rattle.live.specs.Session.{Outcome};
+    ghost use Rattle.live_plain.specs.Codes.{outcome_code};
 
     ghost Value = { Outcome };
+
+    ghost coded = { outcome_code };
 
     ghost view = { λ o. record { state = o.state; pages = o.pages.items; lines = o.lines; refusal = o.refusal } };
 }
