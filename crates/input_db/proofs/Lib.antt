@@ -18,4 +18,4 @@ mod RunLemmas
 mod RunSteps
 mod SetAgain
 mod SetLemmas
-mod TableLemmas
+pub mod TableLemmas

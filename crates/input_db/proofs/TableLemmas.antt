@@ -25,7 +25,7 @@ row_of (entry ∷ table) zero input is = ap (λ (i : Option CrateInput). named_i
 row_of (entry ∷ table) (suc krate) input is = row_of table krate input is
 
 -- an edge starts at a crate that is there
-from_there : (table : Table) (krate k : ℕ) → k < length (row (crate_edges table) krate)
+pub from_there : (table : Table) (krate k : ℕ) → k < length (row (crate_edges table) krate)
     → (input : CrateInput) × (input_in table krate ≡ Some input)
 from_there [] krate k within = absurd (omega arith)
 from_there (entry ∷ table) zero k within = (entry.1, refl)

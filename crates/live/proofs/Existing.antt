@@ -17,6 +17,7 @@ use Rattle.vfs_core.specs.Marks.{live_files, live_text, mentioned_paths}
 use Rattle.vfs_core.specs.VfsPath.{PathContent, vfs_path_eq}
 use Rattle.vfs_core.specs.VfsPathOrder.{vfs_path_equiv}
 use Rattle.vfs_core.proofs.LiveLemmas.{existing_files-told}
+use Rattle.live_flush.proofs.Ascending.{nat_eq-above}
 use Rattle.live.specs.Page.{LiveFile}
 use Rattle.live.specs.Session.{live_file, numbered_files}
 
@@ -102,9 +103,6 @@ file_told files marks follows k entry t at is =
     let told = entries_told files marks follows k entry within in
     subst (λ (e : PathContent × FileState). is_existing e.1 ≡ is_some (live_text marks e.0)) same told ∙ ap is_some is
 
-apart : (number first : ℕ) → first < number → nat_eq number first ≡ false
-apart number first less = grind (arith, nat_tests)
-
 -- a file that exists is found by its number: the same by whether the first entry exists
 found-split : (number other : ℕ) (place : PathContent) (rest : List (ℕ × PathContent)) (is is_first : Bool) (found : Option PathContent)
     → is_first ≡ false → lookup (nat_eq other) rest ≡ found
@@ -125,7 +123,7 @@ existing_found number zero (first ∷ entries) entry file at exists is =
 existing_found number (suc place) (first ∷ entries) entry file at exists is =
     found-split number file first.0 (existing_files_from (number + 1) entries) (is_existing first.1) false (Some entry.0) refl
     (existing_found (number + 1) place entries entry file at exists (omega (arith, is)))
-    (apart file number (omega (arith, is)))
+    (nat_eq-above file number (omega (arith, is)))
 
 -- ---- the files that live, by number
 

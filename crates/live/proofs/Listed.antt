@@ -20,6 +20,7 @@ use Rattle.crate_values.specs.declared.crate_data.Dependency.{Dependency}
 use Rattle.crate_graph.specs.Graph.{Graph, edges, row_of, target_of}
 use Rattle.crate_graph.proofs.ExtendLemmas.{crate_edge, edge_crate}
 use Rattle.crate_graph.proofs.GraphLemmas.{slice_get_some}
+use Rattle.input_db.proofs.TableLemmas as rows
 use Rattle.input_db.specs.Database.{Database}
 use Rattle.input_db.specs.Identity.{Id, Table, crate_edges, data_of, input_in, named_in, number_in}
 use Rattle.input_db.specs.SetInDb.{IsSetInDb, first_places, with_member}
@@ -68,23 +69,13 @@ once-place (x ∷ xs) distinct (suc i) (suc j) n at other = ap suc (once-place x
 
 -- ---- a table of crates
 
-row-of : (table : Table) (krate : ℕ) (input : CrateInput) → input_in table krate ≡ Some input → row (crate_edges table) krate ≡ named_in input.crate_data
-row-of [] krate input is = cc
-row-of (entry ∷ table) zero input is = ap (λ (i : Option CrateInput). named_in (unwrap_or i input).crate_data) is
-row-of (entry ∷ table) (suc krate) input is = row-of table krate input is
-
-from-there : (table : Table) (krate k : ℕ) → k < length (row (crate_edges table) krate) → (input : CrateInput) × (input_in table krate ≡ Some input)
-from-there [] krate k within = absurd (omega (arith, within))
-from-there (entry ∷ table) zero k within = (entry.1, refl)
-from-there (entry ∷ table) (suc krate) k within = from-there table krate k within
-
 -- an edge is a dependency of what is held
 edge-input : (table : Table) (a b : ℕ) → HasEdge (crate_edges table) a b → (input : CrateInput) × (input_in table a ≡ Some input) × Contains (named_in input.crate_data) b
 edge-input table a b edge =
-    let from = from-there table a edge.0 edge.1 in (from.0, from.1, subst (λ l. Contains l b) (row-of table a from.0 from.1) edge)
+    let from = rows.from_there table a edge.0 edge.1 in (from.0, from.1, subst (λ l. Contains l b) (rows.row_of table a from.0 from.1) edge)
 
 input-edge : (table : Table) (a : ℕ) (input : CrateInput) (b : ℕ) → input_in table a ≡ Some input → Contains (named_in input.crate_data) b → HasEdge (crate_edges table) a b
-input-edge table a input b is named = subst (λ l. Contains l b) (sym (row-of table a input is)) named
+input-edge table a input b is named = subst (λ l. Contains l b) (sym (rows.row_of table a input is)) named
 
 input-found : (found : Option CrateInput) (content : CrateData ℕ) → option_map (λ i. i.crate_data) found ≡ Some content → (input : CrateInput) × (found ≡ Some input) × (input.crate_data ≡ content)
 input-found None content is = cc

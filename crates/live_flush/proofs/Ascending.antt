@@ -59,8 +59,9 @@ below-push : (file : ℕ × PathContent) (files : List (ℕ × PathContent)) →
 below-push file [] below = (omega arith, tt)
 below-push file (first ∷ files) below = let less = below.0 in (omega (arith, less), below-push file files below.1)
 
-apart : (number first : ℕ) → first < number → nat_eq number first ≡ false
-apart number first less = grind (arith, nat_tests)
+-- a number is another than a lower one
+pub nat_eq-above : (number first : ℕ) → first < number → nat_eq number first ≡ false
+nat_eq-above number first less = grind (arith, nat_tests)
 
 -- a number above all is put behind: the same by whether the first is it
 insert-split : (file first : ℕ × PathContent) (rest : List (ℕ × PathContent)) (is_first : Bool) → is_first ≡ false
@@ -73,7 +74,7 @@ insert-above : (file : ℕ × PathContent) (files : List (ℕ × PathContent)) �
     → insert_entry nat_eq files file.0 file.1 ≡ files ++ file ∷ []
 insert-above file [] below = refl
 insert-above file (first ∷ files) below =
-    insert-split file first files (nat_eq file.0 first.0) (apart file.0 first.0 below.0) (insert-above file files below.1)
+    insert-split file first files (nat_eq file.0 first.0) (nat_eq-above file.0 first.0 below.0) (insert-above file files below.1)
 
 -- files put one after the other
 abbrev put_all : List (ℕ × PathContent) → List (ℕ × PathContent) → List (ℕ × PathContent)
@@ -104,7 +105,7 @@ found-behind : (file : ℕ × PathContent) (files rest : List (ℕ × PathConten
     → lookup (nat_eq file.0) (files ++ file ∷ rest) ≡ Some file.1
 found-behind file [] rest below = let own : nat_eq file.0 file.0 ≡ true = eq-eqb file.0 file.0 refl in rw own refl
 found-behind file (first ∷ files) rest below =
-    let other : nat_eq file.0 first.0 ≡ false = apart file.0 first.0 below.0 in
+    let other : nat_eq file.0 first.0 ≡ false = nat_eq-above file.0 first.0 below.0 in
     rw other (found-behind file files rest below.1)
 
 module _ {B : Type 0} (made : Option PathContent → Option B) (of : PathContent → B) (agree : (place : PathContent) → made (Some place) ≡ Some (of place)) where

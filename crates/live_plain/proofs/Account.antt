@@ -217,11 +217,6 @@ module _ {X Y : Type 0} (h : X → Option Y) (xs : List X) (i : ℕ) (x : X) (wi
   pub taken_none : h x ≡ None → filter_map h (take (i + 1) xs) ≡ filter_map h (take i xs)
   taken_none gives = next ∙ ap (λ l. filter_map h (take i xs) ++ l) (rw gives refl) ∙ append-nil (filter_map h (take i xs))
 
--- what is made of items by another function
-pub filter_map-map : {X Y Z : Type 0} (h : Y → Option Z) (f : X → Y) (xs : List X) → filter_map (λ x. h (f x)) xs ≡ filter_map h (map f xs)
-filter_map-map h f [] = refl
-filter_map-map h f (x ∷ xs) = ap (cons_option (h (f x))) (filter_map-map h f xs)
-
 -- a dependency whose crate's root file has a path is shown by its name and a copy of that path
 pub dependency_shown : {Number : Type 0} (number : Number → ℕ) (root : ℕ → Option (List ℕ)) (dep : Dependency Number) (path name copy : List ℕ) → root (number dep.crate_id) ≡ Some path
     → name ≡ dep.name → copy ≡ path → dependency_entry root (named_number number dep) ≡ Some (record { name = name; root = copy })
@@ -232,26 +227,6 @@ dependency_shown number root dep path name copy at named copied =
 pub dependency_hidden : {Number : Type 0} (number : Number → ℕ) (root : ℕ → Option (List ℕ)) (dep : Dependency Number) → root (number dep.crate_id) ≡ None
     → dependency_entry root (named_number number dep) ≡ None
 dependency_hidden number root dep none = ap (option_map (λ (p : List ℕ). record { name = dep.name; root = p })) none
-
--- the item behind others
-get_or-behind : (xs : List ℕ) (x : ℕ) (rest : List ℕ) (d : ℕ) → get_or (xs ++ x ∷ rest) (length xs) d ≡ x
-get_or-behind [] x rest d = refl
-get_or-behind (y ∷ ys) x rest d = get_or-behind ys x rest d
-
--- the next number, where the numbers of what was seen come first
-pub next_number : {X : Type 0} (f : X → ℕ) (n : ℕ) (seen : List X) (rest : List ℕ) (x : ℕ) → range_with_len 0 n ≡ map f seen ++ x ∷ rest → (x ≡ length seen) × (x < n)
-next_number f n seen rest x is =
-    let count = length-map seen f in
-    let lengths : n ≡ length (map f seen ++ x ∷ rest) = sym (length-range_with_len 0 n) ∙ ap length is in
-    let within : length (map f seen) < n = omega (arith, lengths, length-append (map f seen) (x ∷ rest)) in
-    let same : x ≡ 0 + length (map f seen) =
-    sym (get_or-behind (map f seen) x rest 0) ∙ ap (λ xs. get_or xs (length (map f seen)) 0) (sym is) ∙ get_or-range_with_len 0 n (length (map f seen)) 0 within in
-    (omega (arith, same, count), omega (arith, same, within))
-
--- one more is seen
-pub map-seen_more : {X : Type 0} (f : X → ℕ) (seen : List X) (x : X) (rest : List ℕ) → map f seen ++ f x ∷ rest ≡ map f (seen ++ x ∷ []) ++ rest
-map-seen_more f [] x rest = refl
-map-seen_more f (y ∷ ys) x rest = ap (λ zs. f y ∷ zs) (map-seen_more f ys x rest)
 
 -- the entries of the first crates, with one more crate, where as many were seen as its number says
 module _ {I : Type 0} (h : Node → Option CrateEntry) (crates : List CrateBuilder) (seen : List I) (id : I) (number : ℕ) (krate : CrateBuilder) (is_next : number ≡ length seen)

@@ -3,4 +3,4 @@ pub mod Distinct
 pub mod GraphEntries
 pub mod Members
 pub mod Pages
-mod Shown
+pub mod Shown

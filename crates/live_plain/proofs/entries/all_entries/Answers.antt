@@ -3,7 +3,8 @@ use Rattle.std.proofs.Common.{◌++◌, ◌∙◌, ap, length, map, slice_get, s
 use Rattle.base_text.specs.Arena.{number_of}
 use Rattle.pages.specs.Entries.{entry_of, node_of, root_path}
 use Rattle.live_plain.specs.Account.{paths_in}
-use Rattle.live_plain.proofs.Account.{all_seen, entries_none, entries_some, map-seen_more, next_number}
+use Rattle.pm_roots.proofs.RootLemmas.{map-seen_more, next_number}
+use Rattle.live_plain.proofs.Account.{all_seen, entries_none, entries_some}
 use Rattle.live_plain.proofs.entries.all_entries.Goals as goal
 
 pub index-requires : goal.index-requires

@@ -7,7 +7,8 @@ use Rattle.base_text.specs.Arena.{number_of}
 use Rattle.base_values.specs.Sorted.{sorted}
 use Rattle.pages.specs.Entries.{dependency_cmp, dependency_entry, named_number, node_of, root_path}
 use Rattle.live_plain.specs.Account.{paths_in}
-use Rattle.live_plain.proofs.Account.{dependency_hidden, dependency_shown, filter_map-map, taken_none, taken_some}
+use Rattle.pages.proofs.Shown.{filter_map-map}
+use Rattle.live_plain.proofs.Account.{dependency_hidden, dependency_shown, taken_none, taken_some}
 use Rattle.live_plain.proofs.entries.dependency_entries.Goals as goal
 use Rattle.live_plain.proofs.entries.dependency_entries.Goals.{in-Some+in_ok-name+in_ok-root+in_ok-push, in_default}
 
