@@ -2,6 +2,8 @@
 #![tactic(auto)]
 
 #[cfg(test)]
+mod streams;
+#[cfg(test)]
 mod traits;
 #[cfg(test)]
 mod values;

@@ -16,3 +16,4 @@ pub mod Loads
 pub mod Builds
 pub mod TwoTexts
 pub mod Words
+pub mod Tops

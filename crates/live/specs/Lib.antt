@@ -7,6 +7,7 @@ pub mod Marked
 pub mod Page
 pub mod Run
 pub mod Session
+pub mod Top
 pub mod Turn
 pub mod Written
 pub mod Refresh

@@ -11,6 +11,7 @@ mod page;
 mod rows;
 pub mod run;
 pub mod session;
+pub mod top;
 
 pub use cli::{live_cli, tell};
 pub use fault::{LiveError, StepError, fault_text};
@@ -22,3 +23,4 @@ pub use live_project::{LiveAnswers, Project, Sources};
 pub use live_texts::LiveTexts;
 pub use run::live_run;
 pub use session::Live;
+pub use top::live_top;

@@ -1,18 +1,14 @@
 //! The program: the standard streams as source and sinks, and the words of the command line.
 #![tactic(auto)]
 
-mod streams;
-mod top;
-
 ghost use Rattle.std.specs.IoError.{error_kind};
 ghost use Rattle.std.specs.Prelude.{◌≡◌};
 
-use crate::streams::{ReaderSource, WriterSink};
-use crate::top::live_top;
-use live::{LiveError, tell};
+use live::{LiveError, live_top, tell};
 use std::env;
 use std::io::{self, ErrorKind};
 use std::process::ExitCode;
+use streams::{ReaderSource, WriterSink};
 
 fn main(rt: HostRuntime) -> ExitCode {
     let mut err = WriterSink::new(rt.stderr());

@@ -3,8 +3,8 @@ use Rattle.live.specs.declared.fault.LiveError.TheVariants.{OutOfMemory}
 use Rattle.live.specs.Cli.{StatusOf}
 use Rattle.live.specs.Turn.{first_state}
 use Rattle.live.proofs.Outcomes.{AppendsFront-nil}
-use Rattle.live_prog.proofs.Tops.{fails_new, memory_completes, memory_top}
-use Rattle.live_prog.proofs.top.live_top.Goals as goal
+use Rattle.live.proofs.Tops.{fails_new, memory_completes, memory_top}
+use Rattle.live.proofs.top.live_top.Goals as goal
 
 pub returns-in-Ok-clause-ok : goal.returns-in-Ok-clause-ok
 returns-in-Ok-clause-ok g c = λ done. (_, c.live_cli-status.ensures.ok done first_state c.in-Ok.ensures.holds)

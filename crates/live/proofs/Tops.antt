@@ -9,7 +9,7 @@ use Rattle.live.specs.Session.{State, session}
 use Rattle.live.specs.Turn.{Holds, first_state}
 use Rattle.live.proofs.Outcomes.{AppendsFront-nil}
 use Rattle.live.proofs.Words.{memory_as}
-use Rattle.live_prog.specs.Top.{FailsTop}
+use Rattle.live.specs.Top.{FailsTop}
 
 -- a call on a session that holds the first state
 pub fails_new : (words : List (String Global)) (status : ℕ) (live live' : Live) (left old new told told' : Option (List ℕ)) → Holds live first_state

@@ -6,10 +6,12 @@ ghost use Rattle.live_input.specs.Config.{command_of};
 ghost use Rattle.live.specs.Fault.{all_statuses};
 ghost use Rattle.live.specs.Run.{HasCause, IsFaultless};
 ghost use Rattle.live.specs.Turn.{first_state};
-ghost use Rattle.live_prog.specs.Top.{FailsTop, FinishesTop};
+ghost use Rattle.live.specs.Top.{FailsTop, FinishesTop};
 
+use crate::cli::live_cli;
+use crate::fault::LiveError;
+use crate::session::Live;
 use base_text::{ByteSink, ByteSource};
-use live::{Live, LiveError, live_cli};
 use std::alloc::Global;
 
 /// Runs a script on a new session and answers the exit status. Where there is no memory for the session it
