@@ -1,6 +1,6 @@
 //! Texts, paths and variables of cases.
 
-use base_text::{AbsPathBuf, ByText, Items, PathError, Text};
+use base_text::{AbsPathBuf, ByText, CfgAtom, Items, PathError, Text, write_cfg};
 use cases::{Case, Fault, List, item, items_of, text_of};
 use serde_json::Value;
 use std::alloc::Global;
@@ -21,6 +21,19 @@ pub fn texts_answer(alloc: Global, texts: &[Text]) -> Result<Value, Fault> {
         values = values.text(text.as_str());
     }
     values.answer()
+}
+
+/// Atoms of conditional compilation, as they are compared.
+pub fn atoms_answer(alloc: Global, atoms: &[CfgAtom]) -> Result<Value, Fault> {
+    let mut texts = List::new(alloc);
+    for atom in atoms {
+        texts = texts.item(atom_answer(alloc, atom));
+    }
+    texts.answer()
+}
+
+fn atom_answer(alloc: Global, atom: &CfgAtom) -> Result<Value, Fault> {
+    Ok(Value::String(write_cfg(alloc, atom)?))
 }
 
 /// A text, if there is one.

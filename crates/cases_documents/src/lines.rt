@@ -1,18 +1,31 @@
 //! Command lines, and a runner whose answers are recorded.
 
 use base_text::{CommandLine, Output, RecordedRunner, Runner, TryClone};
-use case_lines::{line_of, runner_of};
+use case_lines::{line_of, output_of, runner_of};
 use cases::{Case, Fault, Object};
 use serde_json::Value;
-use std::alloc::Global;
+use std::alloc::{AllocError, Global};
 
 /// What a call on a command line gives.
 pub fn answer(alloc: Global, case: Case<'_>) -> Result<Value, Fault> {
     match case.text("call")? {
         "Runner::ask" => ask(alloc, case),
         "CommandLine::asks_same" => asks_same(alloc, case),
+        "CommandLine::try_clone" => {
+            let line = line_of(alloc, case)?;
+            Ok(Value::from(is_copied(alloc, &line)?))
+        }
+        "Output::try_clone" => {
+            let output = output_of(alloc, case)?;
+            Ok(Value::from(is_copied(alloc, &output)?))
+        }
         _ => Err(Fault::Call),
     }
+}
+
+// Whether a value equals its copy.
+fn is_copied<T: TryClone + PartialEq + Drop>(alloc: Global, value: &T) -> Result<bool, AllocError> {
+    Ok(value.try_clone(alloc)? == *value)
 }
 
 fn asks_same(alloc: Global, case: Case<'_>) -> Result<Value, Fault> {

@@ -1,11 +1,13 @@
-//! What a crate is made of: names, origins, kinds, channels and toolchains.
+//! What a crate is made of: names, dependencies, origins, kinds, channels, targets and toolchains.
 
+use crate::agreement::agreement_answer;
 use base_text::{Text, TryClone};
-use cases::{Case, Fault, List, error_answer, text_answer};
-use crate_graph::target::TargetLoadError;
+use cases::{Case, Fault, List, Object, error_answer, text_answer};
+use crate_graph::target::{Arch, TargetData, TargetLoadError};
 use crate_graph::{
-    CrateDisplayName, CrateName, CrateOrigin, CrateWorkspaceData, LangCrateOrigin,
-    ProcMacroLoadingError, ReleaseChannel, TargetKind, ToolchainVersion,
+    CrateBuilderId, CrateDisplayName, CrateName, CrateOrigin, CrateWorkspaceData, Dependency,
+    DependencyBuilder, LangCrateOrigin, ProcMacroLoadingError, ReleaseChannel, TargetKind,
+    ToolchainVersion,
 };
 use serde_json::Value;
 use std::alloc::{AllocError, Global};
@@ -16,7 +18,8 @@ pub fn answer(alloc: Global, case: Case<'_>) -> Result<Value, Fault> {
         "CrateDisplayName" => display_name(alloc, case),
         "CrateDisplayName::eq" => names_equal(alloc, case.text("text")?, case.text("other")?),
         "CrateOrigin::lt" => origins_ascend(case.text("text")?, case.text("other")?),
-        "CrateWorkspaceData::is_atleast_187" => workspace(alloc, case.optional_text("version")),
+        "CrateWorkspaceData::is_atleast_187" => workspace(alloc, case),
+        "Dependency::with_prelude" => dependency(alloc, case, case.text("text")?),
         call => of_text(alloc, call, case.text("text")?),
     }
 }
@@ -31,6 +34,7 @@ fn of_text(alloc: Global, call: &str, text: &str) -> Result<Value, Fault> {
         "TargetKind" => kind(alloc, text),
         "ReleaseChannel::from_text" => channel(alloc, text),
         "ProcMacroLoadingError" => loading_error(alloc, text),
+        "TargetLoadError" => target_error(alloc, text),
         _ => Err(Fault::Call),
     }
 }
@@ -94,6 +98,27 @@ fn lang_origin(alloc: Global, text: &str) -> Result<Value, Fault> {
     } else {
         Err(Fault::Condition)
     }
+}
+
+// The marks of a plain dependency and of one with the marks of the case, and whether the two agree.
+fn dependency(alloc: Global, case: Case<'_>, text: &str) -> Result<Value, Fault> {
+    let id = CrateBuilderId::from_raw(0);
+    let plain = Dependency::new(CrateName::normalize_dashes(alloc, text)?, id);
+    let name = CrateName::normalize_dashes(alloc, text)?;
+    let marked = Dependency::with_prelude(name, id, case.flag("prelude"), case.flag("sysroot"));
+    Object::new(alloc)
+        .member("plain", marks(alloc, &plain))
+        .member("marked", marks(alloc, &marked))
+        .member("agree", agreement_answer(alloc, &plain, &marked))
+        .answer()
+}
+
+// Whether a dependency is in the prelude, and whether it is of the sysroot.
+fn marks(alloc: Global, dep: &DependencyBuilder) -> Result<Value, Fault> {
+    List::new(alloc)
+        .flag(dep.is_prelude())
+        .flag(dep.is_sysroot())
+        .answer()
 }
 
 fn origin_of(text: &str) -> Result<CrateOrigin, Fault> {
@@ -197,12 +222,35 @@ fn toolchain(alloc: Global, version: Option<&str>) -> Result<Option<ToolchainVer
 }
 
 // Whether the toolchain of a version is 1.87.0 or later. Without a version it is not known.
-fn workspace(alloc: Global, version: Option<&str>) -> Result<Value, Fault> {
-    let text = Text::of_str(alloc, "no rustc")?;
-    let toolchain = toolchain(alloc, version)?;
-    let target = Err(TargetLoadError(text));
+fn workspace(alloc: Global, case: Case<'_>) -> Result<Value, Fault> {
+    let target = target(alloc, case.optional_text("layout"))?;
+    let toolchain = toolchain(alloc, case.optional_text("version"))?;
     let data = CrateWorkspaceData { target, toolchain };
     is_atleast_187(alloc, &data)
+}
+
+// The target of a layout. Without a layout it is not known.
+fn target(
+    alloc: Global,
+    layout: Option<&str>,
+) -> Result<Result<TargetData, TargetLoadError>, AllocError> {
+    match layout {
+        Some(layout) => Ok(Ok(TargetData {
+            data_layout: Text::of_str(alloc, layout)?,
+            arch: Arch::Other,
+        })),
+        None => Ok(Err(TargetLoadError(Text::of_str(alloc, "no rustc")?))),
+    }
+}
+
+// What is printed of an error of a target, which has to equal its copy.
+fn target_error(alloc: Global, text: &str) -> Result<Value, Fault> {
+    let error = TargetLoadError(Text::of_str(alloc, text)?);
+    if error.try_clone(alloc)? == error {
+        Ok(Value::String(format!(in alloc; "{error}")?))
+    } else {
+        Err(Fault::Condition)
+    }
 }
 
 // What is known of a workspace, which has to equal its copy.

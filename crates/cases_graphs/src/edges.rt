@@ -1,11 +1,11 @@
 //! Crates and edges that a graph takes or refuses.
 
+use base_text::{Counter, Ledger as _, Steps, TryClone};
 use case_graph::{add, depend, graph_of, id_at};
 use cases::{Case, Fault, List, Object, items_of, number_of};
 use crate_graph::{
     AddDepError, CrateBuilderId, CrateGraphBuilder, CrateName, CyclicDependenciesError, Dependency,
 };
-use outside::{Counter, Ledger as _, Steps};
 use serde_json::Value;
 use std::alloc::Global;
 
@@ -131,8 +131,18 @@ fn rank(graph: &CrateGraphBuilder, id: CrateBuilderId) -> Result<Value, Fault> {
 fn edge_answer(alloc: Global, added: Result<(), AddDepError>) -> Result<Value, Fault> {
     match added {
         Ok(()) => Ok(Value::Null),
-        Err(AddDepError::OutOfMemory) => Err(Fault::OutOfMemory),
-        Err(AddDepError::Cyclic(error)) => cycle_answer(alloc, &error),
+        Err(error) => refusal_answer(alloc, &error),
+    }
+}
+
+// A refusal, which has to equal its copy.
+fn refusal_answer(alloc: Global, error: &AddDepError) -> Result<Value, Fault> {
+    if error.try_clone(alloc)? != *error {
+        return Err(Fault::Condition);
+    }
+    match error {
+        AddDepError::OutOfMemory => Err(Fault::OutOfMemory),
+        AddDepError::Cyclic(error) => cycle_answer(alloc, error),
     }
 }
 

@@ -1,12 +1,13 @@
 //! Graphs of crates: what crates reach, and which crates are left.
 
+use crate::agreement::agreement_answer;
 use crate::closure::agrees_on_all;
 use crate::edges::{counted_edges, edges, ranks, roots};
 use crate::joining::{join, ranks_of_joined};
 use base_text::TryClone;
 use case_graph::graph_of;
 use cases::{Case, Fault, List, Object, number_of};
-use crate_graph::{CrateBuilderId, CrateGraphBuilder};
+use crate_graph::{CrateBuilder, CrateBuilderId, CrateGraphBuilder};
 use serde_json::Value;
 use std::alloc::Global;
 
@@ -53,12 +54,59 @@ fn ask(
         "CrateGraphBuilder::is_closed" => is_closed(alloc, case, graph),
         "CrateGraphBuilder::remove_crates_except" => remove(alloc, case, graph),
         "ranks of kept crates" => ranks_of_kept(alloc, case, graph),
+        _ => of_crate(alloc, case, call, graph),
+    }
+}
+
+// What a call on one crate of a graph gives.
+fn of_crate(
+    alloc: Global,
+    case: Case<'_>,
+    call: &str,
+    graph: &CrateGraphBuilder,
+) -> Result<Value, Fault> {
+    let of = id_of(case, "of")?;
+    if !graph.contains(of) {
+        return Err(Fault::Condition);
+    }
+    match call {
+        "CrateBuilder::try_clone" => copied_crate(alloc, &graph[of]),
+        "CrateData::cmp" => compared_data(alloc, case, graph, &graph[of]),
         _ => Err(Fault::Call),
     }
 }
 
+fn id_of(case: Case<'_>, key: &'static str) -> Result<CrateBuilderId, Fault> {
+    Ok(CrateBuilderId::from_raw(number_of(case.member(key)?, key)?))
+}
+
+// Whether a crate equals its copy, whether the data of the two agree, and whether the toolchain that they share is
+// 1.87.0 or later.
+fn copied_crate(alloc: Global, krate: &CrateBuilder) -> Result<Value, Fault> {
+    let copy = Box::new(alloc, krate.try_clone(alloc)?)?;
+    Object::new(alloc)
+        .flag("equal", *copy == *krate)
+        .member("agree", agreement_answer(alloc, &krate.basic, &copy.basic))
+        .flag("is_atleast_187", copy.ws_data().is_atleast_187())
+        .answer()
+}
+
+// Whether the data of a crate agree with those of another.
+fn compared_data(
+    alloc: Global,
+    case: Case<'_>,
+    graph: &CrateGraphBuilder,
+    krate: &CrateBuilder,
+) -> Result<Value, Fault> {
+    let other = id_of(case, "other")?;
+    if !graph.contains(other) {
+        return Err(Fault::Condition);
+    }
+    agreement_answer(alloc, &krate.basic, &graph[other].basic)
+}
+
 fn reached(alloc: Global, case: Case<'_>, graph: &CrateGraphBuilder) -> Result<Value, Fault> {
-    let of = CrateBuilderId::from_raw(number_of(case.member("of")?, "of")?);
+    let of = id_of(case, "of")?;
     if !graph.contains(of) {
         return Err(Fault::Condition);
     }

@@ -1,6 +1,7 @@
 //! Cases of what a crate is made of, of graphs of crates, and of databases that hold them.
 #![tactic(auto)]
 
+mod agreement;
 mod closure;
 mod crates;
 mod database;

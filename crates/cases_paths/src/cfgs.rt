@@ -1,7 +1,9 @@
 //! Atoms of conditional compilation, sets of them and changes of sets.
 
-use base_text::{CfgAtom, CfgDiff, CfgError, CfgOptions, parse_cfg, write_cfg};
-use cases::{Case, Fault, List, Object, error_answer, text_of};
+use crate::bounds::is_least;
+use base_text::{CfgAtom, CfgDiff, CfgError, CfgOptions, TryClone, parse_cfg, write_cfg};
+use case_lines::atoms_answer;
+use cases::{Case, Fault, Object, error_answer, text_of};
 use serde_json::Value;
 use std::alloc::{AllocError, Global};
 
@@ -12,6 +14,7 @@ pub fn answer(alloc: Global, case: Case<'_>) -> Result<Value, Fault> {
         "write_cfg" => write(alloc, case.text("text")?),
         "CfgOptions" => extend(alloc, case),
         "CfgOptions::contains" => contains(alloc, case),
+        "CfgOptions::le" => is_at_most(alloc, case),
         "CfgOptions::apply_diff" => apply(alloc, case),
         "CfgDiff::new" => parts(alloc, case),
         _ => Err(Fault::Call),
@@ -39,11 +42,7 @@ fn atom_answer(alloc: Global, atom: &CfgAtom) -> Result<Value, Fault> {
 
 fn write(alloc: Global, text: &str) -> Result<Value, Fault> {
     let atom = atom(alloc, text)?;
-    written(alloc, &atom)
-}
-
-fn written(alloc: Global, atom: &CfgAtom) -> Result<Value, Fault> {
-    Ok(Value::String(write_cfg(alloc, atom)?))
+    Ok(Value::String(write_cfg(alloc, &atom)?))
 }
 
 fn atom(alloc: Global, text: &str) -> Result<CfgAtom, Fault> {
@@ -62,9 +61,12 @@ fn atoms(alloc: Global, texts: &[Value]) -> Result<Vec<CfgAtom>, Fault> {
     Ok(atoms)
 }
 
-// The atoms of a case, put in one by one.
 fn options(alloc: Global, case: Case<'_>) -> Result<CfgOptions, Fault> {
-    let texts = case.list("atoms")?;
+    options_of(alloc, case.list("atoms")?)
+}
+
+// A set of atoms, put in one by one.
+fn options_of(alloc: Global, texts: &[Value]) -> Result<CfgOptions, Fault> {
     let mut options = CfgOptions::new(alloc);
     for text in texts {
         insert(&mut options, atom_of(alloc, text)?)?;
@@ -83,7 +85,7 @@ fn extend(alloc: Global, case: Case<'_>) -> Result<Value, Fault> {
     let more = atoms(alloc, case.list("more")?)?;
     let mut options = options(alloc, case)?;
     options.extend(more)?;
-    texts_answer(alloc, options.as_slice())
+    atoms_answer(alloc, options.as_slice())
 }
 
 fn contains(alloc: Global, case: Case<'_>) -> Result<Value, Fault> {
@@ -91,11 +93,19 @@ fn contains(alloc: Global, case: Case<'_>) -> Result<Value, Fault> {
     Ok(Value::from(options(alloc, case)?.contains(&atom)))
 }
 
+// Whether a set is at most its copy and another set.
+fn is_at_most(alloc: Global, case: Case<'_>) -> Result<Value, Fault> {
+    let other = options_of(alloc, case.list("other")?)?;
+    let options = options(alloc, case)?;
+    let copy = options.try_clone(alloc)?;
+    Ok(Value::from(is_least(&options, &[copy, other])))
+}
+
 fn apply(alloc: Global, case: Case<'_>) -> Result<Value, Fault> {
     let mut options = options(alloc, case)?;
     let diff = diff(alloc, case)?;
     options.apply_diff(&diff)?;
-    texts_answer(alloc, options.as_slice())
+    atoms_answer(alloc, options.as_slice())
 }
 
 fn diff(alloc: Global, case: Case<'_>) -> Result<CfgDiff, Fault> {
@@ -107,16 +117,8 @@ fn diff(alloc: Global, case: Case<'_>) -> Result<CfgDiff, Fault> {
 fn parts(alloc: Global, case: Case<'_>) -> Result<Value, Fault> {
     let diff = diff(alloc, case)?;
     Object::new(alloc)
-        .member("enabled", texts_answer(alloc, diff.enabled()))
-        .member("disabled", texts_answer(alloc, diff.disabled()))
+        .member("enabled", atoms_answer(alloc, diff.enabled()))
+        .member("disabled", atoms_answer(alloc, diff.disabled()))
         .number("len", diff.len() as u64)
         .answer()
-}
-
-fn texts_answer(alloc: Global, atoms: &[CfgAtom]) -> Result<Value, Fault> {
-    let mut texts = List::new(alloc);
-    for atom in atoms {
-        texts = texts.item(written(alloc, atom));
-    }
-    texts.answer()
 }

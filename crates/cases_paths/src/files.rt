@@ -1,18 +1,22 @@
-//! Tables of files, step by step, and the hash of contents.
+//! Tables of files, step by step, what a changed file says of its change, and the hash of contents.
 
 ghost use Rattle.std.specs.Prelude.{◌≤◌, IfOk};
 
 use crate::marks;
 use crate::vfs_paths::vfs_path;
-use cases::{Case, Fault, List, file_number_of, item, items_of, text_answer, text_of};
+use base_text::{Items, TryClone};
+use cases::{Case, Fault, List, Object, file_number_of, item, items_of, text_answer, text_of};
 use serde_json::Value;
 use std::alloc::Global;
-use vfs_core::{Change, ChangedFile, FileExcluded, FileId, Vfs, VfsError, VfsPath, content_hash};
+use vfs_core::{
+    Change, ChangeKind, ChangedFile, FileExcluded, FileId, Vfs, VfsError, VfsPath, content_hash,
+};
 
 /// What a call on files gives.
 pub fn answer(alloc: Global, case: Case<'_>) -> Result<Value, Fault> {
     match case.text("call")? {
         "Vfs" => steps(alloc, case),
+        "ChangedFile" => changed_file(alloc, case.text("change")?),
         "live_text" => marks::answer(alloc, case),
         "content_hash" => Ok(Value::from(content_hash(case.text("text")?.as_bytes()))),
         _ => Err(Fault::Call),
@@ -141,6 +145,42 @@ fn contents_answer(
         .text(kind)
         .text(contents.as_str())
         .answer()
+}
+
+// What the copy of a changed file says of its change, which has to equal the change that was copied.
+fn changed_file(alloc: Global, change: &str) -> Result<Value, Fault> {
+    let changed = ChangedFile {
+        file_id: FileId::from_raw(0),
+        change: change_of(alloc, change)?,
+    };
+    let copy = changed.try_clone(alloc)?;
+    if copy.change != changed.change {
+        return Err(Fault::Condition);
+    }
+    Object::new(alloc)
+        .text("kind", name_of(copy.kind()))
+        .flag("is_created", copy.is_created())
+        .flag("is_modified", copy.is_modified())
+        .flag("is_created_or_deleted", copy.is_created_or_deleted())
+        .flag("exists", copy.exists())
+        .answer()
+}
+
+fn change_of(alloc: Global, name: &str) -> Result<Change, Fault> {
+    match name {
+        "create" => Ok(Change::Create(Items::empty(alloc), 0)),
+        "modify" => Ok(Change::Modify(Items::empty(alloc), 0)),
+        "delete" => Ok(Change::Delete),
+        _ => Err(Fault::Member("change")),
+    }
+}
+
+fn name_of(kind: ChangeKind) -> &'static str {
+    match kind {
+        ChangeKind::Create => "create",
+        ChangeKind::Modify => "modify",
+        ChangeKind::Delete => "delete",
+    }
 }
 
 // The number of a file, and whether it is left out.

@@ -1,7 +1,8 @@
 //! Entries of a loader's configuration, and copies of that and of what a loader reports.
 
 use crate::paths::path_of;
-use base_text::{AbsPathBuf, Items, Text, TryClone};
+use base_text::{AbsPathBuf, Items, TryClone};
+use case_lines::{texts, texts_answer};
 use cases::{Case, Fault, List, optional_answer, text_of};
 use serde_json::Value;
 use std::alloc::{AllocError, Global};
@@ -69,14 +70,6 @@ fn paths(alloc: Global, texts: &[Value]) -> Result<Items<AbsPathBuf>, Fault> {
     Ok(Items::new(paths))
 }
 
-fn texts(alloc: Global, texts: &[Value]) -> Result<Items<Text>, Fault> {
-    let mut copies = Vec::new(alloc);
-    for text in texts {
-        copies.push(Text::of_str(alloc, text_of(text, "extensions")?)?)?;
-    }
-    Ok(Items::new(copies))
-}
-
 fn directories(alloc: Global, case: Case<'_>) -> Result<Directories, Fault> {
     let extensions = case.list("extensions")?;
     let (include, exclude) = (case.list("include")?, case.list("exclude")?);
@@ -104,14 +97,6 @@ fn path_answers(alloc: Global, paths: &[AbsPathBuf]) -> Result<Value, Fault> {
     answers.answer()
 }
 
-fn text_answers(alloc: Global, texts: &[Text]) -> Result<Value, Fault> {
-    let mut answers = List::new(alloc);
-    for text in texts {
-        answers = answers.text(text.as_str());
-    }
-    answers.answer()
-}
-
 // The files of an entry, or the extensions, includes and excludes of its directories.
 fn entry_answer(alloc: Global, entry: &Entry) -> Result<Value, Fault> {
     match entry {
@@ -122,7 +107,7 @@ fn entry_answer(alloc: Global, entry: &Entry) -> Result<Value, Fault> {
 
 fn directories_answer(alloc: Global, directories: &Directories) -> Result<Value, Fault> {
     List::new(alloc)
-        .item(text_answers(alloc, directories.extensions.as_slice()))
+        .item(texts_answer(alloc, directories.extensions.as_slice()))
         .item(path_answers(alloc, directories.include.as_slice()))
         .item(path_answers(alloc, directories.exclude.as_slice()))
         .answer()

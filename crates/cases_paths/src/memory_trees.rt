@@ -2,7 +2,8 @@
 
 use crate::paths::path_of;
 use base_text::{AbsPath, Items, Text, TryClone};
-use cases::{Case, Fault, List, optional_answer, texts_of_pair};
+use case_lines::texts_answer;
+use cases::{Case, Fault, optional_answer, texts_of_pair};
 use serde_json::Value;
 use std::alloc::{AllocError, Global};
 use trees::{MemoryTree, Tree};
@@ -62,12 +63,8 @@ fn names_answer(
     alloc: Global,
     names: Result<Option<Items<Text>>, AllocError>,
 ) -> Result<Value, Fault> {
-    let Some(names) = names? else {
-        return Ok(Value::Null);
-    };
-    let mut answers = List::new(alloc);
-    for name in names.as_slice() {
-        answers = answers.text(name.as_str());
+    match names? {
+        Some(names) => texts_answer(alloc, names.as_slice()),
+        None => Ok(Value::Null),
     }
-    answers.answer()
 }

@@ -1,7 +1,8 @@
 //! Absolute paths.
 
-use base_text::{AbsPath, AbsPathBuf, PathError, RelPath};
-use cases::{Case, Fault, List, error_answer, optional_answer, text_answer};
+use crate::bounds::hash_of;
+use base_text::{AbsPath, AbsPathBuf, PathError, RelPath, TryClone};
+use cases::{Case, Fault, List, Object, error_answer, optional_answer, text_answer};
 use serde_json::Value;
 use std::alloc::Global;
 use std::cmp::Ordering;
@@ -19,6 +20,7 @@ pub fn answer(alloc: Global, case: Case<'_>) -> Result<Value, Fault> {
 fn of_buf(alloc: Global, case: Case<'_>, call: &str, path: AbsPathBuf) -> Result<Value, Fault> {
     match call {
         "AbsPathBuf::pop" => popped(alloc, path),
+        "AbsPathBuf::try_clone" => copied(alloc, &path),
         _ => of_path(alloc, case, call, path.as_path()),
     }
 }
@@ -27,6 +29,18 @@ fn of_buf(alloc: Global, case: Case<'_>, call: &str, path: AbsPathBuf) -> Result
 fn popped(alloc: Global, mut path: AbsPathBuf) -> Result<Value, Fault> {
     let popped = path.pop();
     List::new(alloc).flag(popped).text(path.as_str()).answer()
+}
+
+// Whether a copy equals the path, owned and lent, whether the two are hashed alike, and what is printed of both.
+fn copied(alloc: Global, path: &AbsPathBuf) -> Result<Value, Fault> {
+    let copy = path.as_path().to_path_buf(alloc)?.try_clone(alloc)?;
+    let printed = format!(in alloc; "{path} {}", copy.as_path())?;
+    Object::new(alloc)
+        .flag("equal", *path == copy)
+        .flag("lent_equal", path.as_path() == copy.as_path())
+        .flag("hashed_alike", hash_of(path) == hash_of(&copy.as_path()))
+        .text("printed", printed.as_str())
+        .answer()
 }
 
 fn of_path(alloc: Global, case: Case<'_>, call: &str, path: AbsPath<'_>) -> Result<Value, Fault> {

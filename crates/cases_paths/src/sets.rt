@@ -1,12 +1,12 @@
 //! Sets of files: in which set a path belongs, and which file a relative path names.
 
 use crate::vfs_paths::vfs_path;
-use base_text::{Counter, Ledger, Steps};
-use cases::{Case, Fault, List, file_number_of, items_of, pair_of, text_of};
+use base_text::{Counter, Ledger, Steps, TryClone};
+use cases::{Case, Fault, List, Object, file_number_of, items_of, pair_of, text_of};
 use serde_json::Value;
 use std::alloc::{AllocError, Global};
 use vfs_core::{AnchoredPath, FileId, Vfs, VfsPath};
-use vfs_sets::{FileSet, FileSetConfig};
+use vfs_sets::{FileSet, FileSetConfig, FileSetConfigBuilder};
 
 /// What a call on sets gives.
 pub fn answer(alloc: Global, case: Case<'_>) -> Result<Value, Fault> {
@@ -15,19 +15,25 @@ pub fn answer(alloc: Global, case: Case<'_>) -> Result<Value, Fault> {
         "FileSetConfig::classify_counted" => classify_counted(alloc, case),
         "FileSetConfig::partition" => partition(alloc, case),
         "FileSetConfig::roots" => roots(alloc, &config(alloc, case)?),
+        "FileSetConfig::try_clone" => copied_config(alloc, case),
         "FileSet::resolve_path" => resolve(alloc, case),
+        "FileSet::try_clone" => copied_set(alloc, case),
         _ => Err(Fault::Call),
     }
 }
 
-// Roots of each set, as virtual paths.
 fn config(alloc: Global, case: Case<'_>) -> Result<FileSetConfig, Fault> {
+    Ok(builder(alloc, case)?.build()?)
+}
+
+// Roots of each set, as virtual paths.
+fn builder(alloc: Global, case: Case<'_>) -> Result<FileSetConfigBuilder, Fault> {
     let sets = case.list("roots")?;
     let mut builder = FileSetConfig::builder(alloc);
     for roots in sets {
         builder.add_file_set(paths(alloc, roots)?)?;
     }
-    Ok(builder.build()?)
+    Ok(builder)
 }
 
 fn paths(alloc: Global, roots: &Value) -> Result<Vec<VfsPath>, Fault> {
@@ -51,10 +57,39 @@ fn path_of(alloc: Global, case: Case<'_>) -> Result<VfsPath, Fault> {
 fn classify(alloc: Global, case: Case<'_>) -> Result<Value, Fault> {
     let path = path_of(alloc, case)?;
     let config = config(alloc, case)?;
-    match config.classify_path(&path) {
-        Some(set) => Ok(Value::from(set)),
-        None => Ok(Value::Null),
+    Ok(set_answer(&config, &path))
+}
+
+// The set that takes a path, or null.
+fn set_answer(config: &FileSetConfig, path: &VfsPath) -> Value {
+    match config.classify_path(path) {
+        Some(set) => Value::from(set),
+        None => Value::Null,
     }
+}
+
+// How many sets a copy of the builder has, which set takes a path by a copy of what that builds, and which one
+// without roots.
+fn copied_config(alloc: Global, case: Case<'_>) -> Result<Value, Fault> {
+    let path = path_of(alloc, case)?;
+    let builder = builder(alloc, case)?.try_clone(alloc)?;
+    let sets = builder.len() as u64;
+    let config = Box::new(alloc, builder.build()?)?;
+    Object::new(alloc)
+        .number("sets", sets)
+        .member("by_copy", set_by_copy(alloc, &config, &path))
+        .member("without_roots", set_without_roots(alloc, &path))
+        .answer()
+}
+
+fn set_by_copy(alloc: Global, config: &FileSetConfig, path: &VfsPath) -> Result<Value, Fault> {
+    let copy = Box::new(alloc, config.try_clone(alloc)?)?;
+    Ok(set_answer(&copy, path))
+}
+
+fn set_without_roots(alloc: Global, path: &VfsPath) -> Result<Value, Fault> {
+    let config = Box::new(alloc, FileSetConfig::new(alloc)?)?;
+    Ok(set_answer(&config, path))
 }
 
 // The set that takes a path, or the number of sets, and whether it was found in so many steps.
@@ -128,10 +163,15 @@ fn root_answer(alloc: Global, bytes: &[u8], set: u64) -> Result<Value, Fault> {
 // A set of files, each a number and a virtual path.
 fn set_of(alloc: Global, files: &[Value]) -> Result<FileSet, Fault> {
     let mut set = FileSet::new(alloc);
-    for pair in files {
-        insert(alloc, &mut set, pair)?;
-    }
+    insert_all(alloc, &mut set, files)?;
     Ok(set)
+}
+
+fn insert_all(alloc: Global, set: &mut FileSet, files: &[Value]) -> Result<(), Fault> {
+    for pair in files {
+        insert(alloc, set, pair)?;
+    }
+    Ok(())
 }
 
 fn insert(alloc: Global, set: &mut FileSet, pair: &Value) -> Result<(), Fault> {
@@ -140,6 +180,20 @@ fn insert(alloc: Global, set: &mut FileSet, pair: &Value) -> Result<(), Fault> {
     let path = virtual_path(alloc, path, "files")?;
     set.insert(FileId::from_raw(id), path)?;
     Ok(())
+}
+
+// Whether a copy equals the set, whether it still does once more files are in the set, and how many the set has then.
+fn copied_set(alloc: Global, case: Case<'_>) -> Result<Value, Fault> {
+    let (files, more) = (case.list("files")?, case.list("more")?);
+    let mut set = Box::new(alloc, set_of(alloc, files)?)?;
+    let copy = Box::new(alloc, set.try_clone(alloc)?)?;
+    let is_equal = *copy == *set;
+    insert_all(alloc, &mut set, more)?;
+    Object::new(alloc)
+        .flag("before", is_equal)
+        .flag("after", *copy == *set)
+        .number("files", set.len() as u64)
+        .answer()
 }
 
 // The number of the file that a path beside a file names.

@@ -1,11 +1,11 @@
-//! Paths of the virtual file system, real and virtual ones.
+//! Paths of the virtual file system, real and virtual ones, and paths beside a file.
 
 use crate::paths::order_answer;
-use base_text::{AbsPath, AbsPathBuf, PathError, RelPath};
-use cases::{Case, Fault, List, error_answer, optional_answer, text_answer};
+use base_text::{AbsPath, AbsPathBuf, FileId, PathError, RelPath, Text, TryClone};
+use cases::{Case, Fault, List, error_answer, file_number_of, optional_answer, text_answer};
 use serde_json::Value;
 use std::alloc::{AllocError, Global};
-use vfs_core::VfsPath;
+use vfs_core::{AnchoredPathBuf, VfsPath};
 
 /// What a call of a path gives.
 pub fn answer(alloc: Global, case: Case<'_>) -> Result<Value, Fault> {
@@ -13,6 +13,7 @@ pub fn answer(alloc: Global, case: Case<'_>) -> Result<Value, Fault> {
     match call {
         "VfsPath::new_real_path" => real(alloc, text),
         "VfsPath::from_abs" => from_abs(alloc, text),
+        "AnchoredPathBuf::try_clone" => copied_beside(alloc, case, text),
         _ => of_path(
             alloc,
             case,
@@ -55,6 +56,21 @@ fn from_abs(alloc: Global, text: &str) -> Result<Value, Fault> {
     text_answer(alloc, path.as_str())
 }
 
+// The path beside a file that a copy holds, and whether the copy equals what it was made of.
+fn copied_beside(alloc: Global, case: Case<'_>, text: &str) -> Result<Value, Fault> {
+    let anchor = file_number_of(case.member("anchor")?, "anchor")?;
+    let beside = AnchoredPathBuf {
+        anchor: FileId::from_raw(anchor),
+        path: Text::of_str(alloc, text)?,
+    };
+    let copy = beside.try_clone(alloc)?;
+    List::new(alloc)
+        .number(copy.anchor.index() as u64)
+        .text(copy.path.as_str())
+        .flag(copy == beside)
+        .answer()
+}
+
 fn of_path(alloc: Global, case: Case<'_>, call: &str, path: VfsPath) -> Result<Value, Fault> {
     match call {
         "VfsPath::pop" => popped(alloc, path),
@@ -82,8 +98,18 @@ fn of_ref(alloc: Global, case: Case<'_>, call: &str, path: &VfsPath) -> Result<V
         "VfsPath::parent" => path_answer(alloc, path.parent(alloc)),
         "VfsPath::as_path" => as_path(alloc, path),
         "VfsPath::name_and_extension" => name(alloc, path),
+        "VfsPath::try_clone" => copied(alloc, path),
         _ => of_two(alloc, case, call, path),
     }
+}
+
+// The text of a copy, and whether the copy equals the path.
+fn copied(alloc: Global, path: &VfsPath) -> Result<Value, Fault> {
+    let copy = path.try_clone(alloc)?;
+    List::new(alloc)
+        .text(copy.as_str())
+        .flag(copy == *path)
+        .answer()
 }
 
 fn path_answer(alloc: Global, path: Result<Option<VfsPath>, AllocError>) -> Result<Value, Fault> {

@@ -1,9 +1,11 @@
 //! What a database has of the files and roots below eight.
 
+use crate::agreement::is_copied;
 use base_text::FileId;
 use cases::{Fault, List, Object};
 use input_db::{
-    Durability, Files, InputDb, Nonce, SourceDatabase, SourceRoot, SourceRootId, all_crates,
+    Durability, FileText, Files, InputDb, Nonce, SourceDatabase, SourceRoot, SourceRootId,
+    all_crates,
 };
 use serde_json::Value;
 use std::alloc::Global;
@@ -28,8 +30,11 @@ fn files_and_roots(alloc: Global, db: &InputDb) -> Result<Value, Fault> {
         .answer()
 }
 
-// The local roots and those of libraries.
+// The local roots and those of libraries. Each list has to equal its copy.
 fn lists(alloc: Global, db: &InputDb) -> Result<Value, Fault> {
+    if !is_copied(alloc, db.local_roots())? || !is_copied(alloc, db.library_roots())? {
+        return Err(Fault::Condition);
+    }
     Object::new(alloc)
         .member("local", numbers(alloc, &db.local_roots().roots))
         .member("library", numbers(alloc, &db.library_roots().roots))
@@ -73,7 +78,14 @@ fn text(alloc: Global, files: &Files, id: FileId) -> Result<Value, Fault> {
     if !files.has_text(id) {
         return Ok(Value::Null);
     }
-    let text = files.file_text(id);
+    text_answer(alloc, files.file_text(id))
+}
+
+// A text, which has to equal its copy.
+fn text_answer(alloc: Global, text: &FileText) -> Result<Value, Fault> {
+    if !is_copied(alloc, text)? {
+        return Err(Fault::Condition);
+    }
     List::new(alloc)
         .text(text.text.as_str())
         .text(name_of(text.durability))

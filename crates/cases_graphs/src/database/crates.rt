@@ -2,9 +2,10 @@
 
 ghost use Rattle.std.specs.Prelude.{◌<◌, length};
 
-use base_text::{CfgAtom, CfgOptions, Edition, FileId, TryClone, write_cfg};
+use crate::database::roots::identity_with_data;
+use base_text::{CfgAtom, CfgOptions, Edition, FileId, write_cfg};
 use cases::{Fault, List, Object};
-use input_db::{Boxed, Crate, Durability, InputDb, SourceDatabase, UniqueCrateData, all_crates};
+use input_db::{Crate, Durability, InputDb, SourceDatabase, UniqueCrateData, all_crates};
 use serde_json::Value;
 use std::alloc::{AllocError, Global};
 
@@ -123,13 +124,7 @@ fn push_atom(alloc: Global, atoms: &mut String, atom: &CfgAtom) -> Result<(), Al
 fn with_data(alloc: Global, db: &InputDb, krate: Crate) -> Result<Option<Crate>, AllocError>
     requires { krate < length db.now.crates }
 {
-    let input = db.crate_input(krate);
-    let cfgs = input.cfg_options.try_clone(alloc)?;
-    let data = input.crate_data.try_clone(alloc)?;
-    let identity = UniqueCrateData {
-        root_file_id: input.crate_data.root_file_id,
-        disambiguator: Some(Boxed::new(alloc, (data, cfgs))?),
-    };
+    let identity = identity_with_data(alloc, db.crate_input(krate))?;
     Ok(db.crates_map().get(&identity))
 }
 

@@ -1,16 +1,17 @@
-//! What is asked of the crates of a database: which are in a source root, which reach one, and the channel of a toolchain.
+//! What is asked of the crates of a database: which are in a source root, which reach one, the channel of a toolchain, and how
+//! identities and inputs compare.
 
 use crate::database::changes::make_given;
 use crate::database::graphs::store_one;
-use base_text::FileId;
-use cases::{Case, Fault, List, Object, file_number_of, number_of, optional_answer};
+use base_text::{FileId, TryClone};
+use cases::{Case, Fault, List, Object, file_number_of, number_of, optional_answer, texts_of_pair};
 use crate_graph::ReleaseChannel;
 use input_db::{
-    Crate, InputDb, Nonce, SourceDatabase, SourceRootId, crates_have_source_roots, relevant_crates,
-    source_root_crates, toolchain_channel,
+    Boxed, Crate, CrateInput, InputDb, Nonce, SourceDatabase, SourceRootId, UniqueCrateData,
+    crates_have_source_roots, relevant_crates, source_root_crates, toolchain_channel,
 };
 use serde_json::Value;
-use std::alloc::Global;
+use std::alloc::{AllocError, Global};
 
 /// What a call gives of a database that a change was made to. Crates are named by their places in the graph.
 pub fn answer(alloc: Global, case: Case<'_>) -> Result<Value, Fault> {
@@ -64,8 +65,65 @@ fn ask_of_crate(
     match case.text("call")? {
         "transitive_rev_deps" => reaching(alloc, db, crates, *krate),
         "toolchain_channel" => channel(alloc, db, *krate),
+        _ => ask_of_input(alloc, db, *krate, case),
+    }
+}
+
+// What is asked of what a database holds of a crate.
+fn ask_of_input(alloc: Global, db: &InputDb, krate: Crate, case: Case<'_>) -> Result<Value, Fault> {
+    if !db.has_crate(krate) {
+        return Err(Fault::Condition);
+    }
+    match case.text("call")? {
+        "UniqueCrateData::cmp" => identities(alloc, db.crate_input(krate)),
+        "CrateInput::eq" => inputs(alloc, db.crate_input(krate), case),
         _ => Err(Fault::Call),
     }
+}
+
+// Whether the identity of a root file alone comes before that with the data of the crate, and whether a copy of the
+// latter equals it.
+fn identities(alloc: Global, input: &CrateInput) -> Result<Value, Fault> {
+    let of_file = UniqueCrateData {
+        root_file_id: input.crate_data.root_file_id,
+        disambiguator: None,
+    };
+    let with_data = identity_with_data(alloc, input)?;
+    List::new(alloc)
+        .flag(of_file < with_data)
+        .flag(with_data.try_clone(alloc)? == with_data)
+        .answer()
+}
+
+/// The identity of a crate's root file with its data and its atoms.
+pub fn identity_with_data(
+    alloc: Global,
+    input: &CrateInput,
+) -> Result<UniqueCrateData, AllocError> {
+    let cfgs = input.cfg_options.try_clone(alloc)?;
+    let data = input.crate_data.try_clone(alloc)?;
+    Ok(UniqueCrateData {
+        root_file_id: input.crate_data.root_file_id,
+        disambiguator: Some(Boxed::new(alloc, (data, cfgs))?),
+    })
+}
+
+// Whether a copy of what is held of a crate equals it, before and after a variable is set in the copy.
+fn inputs(alloc: Global, input: &CrateInput, case: Case<'_>) -> Result<Value, Fault> {
+    let (name, value) = texts_of_pair(case.member("set")?, "set")?;
+    let mut copy = Box::new(alloc, input.try_clone(alloc)?)?;
+    let is_equal = *copy == *input;
+    set(alloc, &mut copy, name, value)?;
+    List::new(alloc)
+        .flag(is_equal)
+        .flag(*copy == *input)
+        .answer()
+}
+
+fn set(alloc: Global, input: &mut CrateInput, name: &str, value: &str) -> Result<(), AllocError> {
+    let name = String::from_str(alloc, name)?;
+    let value = String::from_str(alloc, value)?;
+    input.env.set(name, value)
 }
 
 // The place that a case gives.

@@ -1,0 +1,30 @@
+//! Values that are compared, hashed and copied at their bounds.
+
+use base_text::TryClone;
+use cases::{Fault, List};
+use serde_json::Value;
+use std::alloc::{AllocError, Global};
+use std::hash::{DefaultHasher, Hash, Hasher};
+
+/// Whether two values are hashed alike, compare as equal, and are equal.
+pub fn agreement_answer<T: Ord + Hash>(alloc: Global, left: &T, right: &T) -> Result<Value, Fault> {
+    List::new(alloc)
+        .flag(hash_of(left) == hash_of(right))
+        .flag(left.cmp(right).is_eq())
+        .flag(left == right)
+        .answer()
+}
+
+/// Whether a value equals its copy.
+pub fn is_copied<T: TryClone + PartialEq + Drop>(
+    alloc: Global,
+    value: &T,
+) -> Result<bool, AllocError> {
+    Ok(value.try_clone(alloc)? == *value)
+}
+
+fn hash_of<T: Hash>(value: &T) -> u64 {
+    let mut hasher = DefaultHasher::new();
+    value.hash(&mut hasher);
+    hasher.finish()
+}
