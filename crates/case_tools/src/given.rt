@@ -2,7 +2,7 @@
 
 use base_text::{ByText, RecordedRunner, Text};
 use case_lines::{absolute, optional_path, runner_of, variable_of, variables};
-use cases::{Case, Fault, text_of};
+use cases::{Case, Fault, List, text_of};
 use crate_values::Env;
 use pm_config::Tools;
 use pm_sysroot::{Ask, Sysroot};
@@ -99,6 +99,15 @@ fn set(alloc: Global, env: &mut Env, variable: &Value) -> Result<(), Fault> {
     let value = String::from_str(alloc, value.unwrap_or(""))?;
     env.set(String::from_str(alloc, name)?, value)?;
     Ok(())
+}
+
+/// An environment as it is compared: its variables with their values.
+pub fn env_answer(alloc: Global, env: &Env) -> Result<Value, Fault> {
+    let mut pairs = List::new(alloc);
+    for (name, value) in env.iter() {
+        pairs = pairs.item(List::new(alloc).text(name).text(value).answer());
+    }
+    pairs.answer()
 }
 
 fn tree_of(alloc: Global, files: &[Value]) -> Result<MemoryTree, Fault> {

@@ -1,26 +1,24 @@
-//! Cases of projects: what documents of Cargo workspaces and of JSON projects are read as, how projects are loaded, the graphs that
-//! they are lowered to and the roots of their packages, and what the tools of a toolchain are asked and answer.
+//! Cases of projects: what documents of Cargo workspaces are read as, how projects are loaded, the graphs that they are lowered to and
+//! the roots of their packages, and how they are built.
 #![tactic(auto)]
 
 mod given;
 mod graphs;
-mod json;
 mod loaders;
 mod lowerings;
 mod project_builds;
 mod projects;
 mod roots;
-mod toolchain;
 mod values;
+mod workspace_builds;
 mod workspaces;
 
 use cases::{Case, Family, Fault, run_files};
 use serde_json::Value;
-use std::alloc::Global;
 use std::io;
 use std::process::ExitCode;
 
-/// The calls of the libraries that read projects and ask for what they are made of.
+/// The calls of the libraries that read, load, lower and build projects.
 struct ProjectFamily;
 
 impl<R: AllocGlobal> Family<R> for ProjectFamily {
@@ -33,17 +31,11 @@ impl<R: AllocGlobal> Family<R> for ProjectFamily {
             "projects.jsonl" => projects::answer(alloc, case),
             "project_builds.jsonl" => project_builds::answer(alloc, case),
             "roots.jsonl" => roots::answer(alloc, case),
-            _ => of_others(alloc, file, case),
+            "build_questions.jsonl" => workspace_builds::build_questions::answer(alloc, case),
+            "builds.jsonl" => workspace_builds::builds::answer(alloc, case),
+            "outputs.jsonl" => workspace_builds::outputs::answer(alloc, case),
+            _ => Err(Fault::Kind),
         }
-    }
-}
-
-// What a case of JSON projects or of toolchains gives.
-fn of_others(alloc: Global, file: &str, case: Case<'_>) -> Result<Value, Fault> {
-    match file {
-        "json_documents.jsonl" => json::documents::answer(alloc, case),
-        "json_projects.jsonl" => json::projects::answer(alloc, case),
-        _ => toolchain::answer(alloc, file, case),
     }
 }
 

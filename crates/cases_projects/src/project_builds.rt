@@ -2,9 +2,9 @@
 
 use crate::given::{Given, configure};
 use crate::projects::{asked, load_project};
-use crate::toolchain::build_config::command_of;
-use crate::toolchain::outputs::{refusal_answer, result_answer};
 use crate::values::{manifest_of, path_of};
+use crate::workspace_builds::build_config::command_of;
+use crate::workspace_builds::outputs::{refusal_answer, result_answer};
 use base_text::TryClone;
 use case_lines::output_of;
 use case_tools::Lines;

@@ -1,10 +1,9 @@
 //! Builds of workspaces: the question, and what its recorded answer gives.
 
-use crate::toolchain::build_config::config_of;
-use crate::toolchain::given::given_of;
-use crate::toolchain::outputs::given_answer;
-use crate::toolchain::workspace::workspace_of;
-use case_tools::{Given, Lines, optional_version};
+use crate::workspace_builds::build_config::config_of;
+use crate::workspace_builds::outputs::given_answer;
+use crate::workspace_builds::workspace::workspace_of;
+use case_tools::{Given, Lines, given_of, optional_version};
 use cases::{Case, Fault};
 use pm_build::WorkspaceBuildScripts;
 use pm_cargo::CargoWorkspace;

@@ -1,8 +1,7 @@
 //! What is configured, and what versions allow.
 
-use crate::toolchain::answers::atoms_answer;
 use base_text::{ByText, CfgAtom, CfgDiff, CfgOptions, Items, Text, TryClone, Version, parse_cfg};
-use case_lines::{optional_path, texts, variables};
+use case_lines::{atoms_answer, optional_path, texts, variables};
 use case_tools::{features_of, optional_version, version_of};
 use cases::{Case, Fault, items_of, optional_answer, pair_of, text_of};
 use pm_config::{

@@ -1,9 +1,9 @@
 //! What is known of a toolchain by the answers of its tools.
 
-use crate::toolchain::answers::{atoms_answer, machine_answer, version_answer};
-use crate::toolchain::placed_given::PlacedGiven;
+use crate::answers::{machine_answer, version_answer};
+use crate::placed_given::PlacedGiven;
 use base_text::TryClone;
-use case_lines::texts_answer;
+use case_lines::{atoms_answer, texts_answer};
 use case_tools::{CaseAsk, optional_version};
 use cases::{Case, Fault, Object, error_answer};
 use serde_json::Value;

@@ -1,9 +1,8 @@
 //! Questions to the tools of a toolchain, and what is made of their answers.
 
-use crate::toolchain::given::{given_of, tool_of};
 use base_text::{AbsPath, AbsPathBuf, CommandLine, Text, TryClone};
 use case_lines::{line_answer, line_of, optional_path};
-use case_tools::{Given, env_of, manifest_of};
+use case_tools::{Given, env_of, given_of, manifest_of, tool_of};
 use cases::{Case, Fault, Object, optional_answer, text_answer};
 use pm_sysroot::{Sysroot, serving_answer, set_variable, words_of};
 use pm_tools::CargoConfigFile;
@@ -47,11 +46,8 @@ fn sysroot(alloc: Global, sysroot: &Sysroot) -> Result<Value, Fault> {
         .answer()
 }
 
-/// The command line of a question.
-pub fn question_answer(
-    alloc: Global,
-    line: Result<CommandLine, AllocError>,
-) -> Result<Value, Fault> {
+// The command line of a question.
+fn question_answer(alloc: Global, line: Result<CommandLine, AllocError>) -> Result<Value, Fault> {
     line_answer(alloc, &line?)
 }
 

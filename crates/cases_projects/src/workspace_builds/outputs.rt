@@ -1,11 +1,9 @@
 //! What a build's output gives packages.
 
-use crate::toolchain::answers::atoms_answer;
-use crate::toolchain::environments::env_answer;
-use crate::toolchain::workspace::workspace_of;
+use crate::workspace_builds::workspace::workspace_of;
 use base_text::{AbsPathBuf, Output, TryClone};
-use case_lines::output_of;
-use case_tools::Lines;
+use case_lines::{atoms_answer, output_of};
+use case_tools::{Lines, env_answer};
 use cases::{Case, Fault, List, Object, text_answer};
 use pm_build::{BuildError, BuildScriptOutput, ProcMacroDylibPath, WorkspaceBuildScripts};
 use pm_cargo::CargoWorkspace;

@@ -1,6 +1,7 @@
 //! What answers say.
 
-use base_text::{CfgAtom, TryClone, Version, write_cfg};
+use base_text::{TryClone, Version};
+use case_lines::atoms_answer;
 use cases::{Case, Fault, List, optional_answer};
 use crate_values::target::{Arch, TargetData};
 use serde_json::Value;
@@ -52,19 +53,6 @@ pub fn version_answer(alloc: Global, version: Option<&Version>) -> Result<Value,
         Some(version) => Ok(Value::String(version.as_version().to_string(alloc)?)),
         None => Ok(Value::Null),
     }
-}
-
-/// Atoms as their texts.
-pub fn atoms_answer(alloc: Global, atoms: &[CfgAtom]) -> Result<Value, Fault> {
-    let mut texts = List::new(alloc);
-    for atom in atoms {
-        texts = texts.item(atom_answer(alloc, atom));
-    }
-    texts.answer()
-}
-
-fn atom_answer(alloc: Global, atom: &CfgAtom) -> Result<Value, Fault> {
-    Ok(Value::String(write_cfg(alloc, atom)?))
 }
 
 /// The kind of a machine and its layout.

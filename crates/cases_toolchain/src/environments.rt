@@ -1,9 +1,8 @@
 //! The environments that configurations give.
 
-use crate::toolchain::given::given_of;
-use crate::toolchain::origins::text_of_lines;
-use cases::{Case, Fault, List};
-use crate_values::Env;
+use crate::origins::text_of_lines;
+use case_tools::{env_answer, given_of};
+use cases::{Case, Fault};
 use pm_tools::{CargoConfigFile, cargo_config_env};
 use serde_json::Value;
 use std::alloc::Global;
@@ -25,13 +24,4 @@ fn config_of(alloc: Global, case: Case<'_>) -> Result<Option<CargoConfigFile>, F
     }
     let text = text_of_lines(alloc, case.list("lines")?)?;
     Ok(Some(CargoConfigFile::from_text(text)))
-}
-
-/// An environment as it is compared: its variables with their values.
-pub fn env_answer(alloc: Global, env: &Env) -> Result<Value, Fault> {
-    let mut pairs = List::new(alloc);
-    for (name, value) in env.iter() {
-        pairs = pairs.item(List::new(alloc).text(name).text(value).answer());
-    }
-    pairs.answer()
 }

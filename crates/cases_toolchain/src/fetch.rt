@@ -1,7 +1,7 @@
 //! Fetching metadata from recorded answers.
 
-use crate::toolchain::config::metadata_config;
-use crate::toolchain::tools::root_of;
+use crate::config::metadata_config;
+use crate::tools::root_of;
 use base_text::{RecordedRunner, TryClone};
 use cargo_meta::{Error, Metadata};
 use case_lines::{absolute, line_answer, runner_of};

@@ -1,6 +1,6 @@
 //! The values of a printed configuration.
 
-use crate::toolchain::origins::{item_of_case, keys_of_case, root_answer, text_of_case};
+use crate::origins::{item_of_case, keys_of_case, root_answer, text_of_case};
 use base_text::Text;
 use cases::{Case, Fault, text_answer};
 use pm_tools::CargoConfigFile;

@@ -1,8 +1,7 @@
-//! What a case gives: a toolchain whose tools have names of their own, so that they are not taken for the words of a
-//! question.
+//! A toolchain whose tools have names of their own, so that they are not taken for the words of a question.
 
+use crate::given::Given;
 use base_text::Text;
-use case_tools::Given;
 use cases::{Case, Fault};
 use pm_config::{Tool, Tools};
 use std::alloc::{AllocError, Global};

@@ -1,12 +1,10 @@
 //! The question by which a workspace is built.
 
-use crate::toolchain::build_config::{command_of, config_of};
-use crate::toolchain::given::given_of;
-use crate::toolchain::questions::question_answer;
-use crate::toolchain::workspace::workspace_of;
+use crate::workspace_builds::build_config::{command_of, config_of};
+use crate::workspace_builds::workspace::workspace_of;
 use base_text::CommandLine;
 use case_lines::{absolute, line_answer};
-use case_tools::{Given, optional_version};
+use case_tools::{Given, given_of, optional_version};
 use cases::{Case, Fault};
 use pm_build_question::{build_question, configured_question};
 use pm_cargo::CargoWorkspace;
@@ -40,8 +38,8 @@ fn of_config(
 ) -> Result<Value, Fault> {
     let version = optional_version(alloc, case)?;
     let (sysroot, version) = (&given.sysroot, version.as_ref());
-    let line = build_question(alloc, config, workspace, sysroot, version, &given.ask());
-    question_answer(alloc, line)
+    let line = build_question(alloc, config, workspace, sysroot, version, &given.ask())?;
+    line_answer(alloc, &line)
 }
 
 // The configured command in a directory.
