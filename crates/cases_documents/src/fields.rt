@@ -1,9 +1,9 @@
 //! Documents by tables: what is written of what was read, or the first place that does not fit.
 
+use crate::release::Release;
 use base_text::{ByText, Items, Text};
 use cases::{Case, Fault, error_answer, missed_answer};
 use json_fields::{BareError, Json, ReadError, Version, bare_version, of_text};
-use json_fields_tests::release::Release;
 use serde_json::Value;
 use std::alloc::{AllocError, Global};
 

@@ -10,6 +10,7 @@ mod metadata;
 mod names;
 mod packages;
 mod recursive;
+mod release;
 mod streams;
 mod values;
 

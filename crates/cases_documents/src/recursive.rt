@@ -4,14 +4,12 @@
 use cargo_diagnostics::{Diagnostic, DiagnosticSpan};
 use cases::{Case, Fault, missed_answer};
 use json_fields::{Json, ReadError, of_text};
-use json_fields_tests::project::Project;
 use serde_json::Value;
 use std::alloc::Global;
 
 /// What a call on a document gives.
 pub fn answer(alloc: Global, case: Case<'_>) -> Result<Value, Fault> {
     match case.text("call")? {
-        "Project" => round_trip::<Project>(alloc, case.text("text")?),
         "Diagnostic" => round_trip::<Diagnostic>(alloc, case.text("text")?),
         "Span" => round_trip::<DiagnosticSpan>(alloc, case.text("text")?),
         _ => Err(Fault::Call),

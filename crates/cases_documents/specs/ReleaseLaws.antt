@@ -7,7 +7,7 @@ use Rattle.json_fields.specs.Laws.RoundTrips.{AreWithin, and_then, any-round_tri
 use Rattle.json_fields.specs.Laws.TextForms.{bare-round_trips, requirement-round_trips, version-round_trips}
 use Rattle.json_fields.specs.RoundTrip.{RoundTrips}
 use Rattle.json_fields.specs.Written.{set_member}
-use Rattle.json_fields_tests.specs.Release.{release_at, release_data}
+use Rattle.cases_documents.specs.Release.{release_at, release_data}
 
 -- a release is read again from what is written of it
 pub release-round_trips : RoundTrips release_at release_data 2

@@ -23,7 +23,7 @@ pub struct Release {
 
 #[tactic(auto, unfolding(crate::specs::Release::release_at, json_fields::specs::Fields::required, json_fields::specs::Fields::optional, json_fields::specs::Fields::defaulted))]
 impl ReadJson for Release {
-    ghost use Rattle.json_fields_tests.specs.Release.{release_at};
+    ghost use Rattle.cases_documents.specs.Release.{release_at};
 
     ghost reads = { release_at };
 
@@ -45,8 +45,8 @@ impl ReadJson for Release {
 
 #[tactic(auto, unfolding(crate::specs::Release::release_data, json_fields::specs::Written::set_member))]
 impl Json for Release {
-    ghost use Rattle.json_fields_tests.specs.Release.{release_data};
-    ghost use Rattle.json_fields_tests.specs.ReleaseLaws.{release-round_trips};
+    ghost use Rattle.cases_documents.specs.Release.{release_data};
+    ghost use Rattle.cases_documents.specs.ReleaseLaws.{release-round_trips};
 
     ghost writes = { release_data };
 

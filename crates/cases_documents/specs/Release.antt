@@ -5,7 +5,7 @@ use Rattle.json_fields.specs.Fields.{any_at, defaulted, flag_at, list_at, map_at
 use Rattle.json_fields.specs.Outcome.{Reading, ◌>>=◌}
 use Rattle.json_fields.specs.Versions.{bare_at, requirement_at, version_at, version_data}
 use Rattle.json_fields.specs.Written.{list_data, map_data, option_data, set_member}
-use Rattle.json_fields_tests.specs.declared.release.Release.{Release}
+use Rattle.cases_documents.specs.declared.release.Release.{Release}
 
 -- a release as its document gives it
 unfoldable pub release_at : Data → Reading Release

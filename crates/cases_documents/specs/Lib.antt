@@ -1,4 +1,2 @@
 pub mod Release
 pub mod ReleaseLaws
-pub mod Project
-pub mod ProjectLaws
