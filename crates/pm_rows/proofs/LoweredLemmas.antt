@@ -1,8 +1,7 @@
--- How the crates of a graph follow the rows and the edges that are kept.
-use Rattle.std.proofs.Common.{◌≡◌, ◌↔◌, ℕ, zero, suc, ◌+◌, ◌<◌, List, [], ◌∷◌, ◌++◌, map, length, get_or, set, Some, slice_get, refl, sym, ap, ◌∙◌, subst, arith}
-use Rattle.std.specs.List.{All, Contains}
+-- How the crates of a graph follow the edges that are kept.
+use Rattle.std.proofs.Common.{◌≡◌, ◌↔◌, ℕ, zero, suc, ◌+◌, ◌<◌, List, [], ◌∷◌, ◌++◌, map, length, get_or, drop, set, Some, slice_get, refl, sym, ap, ◌∙◌, subst, arith}
+use Rattle.std.specs.List.{All, Contains, range_with_len}
 use Rattle.std.proofs.lemmas.List.{length-map, map-append, map-set}
-use Rattle.std.proofs.lemmas.List.FromFn.{get_or-range_with_len}
 use Rattle.std.proofs.lemmas.List.Elements.{All-contains}
 use Rattle.base_text.specs.declared.arena.Idx.{Idx}
 use Rattle.graph_base.specs.Reach.{Reaches}
@@ -14,7 +13,8 @@ use Rattle.crate_values.specs.declared.crate_data.Dependency.{Dependency}
 use Rattle.crate_values.specs.declared.workspace_data.CrateWorkspaceData.{CrateWorkspaceData}
 use Rattle.pm_cargo.specs.Workspace.{Workspace}
 use Rattle.graph_base.specs.EdgeList as graph
-use Rattle.pm_rows.specs.Gathering.{AreLowered, AreNumbered}
+use Rattle.pm_rows.specs.Gathering.{AreNumbered}
+use Rattle.pm_rows.specs.Keeping.{AreLowered, with_deps}
 use Rattle.pm_rows.specs.KeptEdges.{ClosesCycle, IsWithin, deps_of, ends}
 use Rattle.pm_rows.specs.Lowering.{Crate, HasDep, LacksCyclesAlone, crate_of, crate_seen, dep_seen}
 use Rattle.pm_rows.specs.Rows.{Row}
@@ -35,31 +35,50 @@ got [] i x d is = cc
 got (y ∷ ys) zero x d is = cc
 got (y ∷ ys) (suc i) x d is = got ys i x d is
 
-got_within : {A : Type 0} (xs : List A) (i : ℕ) (x : A) → slice_get xs i ≡ Some x → i < length xs
-got_within [] i x is = cc
-got_within (y ∷ ys) zero x is = omega arith
-got_within (y ∷ ys) (suc i) x is = let h : i < length ys = got_within ys i x is in omega arith
+-- ---- crates with the dependencies that edges give them
 
--- the number of a row is its place
-pub number_at : (rows : List Row) (i : ℕ) (r : Row) → AreNumbered rows → slice_get rows i ≡ Some r → r.number ≡ i
-number_at rows i r numbers is =
-    let within : i < length rows = got_within rows i r is in
-    sym (got (map (λ (x : Row). x.number) rows) i r.number 0 (slice_get_map (λ (x : Row). x.number) rows i r is)) ∙ ap (λ ns. get_or ns i 0) numbers
-    ∙ get_or-range_with_len 0 (length rows) i 0 within ∙ (let zero-plus : 0 + i ≡ i = omega arith in zero-plus)
+-- a crate with other dependencies
+with_these : Crate → List Dep → Crate
+with_these c ds = record c { deps = ds }
 
--- a list that is mapped anew at one place
-module _ {A B : Type 0} (f g : A → B) where
-  mapped_same : (xs : List A) → ((j : ℕ) (x : A) → slice_get xs j ≡ Some x → g x ≡ f x) → map f xs ≡ map g xs
-  mapped_same [] same = refl
-  mapped_same (x ∷ xs) same = ap (λ y. y ∷ map f xs) (sym (same 0 x refl)) ∙ ap (λ ys. g x ∷ ys) (mapped_same xs (λ j y is. same (suc j) y is))
+pub length-with_deps : (kept : List Edge) (n : ℕ) (bare : List Crate) → length (with_deps kept n bare) ≡ length bare
+length-with_deps kept n [] = refl
+length-with_deps kept n (c ∷ cs) = ap suc (length-with_deps kept (n + 1) cs)
 
-  mapped_but_one : (xs : List A) (i : ℕ) (x : A) (b : B) → slice_get xs i ≡ Some x → g x ≡ b → ((j : ℕ) (y : A) → (j ≡ i → ⊥) → slice_get xs j ≡ Some y → g y ≡ f y) → set (map f xs) i b ≡ map g xs
-  mapped_but_one [] i x b is at others = cc
-  mapped_but_one (y ∷ ys) zero x b is at others =
-      let same : y ≡ x = cc in
-      ap (λ z. z ∷ map f ys) (sym at ∙ ap g (sym same)) ∙ ap (λ zs. g y ∷ zs) (mapped_same ys (λ j z there. others (suc j) z (λ e. cc) there))
-  mapped_but_one (y ∷ ys) (suc i) x b is at others =
-      ap (λ z. z ∷ set (map f ys) i b) (sym (others 0 y (λ e. cc) refl)) ∙ ap (λ zs. g y ∷ zs) (mapped_but_one ys i x b is at (λ j z apart there. others (suc j) z (λ e. apart (omega arith)) there))
+deps_at : (kept : List Edge) (n i : ℕ) (bare : List Crate) (c : Crate) → slice_get bare i ≡ Some c → slice_get (with_deps kept n bare) i ≡ Some (with_these c (deps_of kept (n + i)))
+unfolding with_these
+deps_at kept n i [] c is = cc
+deps_at kept n zero (x ∷ xs) c is =
+    let same : x ≡ c = cc in
+    ap (λ y. Some (with_these y (deps_of kept n))) same ∙ ap (λ m. Some (with_these c (deps_of kept m))) (let e : n ≡ n + zero = omega arith in e)
+deps_at kept n (suc i) (x ∷ xs) c is = deps_at kept (n + 1) i xs c is ∙ ap (λ m. Some (with_these c (deps_of kept m))) (let e : (n + 1) + i ≡ n + suc i = omega arith in e)
+
+targets_from : (kept : List Edge) (n : ℕ) (bare : List Crate) → map (λ (c : Crate). map (λ (d : Dep). d.target) c.deps) (with_deps kept n bare) ≡ map (graph.targets_of (map ends kept)) (range_with_len n (length bare))
+targets_from kept n [] = refl
+targets_from kept n (c ∷ cs) =
+    ap (λ ts. ts ∷ map (λ (x : Crate). map (λ (d : Dep). d.target) x.deps) (with_deps kept (n + 1) cs)) (sym (targets_are kept n))
+    ∙ ap (λ tss. graph.targets_of (map ends kept) n ∷ tss) (targets_from kept (n + 1) cs)
+
+-- the edges of the graph are the kept ones
+pub edges_are : (bare : List Crate) (kept : List Edge) (crates : List CrateBuilder) → map crate_seen crates ≡ with_deps kept 0 bare → edges crates ≡ edges_graph (length bare) kept
+edges_are bare kept crates are =
+    let targets : Crate → List ℕ = λ c. map (λ (d : Dep). d.target) c.deps in
+    sym (map_map targets crate_seen row_of (λ krate. map_map (λ (d : Dep). d.target) dep_seen target_of (λ d. refl) krate.basic.dependencies) crates)
+    ∙ ap (map targets) are ∙ targets_from kept 0 bare
+
+pub length_lowered : (bare : List Crate) (kept : List Edge) (crates : List CrateBuilder) → map crate_seen crates ≡ with_deps kept 0 bare → length crates ≡ length bare
+length_lowered bare kept crates are = sym (length-map crates crate_seen) ∙ ap length are ∙ length-with_deps kept 0 bare
+
+-- the crate of a graph at a place has the dependencies of its number
+seen_at : (bare : List Crate) (kept : List Edge) (crates : List CrateBuilder) (i : ℕ) (krate : CrateBuilder) (c : Crate)
+    → map crate_seen crates ≡ with_deps kept 0 bare → slice_get crates i ≡ Some krate → slice_get bare i ≡ Some c → crate_seen krate ≡ with_these c (deps_of kept i)
+seen_at bare kept crates i krate c are there bare_there =
+    let same : Some (crate_seen krate) ≡ Some (with_these c (deps_of kept (0 + i))) = sym (slice_get_map crate_seen crates i krate there) ∙ ap (λ cs. slice_get cs i) are ∙ deps_at kept 0 i bare c bare_there in
+    let zero-plus : 0 + i ≡ i = omega arith in
+    let seen : crate_seen krate ≡ with_these c (deps_of kept (0 + i)) = cc in
+    seen ∙ ap (λ m. with_these c (deps_of kept m)) zero-plus
+
+-- ---- one edge more
 
 dep_more : Crate → Dep → Crate
 dep_more c d = record c { deps = c.deps ++ d ∷ [] }
@@ -68,95 +87,105 @@ seen_more : (krate : CrateBuilder) (dep : Dependency (Idx CrateTag)) → crate_s
 unfolding dep_more
 seen_more krate dep = ap (λ ds. record (crate_seen krate) { deps = ds }) (map-append dep_seen krate.basic.dependencies (dep ∷ []))
 
+module _ (kept : List Edge) (e : Edge) where
+  deps_past : (n : ℕ) (bare : List Crate) → e.source < n → with_deps kept n bare ≡ with_deps (kept ++ e ∷ []) n bare
+  deps_past n [] past = refl
+  deps_past n (c ∷ cs) past =
+      ap (λ ds. record c { deps = ds } ∷ with_deps kept (n + 1) cs) (sym (deps_of-push_other kept e n (λ is. omega (arith, is, past))))
+      ∙ ap (λ xs. record c { deps = deps_of (kept ++ e ∷ []) n } ∷ xs) (deps_past (n + 1) cs (omega (arith, past)))
+
+  deps_set : (n i : ℕ) (bare : List Crate) (c b : Crate) → n + i ≡ e.source → slice_get bare i ≡ Some c → b ≡ dep_more (with_these c (deps_of kept e.source)) e.dep
+      → set (with_deps kept n bare) i b ≡ with_deps (kept ++ e ∷ []) n bare
+  unfolding with_these dep_more
+  deps_set n i [] c b at is b_is = cc
+  deps_set n zero (x ∷ xs) c b at is b_is =
+      let same : c ≡ x = cc in
+      let here : e.source ≡ n = omega (arith, at) in
+      let deps : deps_of kept e.source ++ e.dep ∷ [] ≡ deps_of (kept ++ e ∷ []) n = sym (deps_of-push_same kept e) ∙ ap (deps_of (kept ++ e ∷ [])) here in
+      let head : b ≡ with_these x (deps_of (kept ++ e ∷ []) n) =
+      b_is ∙ ap (λ y. with_these y (deps_of kept e.source ++ e.dep ∷ [])) same ∙ ap (with_these x) deps in
+      ap (λ y. y ∷ with_deps kept (n + 1) xs) head
+      ∙ ap (λ ys. record x { deps = deps_of (kept ++ e ∷ []) n } ∷ ys) (deps_past (n + 1) xs (omega (arith, here)))
+  deps_set n (suc i) (x ∷ xs) c b at is b_is =
+      ap (λ ds. record x { deps = ds } ∷ set (with_deps kept (n + 1) xs) i b) (sym (deps_of-push_other kept e n (λ same. omega (arith, same, at))))
+      ∙ ap (λ ys. record x { deps = deps_of (kept ++ e ∷ []) n } ∷ ys) (deps_set (n + 1) i xs c b (omega (arith, at)) is b_is)
+
+module _ (bare : List Crate) (want : List Edge) (old new : List CrateBuilder) (e : Edge) (from : ℕ) (dep : Dependency (Idx CrateTag))
+    (low : AreLowered bare want old) (from_is : from ≡ e.source) (dep_is : dep_seen dep ≡ e.dep) where
+  closes_in_graph : Reaches (edges old) (target_of dep) from → ClosesCycle (length bare) low.kept e
+  closes_in_graph r =
+      let r1 = subst (λ g. Reaches g (target_of dep) from) (edges_are bare low.kept old low.crates_are) r in
+      let r2 = subst (λ d. Reaches (edges_graph (length bare) low.kept) d.target from) dep_is r1 in
+      subst (λ n. Reaches (edges_graph (length bare) low.kept) e.dep.target n) from_is r2
+
+  reaches_in_graph : ClosesCycle (length bare) low.kept e → Reaches (edges old) (target_of dep) from
+  reaches_in_graph r =
+      let r1 = subst (λ n. Reaches (edges_graph (length bare) low.kept) e.dep.target n) (sym from_is) r in
+      let r2 = subst (λ d. Reaches (edges_graph (length bare) low.kept) d.target from) (sym dep_is) r1 in
+      subst (λ g. Reaches g (target_of dep) from) (sym (edges_are bare low.kept old low.crates_are)) r2
+
+  crates_with : e.source < length bare → HasDependency old new from dep → map crate_seen new ≡ with_deps (low.kept ++ e ∷ []) 0 bare
+  crates_with within has =
+      let long : from < length old = omega (arith, length_lowered bare low.kept old low.crates_are, from_is, within) in
+      let krate = slice_get_some old from long in
+      let c = slice_get_some bare e.source within in
+      let bare_there : slice_get bare from ≡ Some c.0 = ap (slice_get bare) from_is ∙ c.1 in
+      let seen : crate_seen krate.0 ≡ with_these c.0 (deps_of low.kept e.source) = seen_at bare low.kept old from krate.0 c.0 low.crates_are krate.1 bare_there ∙ ap (λ n. with_these c.0 (deps_of low.kept n)) from_is in
+      let more : crate_seen (with_dependency krate.0 dep) ≡ dep_more (with_these c.0 (deps_of low.kept e.source)) e.dep =
+      seen_more krate.0 dep ∙ ap (dep_more (crate_seen krate.0)) dep_is ∙ ap (λ x. dep_more x e.dep) seen in
+      ap (map crate_seen) (has krate.0 krate.1) ∙ map-set crate_seen old from (with_dependency krate.0 dep) ∙ ap (λ cs. set cs from (crate_seen (with_dependency krate.0 dep))) low.crates_are
+      ∙ deps_set low.kept e 0 from bare c.0 (crate_seen (with_dependency krate.0 dep)) (omega (arith, from_is)) bare_there more
+
+  -- the edge closes no cycle and is kept
+  pub lowered_kept : e.source < length bare → (Reaches (edges old) (target_of dep) from → ⊥) → HasDependency old new from dep → AreLowered bare (want ++ e ∷ []) new
+  lowered_kept within apart has = record {
+    kept = low.kept ++ e ∷ [];
+    are_kept = keeps_push e low.are_kept (λ closes. apart (reaches_in_graph closes));
+    crates_are = crates_with within has;
+  }
+
+  -- the edge closes a cycle and is dropped
+  pub lowered_dropped : Reaches (edges old) (target_of dep) from → new ≡ old → AreLowered bare (want ++ e ∷ []) new
+  lowered_dropped r same = record {
+    kept = low.kept;
+    are_kept = drops_push e low.are_kept (closes_in_graph r);
+    crates_are = ap (map crate_seen) same ∙ low.crates_are;
+  }
+
+-- the crate of the edge's source has it just where it is kept
+has_iff : (bare : List Crate) (kept : List Edge) (crates : List CrateBuilder) (e : Edge) → map crate_seen crates ≡ with_deps kept 0 bare → e.source < length bare → HasDep crates e ↔ Contains kept e
+unfolding with_these
+has_iff bare kept crates e are within =
+    let c = slice_get_some bare e.source within in
+    let long : e.source < length crates = omega (arith, within, length_lowered bare kept crates are) in
+    let krate = slice_get_some crates e.source long in
+    let deps_are : (k : CrateBuilder) → slice_get crates e.source ≡ Some k → map dep_seen k.basic.dependencies ≡ deps_of kept e.source =
+    λ k there. ap (λ c. c.deps) (seen_at bare kept crates e.source k c.0 are there c.1) in (
+      λ h. edge_of_dep kept e (subst (λ ds. Contains ds e.dep) (deps_are h.krate h.source) h.has),
+      λ kept_is. record { krate = krate.0; source = krate.1; has = subst (λ ds. Contains ds e.dep) (sym (deps_are krate.0 krate.1)) (dep_of_edge kept e kept_is) },
+    )
+
+-- a wanted edge is a dependency just where its target does not reach its source
+pub lacks_cycles_alone : (bare : List Crate) (want : List Edge) (crates : List CrateBuilder) → All (IsWithin (length bare)) want → AreLowered bare want crates → LacksCyclesAlone want crates
+lacks_cycles_alone bare want crates within low = λ e c.
+    let iff = kept_iff (length bare) want low.kept e within low.are_kept c in
+    let has = has_iff bare low.kept crates e low.crates_are (All-contains (IsWithin (length bare)) want e within c).source in
+    let same = edges_are bare low.kept crates low.crates_are in (
+      λ h r. iff.0 (has.0 h) (subst (λ g. Reaches g e.dep.target e.source) same r),
+      λ apart. has.1 (iff.1 (λ closes. apart (subst (λ g. Reaches g e.dep.target e.source) (sym same) closes))),
+    )
+
+-- ---- the rows of a workspace
+
 module _ (w : Workspace) (shared : CrateWorkspaceData) where
-  row_more : (kept : List Edge) (e : Edge) (r : Row) → r.number ≡ e.source → crate_of w shared (kept ++ e ∷ []) r ≡ dep_more (crate_of w shared kept r) e.dep
-  unfolding dep_more
-  row_more kept e r is = ap (λ ds. record (crate_of w shared kept r) { deps = ds }) (ap (deps_of (kept ++ e ∷ [])) is ∙ deps_of-push_same kept e ∙ ap (λ n. deps_of kept n ++ e.dep ∷ []) (sym is))
+  deps_from : (kept : List Edge) (n : ℕ) (rows : List Row) → map (λ (r : Row). r.number) rows ≡ range_with_len n (length rows) → with_deps kept n (map (crate_of w shared []) rows) ≡ map (crate_of w shared kept) rows
+  deps_from kept n [] numbers = refl
+  deps_from kept n (r ∷ rs) numbers =
+      let head : n ≡ r.number = sym (ap (λ ns. get_or ns 0 0) numbers) in
+      let tail : map (λ (x : Row). x.number) rs ≡ range_with_len (n + 1) (length rs) = ap (drop 1) numbers in
+      ap (λ m. record (crate_of w shared [] r) { deps = deps_of kept m } ∷ with_deps kept (n + 1) (map (crate_of w shared []) rs)) head
+      ∙ ap (λ cs. crate_of w shared kept r ∷ cs) (deps_from kept (n + 1) rs tail)
 
-  row_as_before : (kept : List Edge) (e : Edge) (r : Row) → (e.source ≡ r.number → ⊥) → crate_of w shared (kept ++ e ∷ []) r ≡ crate_of w shared kept r
-  row_as_before kept e r other = ap (λ ds. record (crate_of w shared kept r) { deps = ds }) (deps_of-push_other kept e r.number other)
-
-  -- the edges of the graph are the kept ones
-  pub edges_are : (rows : List Row) (kept : List Edge) (crates : List CrateBuilder) → AreNumbered rows → map crate_seen crates ≡ map (crate_of w shared kept) rows → edges crates ≡ edges_graph (length rows) kept
-  edges_are rows kept crates numbers are =
-      let targets : Crate → List ℕ = λ c. map (λ (d : Dep). d.target) c.deps in
-      sym (map_map targets crate_seen row_of (λ krate. map_map (λ (d : Dep). d.target) dep_seen target_of (λ d. refl) krate.basic.dependencies) crates)
-      ∙ ap (map targets) are
-      ∙ map_map targets (crate_of w shared kept) (λ r. graph.targets_of (map ends kept) r.number) (λ r. sym (targets_are kept r.number)) rows
-      ∙ sym (map_map (graph.targets_of (map ends kept)) (λ (r : Row). r.number) (λ r. graph.targets_of (map ends kept) r.number) (λ r. refl) rows)
-      ∙ ap (map (graph.targets_of (map ends kept))) numbers
-
-  pub length_lowered : (rows : List Row) (kept : List Edge) (crates : List CrateBuilder) → map crate_seen crates ≡ map (crate_of w shared kept) rows → length crates ≡ length rows
-  length_lowered rows kept crates are = sym (length-map crates crate_seen) ∙ ap length are ∙ length-map rows (crate_of w shared kept)
-
-  -- the crate at a place is that of the row there
-  pub seen_at : (rows : List Row) (kept : List Edge) (crates : List CrateBuilder) (i : ℕ) (krate : CrateBuilder) (r : Row)
-      → map crate_seen crates ≡ map (crate_of w shared kept) rows → slice_get crates i ≡ Some krate → slice_get rows i ≡ Some r → crate_seen krate ≡ crate_of w shared kept r
-  seen_at rows kept crates i krate r are there row_there =
-      let same : Some (crate_seen krate) ≡ Some (crate_of w shared kept r) = sym (slice_get_map crate_seen crates i krate there) ∙ ap (λ cs. slice_get cs i) are ∙ slice_get_map (crate_of w shared kept) rows i r row_there in cc
-
-  module _ (rows : List Row) (want : List Edge) (old new : List CrateBuilder) (e : Edge) (from : ℕ) (dep : Dependency (Idx CrateTag))
-      (numbers : AreNumbered rows) (low : AreLowered w shared rows want old) (from_is : from ≡ e.source) (dep_is : dep_seen dep ≡ e.dep) where
-    closes_in_graph : Reaches (edges old) (target_of dep) from → ClosesCycle (length rows) low.kept e
-    closes_in_graph r =
-        let r1 = subst (λ g. Reaches g (target_of dep) from) (edges_are rows low.kept old numbers low.crates_are) r in
-        let r2 = subst (λ d. Reaches (edges_graph (length rows) low.kept) d.target from) dep_is r1 in
-        subst (λ n. Reaches (edges_graph (length rows) low.kept) e.dep.target n) from_is r2
-
-    reaches_in_graph : ClosesCycle (length rows) low.kept e → Reaches (edges old) (target_of dep) from
-    reaches_in_graph r =
-        let r1 = subst (λ n. Reaches (edges_graph (length rows) low.kept) e.dep.target n) (sym from_is) r in
-        let r2 = subst (λ d. Reaches (edges_graph (length rows) low.kept) d.target from) (sym dep_is) r1 in
-        subst (λ g. Reaches g (target_of dep) from) (sym (edges_are rows low.kept old numbers low.crates_are)) r2
-
-    crates_with : e.source < length rows → HasDependency old new from dep → map crate_seen new ≡ map (crate_of w shared (low.kept ++ e ∷ [])) rows
-    crates_with within has =
-        let long : from < length old = omega (arith, length_lowered rows low.kept old low.crates_are, from_is) in
-        let krate = slice_get_some old from long in
-        let row = slice_get_some rows e.source within in
-        let row_there : slice_get rows from ≡ Some row.0 = ap (slice_get rows) from_is ∙ row.1 in
-        let seen : crate_seen krate.0 ≡ crate_of w shared low.kept row.0 = seen_at rows low.kept old from krate.0 row.0 low.crates_are krate.1 row_there in
-        let at : crate_of w shared (low.kept ++ e ∷ []) row.0 ≡ crate_seen (with_dependency krate.0 dep) =
-        row_more low.kept e row.0 (number_at rows e.source row.0 numbers row.1) ∙ ap (λ c. dep_more c e.dep) (sym seen) ∙ ap (dep_more (crate_seen krate.0)) (sym dep_is) ∙ sym (seen_more krate.0 dep) in
-        ap (map crate_seen) (has krate.0 krate.1) ∙ map-set crate_seen old from (with_dependency krate.0 dep) ∙ ap (λ cs. set cs from (crate_seen (with_dependency krate.0 dep))) low.crates_are
-        ∙ mapped_but_one (crate_of w shared low.kept) (crate_of w shared (low.kept ++ e ∷ [])) rows from row.0 (crate_seen (with_dependency krate.0 dep)) row_there at
-        (λ j y apart there. row_as_before low.kept e y (λ is. apart (sym (number_at rows j y numbers there) ∙ sym is ∙ sym from_is)))
-
-    -- the edge closes no cycle and is kept
-    pub lowered_kept : e.source < length rows → (Reaches (edges old) (target_of dep) from → ⊥) → HasDependency old new from dep → AreLowered w shared rows (want ++ e ∷ []) new
-    lowered_kept within apart has = record {
-      kept = low.kept ++ e ∷ [];
-      are_kept = keeps_push e low.are_kept (λ closes. apart (reaches_in_graph closes));
-      crates_are = crates_with within has;
-    }
-
-    -- the edge closes a cycle and is dropped
-    pub lowered_dropped : Reaches (edges old) (target_of dep) from → new ≡ old → AreLowered w shared rows (want ++ e ∷ []) new
-    lowered_dropped r same = record {
-      kept = low.kept;
-      are_kept = drops_push e low.are_kept (closes_in_graph r);
-      crates_are = ap (map crate_seen) same ∙ low.crates_are;
-    }
-
-  -- the crate of the edge's source has it just where it is kept
-  has_iff : (rows : List Row) (kept : List Edge) (crates : List CrateBuilder) (e : Edge) → map crate_seen crates ≡ map (crate_of w shared kept) rows → AreNumbered rows → e.source < length rows → HasDep crates e ↔ Contains kept e
-  has_iff rows kept crates e are numbers within =
-      let row = slice_get_some rows e.source within in
-      let long : e.source < length crates = omega (arith, within, length_lowered rows kept crates are) in
-      let krate = slice_get_some crates e.source long in
-      let number = number_at rows e.source row.0 numbers row.1 in
-      let deps_are : (k : CrateBuilder) → slice_get crates e.source ≡ Some k → map dep_seen k.basic.dependencies ≡ deps_of kept e.source =
-      λ k there. ap (λ c. c.deps) (seen_at rows kept crates e.source k row.0 are there row.1) ∙ ap (deps_of kept) number in (
-        λ h. edge_of_dep kept e (subst (λ ds. Contains ds e.dep) (deps_are h.krate h.source) h.has),
-        λ c. record { krate = krate.0; source = krate.1; has = subst (λ ds. Contains ds e.dep) (sym (deps_are krate.0 krate.1)) (dep_of_edge kept e c) },
-      )
-
-  -- a wanted edge is a dependency just where its target does not reach its source
-  pub lacks_cycles_alone : (rows : List Row) (want : List Edge) (crates : List CrateBuilder) → AreNumbered rows → All (IsWithin (length rows)) want → AreLowered w shared rows want crates → LacksCyclesAlone want crates
-  lacks_cycles_alone rows want crates numbers within low = λ e c.
-      let iff = kept_iff (length rows) want low.kept e within low.are_kept c in
-      let has = has_iff rows low.kept crates e low.crates_are numbers (All-contains (IsWithin (length rows)) want e within c).source in
-      let same = edges_are rows low.kept crates numbers low.crates_are in (
-        λ h r. iff.0 (has.0 h) (subst (λ g. Reaches g e.dep.target e.source) same r),
-        λ apart. has.1 (iff.1 (λ closes. apart (subst (λ g. Reaches g e.dep.target e.source) (sym same) closes))),
-      )
+  -- the crates of rows have the dependencies that edges give them by their numbers
+  pub crates_with_deps : (kept : List Edge) (rows : List Row) → AreNumbered rows → with_deps kept 0 (map (crate_of w shared []) rows) ≡ map (crate_of w shared kept) rows
+  crates_with_deps kept rows numbers = deps_from kept 0 rows numbers

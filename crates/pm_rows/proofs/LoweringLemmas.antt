@@ -3,22 +3,23 @@ use Rattle.std.proofs.Common.{◌≡◌, ℕ, ◌<◌, ◌≤◌, List, [], ◌+
 use Rattle.std.specs.List.{All}
 use Rattle.std.specs.Prelude.{Ok, Err}
 use Rattle.std.proofs.lemmas.Bool.{le-ltb, lt-ltb}
-use Rattle.std.proofs.lemmas.List.{append-nil}
+use Rattle.std.proofs.lemmas.List.{append-nil, length-map}
 use Rattle.outside.specs.declared.limits.Limit.TheVariants.{Bytes, Paths, Packages, Targets, Crates}
 use Rattle.crate_values.specs.declared.workspace_data.CrateWorkspaceData.{CrateWorkspaceData}
 use Rattle.crate_graph.specs.Graph.{Graph}
 use Rattle.pm_cargo.specs.Workspace.{Workspace}
-use Rattle.pm_rows.specs.Gathering.{AddsRows, AreLowered, edges_between}
+use Rattle.pm_rows.specs.Gathering.{AddsRows, edges_between}
+use Rattle.pm_rows.specs.Keeping.{AreBare, AreLowered}
 use Rattle.pm_rows.specs.KeptEdges.{IsWithin, kept_edges}
 use Rattle.pm_loader.specs.Loader.{Files}
-use Rattle.pm_rows.specs.Lowering.{HasCrates, LacksCyclesAlone, crate_of, crate_seen, crates_of, lowering, named_crates}
+use Rattle.pm_rows.specs.Lowering.{Crate, HasCrates, LacksCyclesAlone, crate_of, crate_seen, crates_of, lowering, named_crates}
 use Rattle.pm_rows.specs.Refusal.{IfBadName, IfTooMany, Refuses}
 use Rattle.pm_rows.specs.Rows.{Owner, owners, owners_from, parts, rows_of, rows_of_parts}
 use Rattle.pm_rows.specs.WantedEdges.{Edge, bad_names, bad_names_of_owners, wanted_edges}
 use Rattle.pm_rows.specs.declared.lower_error.LowerError.{LowerError}
 use Rattle.pm_rows.specs.declared.lower_error.LowerError.TheVariants.{BadCrateName, TooMany, OutOfMemory}
 use Rattle.pm_rows.proofs.FoldLemmas.{kept_are_folded}
-use Rattle.pm_rows.proofs.LoweredLemmas.{lacks_cycles_alone, length_lowered}
+use Rattle.pm_rows.proofs.LoweredLemmas.{crates_with_deps, lacks_cycles_alone}
 use Rattle.pm_rows.proofs.UnrankedLemmas.{wanted_are_gathered}
 use Rattle.pm_rows.proofs.WithinLemmas.{are_numbered, wanted_within}
 
@@ -74,7 +75,10 @@ module _ (files : Files) (w : Workspace) (shared : CrateWorkspaceData) where
     crates_made = adds.crates ∙ ap (λ cs. map crate_seen cs ++ map (crate_of w shared []) (rows_of made)) empty ∙ ap (λ os. map (crate_of w shared []) (rows_of os)) owners_made
 
     count_made : length new.crates ≡ length (rows_of (owners files w))
-    count_made = length_lowered w shared (rows_of (owners files w)) [] new.crates crates_made
+    count_made = sym (length-map new.crates crate_seen) ∙ ap length crates_made ∙ length-map (rows_of (owners files w)) (crate_of w shared [])
+
+    pub bare_made : AreBare new.crates (map (crate_of w shared []) (rows_of (owners files w)))
+    bare_made = crates_made ∙ sym (crates_with_deps w shared [] (rows_of (owners files w)) (are_numbered files w))
 
     pub rows_within : length (rows_of (owners files w)) ≤ limit
     rows_within =
@@ -88,12 +92,21 @@ module _ (files : Files) (w : Workspace) (shared : CrateWorkspaceData) where
 
   -- the graph once the edges stand in it too
   module _ (limit : ℕ) (graph : Graph) (within : length (rows_of (owners files w)) ≤ limit) (good : bad_names_of_owners (owners files w) ≡ [])
-      (limit_is : graph.limit ≡ limit) (low : AreLowered w shared (rows_of (owners files w)) (edges_between (owners files w)) graph.crates) where
+      (limit_is : graph.limit ≡ limit) (low : AreLowered (map (crate_of w shared []) (rows_of (owners files w))) (edges_between (owners files w)) graph.crates) where
+    abbrev bare : List Crate
+    bare = map (crate_of w shared []) (rows_of (owners files w))
+
+    all_within : All (IsWithin (length bare)) (edges_between (owners files w))
+    all_within =
+        subst (λ n. All (IsWithin n) (edges_between (owners files w))) (sym (length-map (rows_of (owners files w)) (crate_of w shared [])))
+        (wanted_within (owners files w) (are_numbered files w))
+
     pub has_crates : HasCrates limit graph (lowering files w shared limit)
     has_crates =
-        let all = wanted_within (owners files w) (are_numbered files w) in
-        let kept = kept_are_folded (length (rows_of (owners files w))) (edges_between (owners files w)) low.kept all low.are_kept in
-        let crates : map crate_seen graph.crates ≡ crates_of shared (parts files w) = low.crates_are ∙ ap (λ es. map (crate_of w shared es) (rows_of (owners files w))) kept ∙ sym crates_are in
+        let kept = kept_are_folded (length bare) (edges_between (owners files w)) low.kept all_within low.are_kept in
+        let crates : map crate_seen graph.crates ≡ crates_of shared (parts files w) =
+        low.crates_are ∙ crates_with_deps w shared low.kept (rows_of (owners files w)) (are_numbered files w)
+        ∙ ap (λ es. map (crate_of w shared es) (rows_of (owners files w))) kept ∙ sym crates_are in
         record {
           crates_are = lowering_within limit within ∙ ap (λ names. named_crates shared (parts files w) (slice_get names 0)) good ∙ ap Ok (sym crates);
           limit_is = limit_is;
@@ -101,4 +114,4 @@ module _ (files : Files) (w : Workspace) (shared : CrateWorkspaceData) where
 
     pub lacks_alone : LacksCyclesAlone (wanted_edges (parts files w)) graph.crates
     lacks_alone = subst (λ es. LacksCyclesAlone es graph.crates) (sym (wanted_are_gathered files w))
-        (lacks_cycles_alone w shared (rows_of (owners files w)) (edges_between (owners files w)) graph.crates (are_numbered files w) (wanted_within (owners files w) (are_numbered files w)) low)
+        (lacks_cycles_alone bare (edges_between (owners files w)) graph.crates all_within low)

@@ -21,9 +21,9 @@ before_key [] a b xs ys h = less h
 before_key (p ∷ ps) a b xs ys h = then_less (before_key ps a b xs ys h)
 
 -- a rank has a number behind a prefix
-record HasKey (prefix : List ℕ) (n : ℕ) (rank : List ℕ) : Type 0 where
-  rest : List ℕ
-  is : rank ≡ prefix ++ n ∷ rest
+pub record HasKey (prefix : List ℕ) (n : ℕ) (rank : List ℕ) : Type 0 where
+  pub rest : List ℕ
+  pub is : rank ≡ prefix ++ n ∷ rest
 
 -- or a number from one on
 record HasLaterKey (prefix : List ℕ) (n : ℕ) (rank : List ℕ) : Type 0 where
@@ -50,7 +50,7 @@ later prefix m n xs h all = All-weaker (λ w. HasKey prefix n w.rank) (λ w. Has
 
 -- ---- keys of what is ranked
 
-ranked_all : (P : List ℕ → Type 0) (rank : List ℕ) (es : List Edge) → P rank → All (λ w. P w.rank) (with_rank rank es)
+pub ranked_all : (P : List ℕ → Type 0) (rank : List ℕ) (es : List Edge) → P rank → All (λ w. P w.rank) (with_rank rank es)
 ranked_all P rank [] h = All-nil (λ w. P w.rank)
 ranked_all P rank (e ∷ es) h = All-cons (λ w. P w.rank) (record { rank = rank; edge = e }) (with_rank rank es) h (ranked_all P rank es h)
 
@@ -58,7 +58,7 @@ flat_all : {A : Type 0} (P : RankedEdge → Type 0) (f : A → List RankedEdge) 
 flat_all P f each [] = All-nil P
 flat_all P f each (x ∷ xs) = All-append P (f x) (flat_map f xs) (each x) (flat_all P f each xs)
 
-all_by_place : {A : Type 0} (P : RankedEdge → Type 0) (f : ℕ → A → List RankedEdge) → ((n : ℕ) (x : A) → All P (f n x)) → (n : ℕ) (xs : List A) → All P (by_place f n xs)
+pub all_by_place : {A : Type 0} (P : RankedEdge → Type 0) (f : ℕ → A → List RankedEdge) → ((n : ℕ) (x : A) → All P (f n x)) → (n : ℕ) (xs : List A) → All P (by_place f n xs)
 all_by_place P f each n [] = All-nil P
 all_by_place P f each n (x ∷ xs) = All-append P (f n x) (by_place f (n + 1) xs) (each n x) (all_by_place P f each (n + 1) xs)
 
@@ -69,7 +69,7 @@ module _ {A : Type 0} (prefix : List ℕ) (f : ℕ → A → List RankedEdge) (k
       (later prefix m n (f n x) h (keys n x))
       (later_keys m (n + 1) xs (omega arith))
 
-  by_place_order : (Q : A → Type 0) → ((n : ℕ) (x : A) → Q x → AreInOrder (f n x)) → (n : ℕ) (xs : List A) → All Q xs → AreInOrder (by_place f n xs)
+  pub by_place_order : (Q : A → Type 0) → ((n : ℕ) (x : A) → Q x → AreInOrder (f n x)) → (n : ℕ) (xs : List A) → All Q xs → AreInOrder (by_place f n xs)
   by_place_order Q each n [] all = tt
   by_place_order Q each n (x ∷ xs) all =
       in_order_append (f n x) (by_place f (n + 1) xs) (each n x (All-head Q x xs all)) (by_place_order Q each (n + 1) xs (All-tail Q x xs all))
@@ -83,7 +83,7 @@ Ascend [] = Unit {0}
 Ascend (r ∷ rs) = All (λ s. r.place < s.place) rs × Ascend rs
 
 -- there is one edge at most
-abbrev IsShort : List Edge → Type 0
+abbrev pub IsShort : List Edge → Type 0
 IsShort [] = Unit {0}
 IsShort (e ∷ []) = Unit {0}
 IsShort (e ∷ f ∷ es) = ⊥
@@ -92,7 +92,7 @@ short_if : (b : Bool) (e : Edge) → IsShort (if b then e ∷ [] else [])
 short_if true e = tt
 short_if false e = tt
 
-short_order : (rank : List ℕ) (es : List Edge) → IsShort es → AreInOrder (with_rank rank es)
+pub short_order : (rank : List ℕ) (es : List Edge) → IsShort es → AreInOrder (with_rank rank es)
 short_order rank [] short = tt
 short_order rank (e ∷ []) short = (All-nil (λ y. IsBefore rank y.rank), tt)
 short_order rank (e ∷ f ∷ es) short = absurd short

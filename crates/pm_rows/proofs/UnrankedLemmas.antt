@@ -11,11 +11,11 @@ use Rattle.pm_rows.specs.Rows.{Owner, Row, cargo, library, owners, parts}
 use Rattle.pm_rows.specs.WantedEdges.{Edge, RankedEdge, by_place, first_edges, last, later_edges, with_rank, to_library, to_owner, wanted_edges, wanted_of_part}
 
 -- edges behind a rank, without it
-unranked : (rank : List ℕ) (edges : List Edge) → map (λ (r : RankedEdge). r.edge) (with_rank rank edges) ≡ edges
+pub unranked : (rank : List ℕ) (edges : List Edge) → map (λ (r : RankedEdge). r.edge) (with_rank rank edges) ≡ edges
 unranked rank [] = refl
 unranked rank (e ∷ es) = ap (λ xs. e ∷ xs) (unranked rank es)
 
-map_flat : {A B C : Type 0} (g : B → C) (f : A → List B) (h : A → List C) → ((x : A) → map g (f x) ≡ h x) → (xs : List A) → map g (flat_map f xs) ≡ flat_map h xs
+pub map_flat : {A B C : Type 0} (g : B → C) (f : A → List B) (h : A → List C) → ((x : A) → map g (f x) ≡ h x) → (xs : List A) → map g (flat_map f xs) ≡ flat_map h xs
 map_flat g f h each [] = refl
 map_flat g f h each (x ∷ xs) = map-append g (f x) (flat_map f xs) ∙ ap (λ ys. ys ++ map g (flat_map f xs)) (each x) ∙ ap (λ ys. h x ++ ys) (map_flat g f h each xs)
 

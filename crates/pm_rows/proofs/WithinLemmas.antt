@@ -69,7 +69,7 @@ pub all_flat : {A B : Type 0} (P : B → Type 0) (f : A → List B) (Q : A → T
 all_flat P f Q each [] all = All-nil P
 all_flat P f Q each (x ∷ xs) all = All-append P (f x) (flat_map f xs) (each x (All-head Q x xs all)) (all_flat P f Q each xs (All-tail Q x xs all))
 
-all_flat_any : {A B : Type 0} (P : B → Type 0) (f : A → List B) → ((x : A) → All P (f x)) → (xs : List A) → All P (flat_map f xs)
+pub all_flat_any : {A B : Type 0} (P : B → Type 0) (f : A → List B) → ((x : A) → All P (f x)) → (xs : List A) → All P (flat_map f xs)
 all_flat_any P f each [] = All-nil P
 all_flat_any P f each (x ∷ xs) = All-append P (f x) (flat_map f xs) (each x) (all_flat_any P f each xs)
 

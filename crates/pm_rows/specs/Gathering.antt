@@ -5,7 +5,6 @@ use Rattle.std.specs.List.{flat_map, range_with_len}
 use Rattle.std.specs.Option.{option_and_then, option_map, option_to_list}
 use Rattle.base_text.specs.Arena.{number_of}
 use Rattle.base_text.specs.declared.arena.Idx.{Idx}
-use Rattle.crate_values.specs.declared.builder.CrateBuilder.{CrateBuilder}
 use Rattle.crate_values.specs.declared.workspace_data.CrateWorkspaceData.{CrateWorkspaceData}
 use Rattle.crate_graph.specs.Graph.{Graph}
 use Rattle.pm_packages.specs.declared.package.PackageData.{PackageData}
@@ -14,7 +13,6 @@ use Rattle.pm_packages.specs.declared.target.TargetData.{TargetData}
 use Rattle.pm_packages.specs.declared.target.TargetTag.{TargetTag}
 use Rattle.pm_cargo.specs.Workspace.{Workspace}
 use Rattle.pm_loader.specs.Loader.{Files}
-use Rattle.pm_rows.specs.KeptEdges.{AreKept}
 use Rattle.pm_rows.specs.Lowering.{crate_of, crate_seen}
 use Rattle.pm_rows.specs.Rows.{Owner, Row, library, live_target, rows_from}
 use Rattle.pm_rows.specs.WantedEdges.{Edge, to_library, to_owner}
@@ -76,9 +74,3 @@ edges_between owners = flat_map to_own_library owners ++ flat_map (to_dependenci
 -- each row's number is its place
 abbrev pub AreNumbered : List Row → Type 0
 AreNumbered rows = map (λ r. r.number) rows ≡ range_with_len 0 (length rows)
-
--- the crates are those of the rows, in order, and their dependencies the edges that are kept of those wanted
-pub record AreLowered (w : Workspace) (shared : CrateWorkspaceData) (rows : List Row) (want : List Edge) (crates : List CrateBuilder) : Type 0 where
-  pub kept : List Edge
-  pub are_kept : AreKept (length rows) want kept
-  pub crates_are : map crate_seen crates ≡ map (crate_of w shared kept) rows

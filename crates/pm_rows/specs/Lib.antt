@@ -1,5 +1,6 @@
 pub mod Columns
 pub mod Gathering
+pub mod Keeping
 pub mod KeptEdges
 pub mod Lowering
 pub mod Ranks

@@ -5,56 +5,16 @@ ghost use Rattle.std.specs.Option.{option_copied};
 ghost use Rattle.base_text.specs.Arena.{number_of};
 ghost use Rattle.crate_values.specs.Names.{has_dash};
 ghost use Rattle.pm_rows.specs.Gathering.{to_dependencies, to_dependency, to_own_library, edges_between};
-ghost use Rattle.pm_rows.specs.Lowering.{dep_seen};
 ghost use Rattle.pm_rows.specs.Refusal.{IfBadName};
 ghost use Rattle.pm_rows.specs.WantedEdges.{bad_name_of, bad_names_of, bad_names_of_owners, is_delayed, is_for, uses_library};
 
 use crate::lower_error::LowerError;
 use crate::rows::{Owner, Row, is_build_script, is_lib};
+use crate::wanted_edge::WantedEdge;
 use base_text::{Text, TryClone};
-use crate_graph::{CrateBuilderId, CrateName, Dependency, DependencyBuilder};
+use crate_graph::CrateName;
 use pm_packages::{DepKind, Package, PackageDependency};
 use std::alloc::{AllocError, Global};
-use std::marker::Model;
-
-/// A dependency that a row wants.
-#[derive(Drop)]
-pub(crate) struct WantedEdge {
-    source: CrateBuilderId,
-    dep: DependencyBuilder,
-}
-
-impl Model for WantedEdge {
-    ghost use Rattle.base_text.specs.Arena.{number_of};
-    ghost use Rattle.pm_rows.specs.Lowering.{dep_seen};
-    ghost use Rattle.pm_rows.specs.WantedEdges as seen;
-
-    ghost Value = { seen.Edge };
-
-    ghost view = { λ a. record { source = number_of a.source; dep = dep_seen a.dep } };
-}
-
-impl WantedEdge {
-    fn new(source: u32, name: CrateName, target: u32) -> Self
-        ensures { result ≡ record {
-          source = source;
-          dep = record { name = name; target = target; prelude = true; sysroot = false };
-        } }
-    {
-        WantedEdge {
-            source: CrateBuilderId::from_raw(source),
-            dep: Dependency::new(name, CrateBuilderId::from_raw(target)),
-        }
-    }
-
-    /// The row that wants the dependency, and the dependency.
-    pub(crate) fn into_parts(self) -> (CrateBuilderId, DependencyBuilder)
-        ensures source { number_of result.0 ≡ self.source }
-        ensures dep { dep_seen result.1 ≡ self.dep }
-    {
-        (self.source, self.dep)
-    }
-}
 
 // Whether a row depends on its package's library.
 fn uses_library(library: &Row, row: &Row) -> bool

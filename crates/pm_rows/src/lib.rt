@@ -5,12 +5,15 @@
 mod columns;
 mod edges;
 mod gathering;
-mod keeping;
+pub mod keeping;
 pub mod laws;
 pub mod lower_error;
 pub mod lowering;
 mod root_files;
 mod rows;
+pub mod wanted_edge;
 
+pub use keeping::keep_edges;
 pub use lower_error::LowerError;
 pub use lowering::lower_cargo;
+pub use wanted_edge::WantedEdge;

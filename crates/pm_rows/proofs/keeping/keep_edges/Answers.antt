@@ -5,7 +5,7 @@ use Rattle.pm_rows.proofs.keeping.keep_edges.Goals as goal
 
 pub loop-edge-init : goal.loop-edge-init
 loop-edge-init c = record {
-  keeps = λ w shared rows numbers are. record { kept = []; are_kept = none; crates_are = are };
+  keeps = λ bare are. record { kept = []; are_kept = none; crates_are = are };
   all = refl;
   limit = refl;
   count = refl;
@@ -13,7 +13,7 @@ loop-edge-init c = record {
 
 pub loop-edge-preserved : goal.loop-edge-preserved
 loop-edge-preserved c = record {
-  keeps = λ w shared rows numbers are. c.in_ok-keep_edge.ensures.keeps w shared rows c.loop-edge.yielded numbers (c.loop-edge.invariant.keeps w shared rows numbers are);
+  keeps = λ bare are. c.in_ok-keep_edge.ensures.keeps bare c.loop-edge.yielded (c.loop-edge.invariant.keeps bare are);
   all = grind (arith, common_steps);
   limit = c.in_ok-keep_edge.ensures.limit ∙ c.loop-edge.invariant.limit;
   count = c.in_ok-keep_edge.ensures.count ∙ c.loop-edge.invariant.count;

@@ -1,14 +1,16 @@
-use Rattle.std.proofs.Common.{◌≡◌, ◌∙◌, Some, ap, arith, length, slice_get, subst, sym}
+use Rattle.std.proofs.Common.{◌≡◌, ◌∙◌, [], Some, ap, arith, length, map, slice_get, subst, sym}
 use Rattle.std.specs.List.{All}
 use Rattle.std.proofs.lemmas.Result.{err_from_is_err_and}
-use Rattle.pm_rows.specs.Gathering.{AreLowered, AreNumbered, owners_by, edges_between}
+use Rattle.pm_rows.specs.Gathering.{AreNumbered, owners_by, edges_between}
+use Rattle.pm_rows.specs.Keeping.{AreLowered}
 use Rattle.pm_rows.specs.KeptEdges.{IsWithin}
+use Rattle.pm_rows.specs.Lowering.{crate_of}
 use Rattle.pm_rows.specs.Rows.{owners, owners_from, rows_of}
 use Rattle.pm_rows.specs.WantedEdges.{bad_names_of_owners}
 use Rattle.pm_rows.proofs.EdgeLemmas.{bad_weaker}
-use Rattle.pm_rows.proofs.LoweringLemmas.{crates_made, has_crates, lacks_alone, refuses_name, refuses_past, rows_within}
+use Rattle.pm_rows.proofs.LoweringLemmas.{bare_made, has_crates, lacks_alone, refuses_name, refuses_past, rows_within}
 use Rattle.pm_rows.proofs.RowLemmas.{count_added, limit_weaker, owners_are_live}
-use Rattle.pm_rows.proofs.WithinLemmas.{are_numbered, are_numbered_by, wanted_within}
+use Rattle.pm_rows.proofs.WithinLemmas.{are_numbered_by, wanted_within}
 use Rattle.pm_rows.proofs.lowering.graph_of.Goals as goal
 
 pub returns-in_err-owners-clause-lowers : goal.returns-in_err-owners-clause-lowers
@@ -63,12 +65,12 @@ returns-clause-lowers c live are =
     c.in_ok-owners.ensures.owners ∙ ap (owners_by w (length start.crates) w.packages) are ∙ owners_are_live live w (length start.crates) w.packages in
     let given : c.as_slice.result.now ≡ owners live w = c.as_slice.ensures.value ∙ made_are ∙ ap (λ cs. owners_from live w (length cs) w.packages) c.new-graph.ensures.crates in
     let within = rows_within live w shared limit start c.add_rows.new.graph made c.new-graph.ensures.limit c.new-graph.ensures.crates made_are adds in
-    let crates = crates_made live w shared limit start c.add_rows.new.graph made c.new-graph.ensures.limit c.new-graph.ensures.crates made_are adds in
+    let bare = bare_made live w shared limit start c.add_rows.new.graph made c.new-graph.ensures.limit c.new-graph.ensures.crates made_are adds in
     let good = ap bad_names_of_owners (sym given) ∙ c.in_ok-edges.ensures.good in
     let limit_is = c.in_ok-keep_edges.ensures.limit ∙ adds.limit ∙ c.new-graph.ensures.limit in
     let edges : c.in_ok-edges.edges.items ≡ edges_between (owners live w) = c.in_ok-edges.ensures.edges ∙ ap edges_between given in
-    let low = subst (λ es. AreLowered w shared (rows_of (owners live w)) es c.keep_edges.new.graph.crates) edges
-    (c.in_ok-keep_edges.ensures.keeps w shared (rows_of (owners live w)) (are_numbered live w) crates) in
+    let crates = map (crate_of w shared []) (rows_of (owners live w)) in
+    let low = subst (λ es. AreLowered crates es c.keep_edges.new.graph.crates) edges (c.in_ok-keep_edges.ensures.keeps crates bare) in
     has_crates live w shared limit c.keep_edges.new.graph within good limit_is low
 
 pub returns-clause-missing : goal.returns-clause-missing
@@ -83,10 +85,10 @@ returns-clause-missing c live are =
     c.in_ok-owners.ensures.owners ∙ ap (owners_by w (length start.crates) w.packages) are ∙ owners_are_live live w (length start.crates) w.packages in
     let given : c.as_slice.result.now ≡ owners live w = c.as_slice.ensures.value ∙ made_are ∙ ap (λ cs. owners_from live w (length cs) w.packages) c.new-graph.ensures.crates in
     let within = rows_within live w shared limit start c.add_rows.new.graph made c.new-graph.ensures.limit c.new-graph.ensures.crates made_are adds in
-    let crates = crates_made live w shared limit start c.add_rows.new.graph made c.new-graph.ensures.limit c.new-graph.ensures.crates made_are adds in
+    let bare = bare_made live w shared limit start c.add_rows.new.graph made c.new-graph.ensures.limit c.new-graph.ensures.crates made_are adds in
     let good = ap bad_names_of_owners (sym given) ∙ c.in_ok-edges.ensures.good in
     let limit_is = c.in_ok-keep_edges.ensures.limit ∙ adds.limit ∙ c.new-graph.ensures.limit in
     let edges : c.in_ok-edges.edges.items ≡ edges_between (owners live w) = c.in_ok-edges.ensures.edges ∙ ap edges_between given in
-    let low = subst (λ es. AreLowered w shared (rows_of (owners live w)) es c.keep_edges.new.graph.crates) edges
-    (c.in_ok-keep_edges.ensures.keeps w shared (rows_of (owners live w)) (are_numbered live w) crates) in
+    let crates = map (crate_of w shared []) (rows_of (owners live w)) in
+    let low = subst (λ es. AreLowered crates es c.keep_edges.new.graph.crates) edges (c.in_ok-keep_edges.ensures.keeps crates bare) in
     lacks_alone live w shared limit c.keep_edges.new.graph within good limit_is low
