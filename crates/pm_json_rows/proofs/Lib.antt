@@ -1,0 +1,4 @@
+mod EdgeLemmas
+mod LoweringLemmas
+mod RootLemmas
+mod RowLemmas

@@ -1,0 +1,4 @@
+mod JsonLemmas
+pub mod LoadingLemmas
+pub mod MetadataLemmas
+mod ToolLemmas

@@ -1,0 +1,34 @@
+-- The metadata of a workspace is fetched as the definition says, where the code's values are those of the definition.
+use Rattle.std.proofs.Common.{◌≡◌, ℕ, Bool, false, List, codes, Option, Some, ap, ◌∙◌}
+use Rattle.std.specs.Borrow.{Bor}
+use Rattle.std.specs.Option.{unwrap_or}
+use Rattle.base_text.specs.Paths.{parent_text}
+use Rattle.outside.specs.declared.command.Output.{Output}
+use Rattle.outside.specs.declared.command.Question.{Question}
+use Rattle.pm_config.specs.declared.config.CargoConfig.{CargoConfig}
+use Rattle.pm_config.specs.declared.metadata_config.CargoMetadataConfig.{CargoMetadataConfig}
+use Rattle.pm_config.specs.declared.tool_root.ToolRoot.{ToolRoot}
+use Rattle.pm_fetch.specs.Fetch.{Fetch, fetch_answer, fetch_of}
+use Rattle.pm_load.specs.Metadata.{fetched, fetched_as, metadata_config}
+use Rattle.pm_load.specs.declared.tool_answers.ToolAnswers.{ToolAnswers}
+use Rattle.pm_roots.specs.Roots.{directory_of}
+use Rattle.pm_sysroot.specs.Ask.{Means}
+use Rattle.pm_sysroot.specs.Sysroot.{tool_root}
+use Rattle.pm_sysroot.specs.Toolchain.{Toolchain}
+
+-- the directory that is above a manifest
+pub above : (manifest dir : List ℕ) → Some dir ≡ parent_text manifest → dir ≡ directory_of manifest
+above manifest dir is = ap (λ (parent : Option (List ℕ)). unwrap_or parent (codes "/")) is
+
+-- what is fetched by a command; the directory is that of the manifest
+pub fetched_as-is : (manifest dir : List ℕ) (asked : CargoMetadataConfig) (root : ToolRoot) (no_deps : Bool) (answers : List (Question × Output)) (fetch : Fetch) → Some dir ≡ parent_text manifest
+    → fetch ≡ fetch_of manifest dir asked root no_deps answers → fetch_answer fetch false answers ≡ fetched_as manifest asked root no_deps answers
+fetched_as-is manifest dir asked root no_deps answers fetch is_dir is_fetch =
+    ap (λ (f : Fetch). fetch_answer f false answers) (is_fetch ∙ (λ i. fetch_of manifest (above manifest dir is_dir i) asked root no_deps answers))
+
+-- what is fetched; the kind of metadata has no effect
+pub fetched-is : (sysroot : Toolchain) (manifest : List ℕ) (config : CargoConfig) (answers : ToolAnswers) (means : Means) (kind : Bor (List ℕ))
+    (asked : CargoMetadataConfig) (root : ToolRoot) → asked ≡ record (metadata_config config answers) { kind = kind } → root ≡ tool_root sysroot means
+    → fetched_as manifest asked root config.no_deps means.answers ≡ fetched sysroot manifest config answers means
+unfolding fetched
+fetched-is sysroot manifest config answers means kind asked root is_asked is_root = λ i. fetched_as manifest (is_asked i) (is_root i) config.no_deps means.answers

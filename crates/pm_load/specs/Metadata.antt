@@ -1,0 +1,40 @@
+-- The metadata of a workspace as a load fetches it, and the environment of the workspace. The rules are those of rust-analyzer's `ProjectWorkspace::load`.
+use Rattle.std.specs.Prelude.{ℕ, Bool, false, List, codes, fold, Option}
+use Rattle.outside.specs.declared.command.Output.{Output}
+use Rattle.outside.specs.declared.command.Question.{Question}
+use Rattle.pm_config.specs.declared.config.CargoConfig.{CargoConfig}
+use Rattle.pm_config.specs.declared.metadata_config.CargoMetadataConfig.{CargoMetadataConfig}
+use Rattle.pm_config.specs.declared.tool_root.ToolRoot.{ToolRoot}
+use Rattle.pm_fetch.specs.Fetch.{FetchAnswer, fetch_answer, fetch_of}
+use Rattle.pm_load.specs.ToolAnswers.{reference}
+use Rattle.pm_load.specs.declared.tool_answers.ToolAnswers.{ToolAnswers}
+use Rattle.pm_roots.specs.Roots.{directory_of}
+use Rattle.pm_sysroot.specs.Ask.{Means}
+use Rattle.pm_sysroot.specs.Sysroot.{tool_root}
+use Rattle.pm_sysroot.specs.Toolchain.{Toolchain}
+use Rattle.pm_tools.specs.ConfigEnv.{Environment, config_env, with_variable}
+
+-- how metadata is asked for
+abbrev pub metadata_config : CargoConfig → ToolAnswers → CargoMetadataConfig
+metadata_config config answers = record {
+  features = config.features;
+  targets = answers.targets;
+  extra_args = config.extra_args;
+  metadata_extra_args = config.metadata_extra_args;
+  config_path = config.config_path;
+  extra_env = config.extra_env;
+  kind = reference (codes "workspace");
+  toolchain_version = answers.toolchain;
+}
+
+-- the metadata of the manifest's workspace, asked for in the manifest's directory by this command; the lockfile may change
+abbrev pub fetched_as : List ℕ → CargoMetadataConfig → ToolRoot → Bool → List (Question × Output) → FetchAnswer
+fetched_as manifest asked root no_deps answers = fetch_answer (fetch_of manifest (directory_of manifest) asked root no_deps answers) false answers
+
+-- the metadata of the manifest's workspace
+unfoldable pub fetched : Toolchain → List ℕ → CargoConfig → ToolAnswers → Means → FetchAnswer
+fetched sysroot manifest config answers means = fetched_as manifest (metadata_config config answers) (tool_root sysroot means) config.no_deps means.answers
+
+-- the environment of the workspace: that of the printed configuration, and then what is configured
+unfoldable pub environment : Option (List ℕ) → CargoConfig → Means → Environment
+environment file config means = fold (λ env variable. with_variable variable.0 variable.1 env) (config_env file means) config.extra_env

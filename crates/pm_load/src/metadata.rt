@@ -1,0 +1,130 @@
+//! The metadata of a workspace, and what stands beside it.
+
+ghost use Rattle.std.specs.Prelude.{◌≡◌, IfOk, option_copied};
+ghost use Rattle.std.specs.Option.{option_map};
+ghost use Rattle.cargo_values.specs.Errors.{error_text};
+ghost use Rattle.pm_load.specs.Loading.{Gives, of_fetch};
+ghost use Rattle.pm_load.specs.Metadata as spec;
+ghost use Rattle.pm_load.specs.Metadata.{fetched, fetched_as};
+ghost use Rattle.pm_sysroot.specs.Ask.{means_of};
+
+use crate::load_error::LoadError;
+use crate::tool_answers::ToolAnswers;
+use base_text::{Runner, Text, TryClone};
+use cargo_meta::{Error as MetadataError, Metadata};
+use crate_graph::Env;
+use pm_cargo::ManifestPath;
+use pm_config::{CargoConfig, CargoMetadataConfig, Progress, ToolRoot};
+use pm_fetch::FetchMetadata;
+use pm_sysroot::{Ask, Sysroot};
+use pm_tools::{CargoConfigFile, cargo_config_env};
+use std::alloc::{AllocError, Global};
+use trees::Tree;
+
+// How metadata is asked for.
+fn metadata_config(
+    alloc: Global,
+    config: &CargoConfig,
+    answers: &ToolAnswers,
+) -> Result<CargoMetadataConfig, AllocError>
+    ensures { IfOk result (λ asked. asked
+        ≡ record (spec.metadata_config config.now answers.now) { kind = asked.kind }) }
+{
+    Ok(CargoMetadataConfig {
+        features: config.features.try_clone(alloc)?,
+        targets: answers.targets.try_clone(alloc)?,
+        extra_args: config.extra_args.try_clone(alloc)?,
+        metadata_extra_args: config.metadata_extra_args.try_clone(alloc)?,
+        config_path: config.config_path.try_clone(alloc)?,
+        extra_env: config.extra_env.try_clone(alloc)?,
+        kind: "workspace",
+        toolchain_version: answers.toolchain.try_clone(alloc)?,
+    })
+}
+
+// The metadata of the workspace of a manifest, asked for in its directory.
+fn fetch_as<R: Runner, P: Progress>(
+    alloc: Global,
+    manifest: &ManifestPath,
+    asked: &CargoMetadataConfig,
+    root: &ToolRoot,
+    no_deps: bool,
+    runner: &R,
+    progress: &mut P,
+) -> Result<(Metadata, Option<MetadataError>), LoadError>
+    ensures { Gives result (of_fetch (fetched_as manifest.now asked.now root.now no_deps
+        (R.answers runner.now))) }
+{
+    let dir = manifest.parent();
+    let fetch = FetchMetadata::new(alloc, manifest, dir, asked, root, no_deps, runner)?;
+    Ok(fetch.exec(alloc, false, runner, progress)?)
+}
+
+/// The metadata of the workspace of a manifest, and beside it the error of the full question where the
+/// light answer stands in for it.
+#[tactic(auto, unfolding(crate::specs::Metadata::fetched))]
+pub fn fetch<R: Runner, T: Tree, P: Progress>(
+    alloc: Global,
+    sysroot: &Sysroot,
+    manifest: &ManifestPath,
+    config: &CargoConfig,
+    answers: &ToolAnswers,
+    ask: &Ask<'_, R, T>,
+    progress: &mut P,
+) -> Result<(Metadata, Option<MetadataError>), LoadError>
+    ensures { Gives result (of_fetch (fetched sysroot.now manifest.now config.now answers.now
+        (means_of R.answers T.files ask.now))) }
+{
+    let asked = metadata_config(alloc, config, answers)?;
+    let root = sysroot.tool_root(alloc, ask)?;
+    let no_deps = config.no_deps;
+    fetch_as(
+        alloc, manifest, &asked, &root, no_deps, ask.runner, progress,
+    )
+}
+
+// The environment of the workspace: that of the printed configuration, and then what is configured.
+#[tactic(auto, unfolding(crate::specs::Metadata::environment))]
+fn environment<R: Runner, T: Tree>(
+    alloc: Global,
+    file: Option<&CargoConfigFile>,
+    config: &CargoConfig,
+    ask: &Ask<'_, R, T>,
+) -> Result<Env, AllocError>
+    ensures { IfOk result (λ env. env ≡ spec.environment (option_copied file.entry) config.now
+        (means_of R.answers T.files ask.now)) }
+{
+    let mut env = cargo_config_env(alloc, file, ask)?;
+    for (name, value) in config.extra_env.as_map() {
+        if let Some(value) = value {
+            env.set(name.clone()?, value.try_clone(alloc)?.into_inner())?;
+        }
+    }
+    Ok(env)
+}
+
+/// The printed error, if there is one.
+pub fn printed(alloc: Global, error: Option<MetadataError>) -> Result<Option<Text>, AllocError>
+    ensures { IfOk result (λ text. text ≡ option_map error_text error) }
+{
+    match error {
+        Some(error) => Ok(Some(Text::new(error.to_string(alloc)?))),
+        None => Ok(None),
+    }
+}
+
+/// The environment of a workspace, and the printed error beside its metadata.
+pub fn beside_metadata<R: Runner, T: Tree>(
+    alloc: Global,
+    file: Option<&CargoConfigFile>,
+    config: &CargoConfig,
+    error: Option<MetadataError>,
+    ask: &Ask<'_, R, T>,
+) -> Result<(Env, Option<Text>), AllocError>
+    ensures env { IfOk result (λ made. made.0 ≡ spec.environment (option_copied file.entry)
+        config.now (means_of R.answers T.files ask.now)) }
+    ensures error { IfOk result (λ made. made.1 ≡ option_map error_text error) }
+{
+    let error = printed(alloc, error)?;
+    Ok((environment(alloc, file, config, ask)?, error))
+}
