@@ -41,9 +41,6 @@ fn count_packages(
     tree: &MemoryTree,
     process_env: &Env,
 ) -> Result<usize> {
-    let ProjectManifest::CargoToml(_) = manifest else {
-        bail!("no manifest of a package");
-    };
     if config.sysroot.is_some() || config.rustc_source.is_some() {
         bail!("sources of a toolchain are configured");
     }

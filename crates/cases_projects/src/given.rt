@@ -1,15 +1,16 @@
-//! What a load is given: a configuration, limits and recorded answers. There are no files.
+//! What a load is given: a configuration, limits, recorded answers and files.
 
 ghost use Rattle.std.specs.Prelude.{◌≡◌};
 
-use crate::values::paths_of;
-use base_text::{Items, Limits, RecordedRunner};
+use crate::values::{path_of, paths_of};
+use base_text::{Items, Limits, RecordedRunner, Text};
 use case_lines::{optional_path, optional_text, runner_of, variables};
 use case_tools::usual_tools;
-use cases::{Case, Fault, number_of};
+use cases::{Case, Fault, number_of, texts_of_pair};
 use crate_graph::Env;
 use pm_config::{CargoConfig, Tools};
 use pm_sysroot::Ask;
+use serde_json::Value;
 use std::alloc::Global;
 use trees::MemoryTree;
 
@@ -27,13 +28,14 @@ impl Given {
     pub fn of_case(alloc: Global, case: Case<'_>) -> Result<Given, Fault> {
         let (limits, answers) = (limits_of(case)?, case.list("answers")?);
         let runner = runner_of(alloc, answers)?;
+        let tree = tree_of(alloc, case.list("files")?)?;
         let tools = usual_tools(alloc)?;
         Ok(Given {
             limits,
             tools,
             process_env: Env::new(alloc),
             runner,
-            tree: MemoryTree::new(alloc),
+            tree,
         })
     }
 
@@ -74,4 +76,20 @@ fn limits_of(case: Case<'_>) -> Result<Limits, Fault> {
         limits.crates = number_of(crates, "crates")?;
     }
     Ok(limits)
+}
+
+// The files of a case, each a path and a text.
+fn tree_of(alloc: Global, files: &[Value]) -> Result<MemoryTree, Fault> {
+    let mut tree = MemoryTree::new(alloc);
+    for file in files {
+        insert(alloc, &mut tree, file)?;
+    }
+    Ok(tree)
+}
+
+fn insert(alloc: Global, tree: &mut MemoryTree, file: &Value) -> Result<(), Fault> {
+    let (path, text) = texts_of_pair(file, "files")?;
+    let text = Text::of_str(alloc, text)?;
+    tree.insert(path_of(alloc, path)?, text)?;
+    Ok(())
 }

@@ -1,13 +1,12 @@
 //! The graph of a project's crates.
 
-ghost use Rattle.pm_lower.specs.ToRoots.{KindHasNoRustc};
-
 use crate::loaders::live_loader;
+use crate::projects::has_no_rustc;
 use crate::values::{limit_name, with_text};
 use base_text::{Limits, RecordedRunner};
 use cases::{Case, Fault, List};
 use crate_graph::{CrateBuilder, CrateGraphBuilder, ProcMacroPaths};
-use pm_lower::{LowerError, ProjectWorkspace, ProjectWorkspaceKind};
+use pm_lower::{LowerError, ProjectWorkspace};
 use pm_sysroot::Ask;
 use serde_json::Value;
 use std::alloc::Global;
@@ -22,9 +21,9 @@ pub fn answer(
     ask: &Ask<'_, RecordedRunner, MemoryTree>,
     project: &ProjectWorkspace,
 ) -> Result<Value, Fault> {
-    let ProjectWorkspaceKind::Cargo { rustc: Err(_), .. } = &project.kind else {
+    if !has_no_rustc(project) {
         return Err(Fault::Condition);
-    };
+    }
     let mut loader = live_loader(alloc, case.list("live")?)?;
     graph_or_refusal(
         alloc,

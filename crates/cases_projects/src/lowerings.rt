@@ -19,7 +19,16 @@ pub fn answer(alloc: Global, case: Case<'_>) -> Result<Value, Fault> {
     if case.text("call")? != "lower_cargo" {
         return Err(Fault::Call);
     }
-    match &lower(alloc, case)? {
+    graph_answer(alloc, case, &lower(alloc, case)?)
+}
+
+/// What a case asks of a graph, or why there is none.
+pub fn graph_answer(
+    alloc: Global,
+    case: Case<'_>,
+    graph: &Result<CrateGraphBuilder, LowerError>,
+) -> Result<Value, Fault> {
+    match graph {
         Ok(graph) => crates::answer(alloc, case, graph),
         Err(error) => refusal(alloc, error),
     }
@@ -33,8 +42,8 @@ fn lower(alloc: Global, case: Case<'_>) -> Result<Result<CrateGraphBuilder, Lowe
     Ok(lower_cargo(alloc, &workspace, &shared, &mut loader, &limits))
 }
 
-// The limits of a case. The limit of crates is the greatest where it is left out.
-fn limits_of(case: Case<'_>) -> Result<Limits, Fault> {
+/// The limits of a case. The limit of crates is the greatest where it is left out.
+pub fn limits_of(case: Case<'_>) -> Result<Limits, Fault> {
     let mut limits = Limits::greatest();
     if let Some(crates) = case.find("limit") {
         limits.crates = number_of(crates, "limit")?;
@@ -42,7 +51,8 @@ fn limits_of(case: Case<'_>) -> Result<Limits, Fault> {
     Ok(limits)
 }
 
-fn workspace_data(alloc: Global) -> Result<Rc<CrateWorkspaceData>, Fault> {
+/// What the crates of a graph share.
+pub fn workspace_data(alloc: Global) -> Result<Rc<CrateWorkspaceData>, Fault> {
     let text = Text::of_str(alloc, "bad target spec")?;
     let data = CrateWorkspaceData {
         target: Err(TargetLoadError(text)),

@@ -1,9 +1,11 @@
-//! Cases of projects: what documents of Cargo workspaces are read as, how projects are loaded, the graphs that they are lowered to and
-//! the roots of their packages, and how they are built.
+//! Cases of projects: what documents of Cargo workspaces are read as, how projects of each kind are loaded, the graphs that they are
+//! lowered to and their roots, and how they are built.
 #![tactic(auto)]
 
+mod detached;
 mod given;
 mod graphs;
+mod json_lowerings;
 mod loaders;
 mod lowerings;
 mod project_builds;
@@ -31,6 +33,8 @@ impl<R: AllocGlobal> Family<R> for ProjectFamily {
             "projects.jsonl" => projects::answer(alloc, case),
             "project_builds.jsonl" => project_builds::answer(alloc, case),
             "roots.jsonl" => roots::answer(alloc, case),
+            "json_lowerings.jsonl" => json_lowerings::answer(alloc, case),
+            "detached.jsonl" => detached::answer(alloc, case),
             "build_questions.jsonl" => workspace_builds::build_questions::answer(alloc, case),
             "builds.jsonl" => workspace_builds::builds::answer(alloc, case),
             "outputs.jsonl" => workspace_builds::outputs::answer(alloc, case),

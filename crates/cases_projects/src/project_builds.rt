@@ -1,18 +1,18 @@
 //! Builds of projects: what they give each of some projects, and what is asked of a project after builds.
 
 use crate::given::{Given, configure};
-use crate::projects::{asked, load_project};
-use crate::values::{manifest_of, path_of};
+use crate::projects::{asked, cargo_of, load_project, project_manifest_of};
+use crate::values::path_of;
 use crate::workspace_builds::build_config::command_of;
 use crate::workspace_builds::outputs::{refusal_answer, result_answer};
 use base_text::TryClone;
 use case_lines::output_of;
 use case_tools::Lines;
 use cases::{Case, Fault, List, Object, text_of};
+use pm_build::WorkspaceBuildScripts;
 use pm_config::{CargoConfig, InvocationStrategy, Quiet};
+use pm_lower::ProjectWorkspace;
 use pm_lower::build_scripts::BuildResult;
-use pm_lower::{ProjectWorkspace, ProjectWorkspaceKind};
-use pm_tools::ProjectManifest;
 use serde_json::Value;
 use std::alloc::Global;
 
@@ -78,8 +78,7 @@ fn push_project(
     config: &CargoConfig,
     given: &Given,
 ) -> Result<(), Fault> {
-    let manifest = manifest_of(alloc, text_of(manifest, "manifests")?)?;
-    let manifest = ProjectManifest::CargoToml(manifest);
+    let manifest = project_manifest_of(alloc, text_of(manifest, "manifests")?)?;
     match load_project(alloc, &manifest, config, given, &mut Quiet)? {
         Ok(project) => projects.push(project)?,
         Err(_) => return Err(Fault::Condition),
@@ -127,8 +126,11 @@ fn scripts_answer(
     project: &ProjectWorkspace,
     scripts: &BuildResult,
 ) -> Result<Value, Fault> {
-    let ProjectWorkspaceKind::Cargo { cargo, .. } = &project.kind;
-    result_answer(alloc, cargo, scripts)
+    match (cargo_of(project), scripts) {
+        (Some((cargo, _)), scripts) => result_answer(alloc, cargo, scripts),
+        (None, Ok(_)) => Ok(Value::Null),
+        (None, Err(error)) => refusal_answer(alloc, error),
+    }
 }
 
 // What a build gives the project.
@@ -175,12 +177,21 @@ fn set_build(
 ) -> Result<Option<Value>, Fault> {
     let output = output_of(alloc, build)?;
     match project.build_scripts_of_output(alloc, &output, &mut Quiet) {
-        Ok(scripts) => {
-            project.set_build_scripts(scripts);
-            Ok(None)
-        }
+        Ok(scripts) => set_scripts(project, scripts),
         Err(error) => Ok(Some(refusal_answer(alloc, &error)?)),
     }
+}
+
+// Puts outputs into a project that has a Cargo workspace.
+fn set_scripts(
+    project: &mut ProjectWorkspace,
+    scripts: WorkspaceBuildScripts,
+) -> Result<Option<Value>, Fault> {
+    if !project.has_cargo_workspace() {
+        return Err(Fault::Condition);
+    }
+    project.set_build_scripts(scripts);
+    Ok(None)
 }
 
 // Whether the first two projects are equal except for builds.

@@ -1,10 +1,11 @@
 //! Loads the project of a case, and asks it what the case asks.
 
-ghost use Rattle.pm_lower.specs.ToRoots.{KindHasNoRustc};
+ghost use Rattle.std.specs.Prelude.{IsTrue};
+ghost use Rattle.pm_lower.specs.ToRoots.{HasNoRustc, KindHasNoRustc};
 
 use crate::given::{Given, configure};
 use crate::graphs;
-use crate::values::{limit_name, manifest_of, paths_answer, roots_answer, with_text};
+use crate::values::{limit_name, path_of, paths_answer, roots_answer, with_text};
 use base_text::{CfgAtom, Items, RecordedRunner, Text, Version, write_cfg};
 use case_tools::Lines;
 use cases::{Case, Fault, List, error_answer, optional_answer, text_answer};
@@ -12,6 +13,7 @@ use crate_graph::Env;
 use crate_graph::target::{Arch, TargetLoadResult};
 use pm_cargo::CargoWorkspace;
 use pm_config::{CargoConfig, Progress};
+use pm_json::ProjectJson;
 use pm_lower::{LoadError, ProjectWorkspace, ProjectWorkspaceKind};
 use pm_sysroot::Ask;
 use pm_tools::ProjectManifest;
@@ -24,8 +26,16 @@ pub fn answer(alloc: Global, case: Case<'_>) -> Result<Value, Fault> {
     if case.text("call")? != "ProjectWorkspace::load" {
         return Err(Fault::Call);
     }
-    let manifest = ProjectManifest::CargoToml(manifest_of(alloc, case.text("manifest")?)?);
+    let manifest = project_manifest_of(alloc, case.text("manifest")?)?;
     with_manifest(alloc, case, &manifest)
+}
+
+/// The manifest at a path, of the kind that its name says.
+pub fn project_manifest_of(alloc: Global, text: &str) -> Result<ProjectManifest, Fault> {
+    match ProjectManifest::from_manifest_file(path_of(alloc, text)?) {
+        Ok(manifest) => Ok(manifest),
+        Err(_) => Err(Fault::Condition),
+    }
 }
 
 fn with_manifest(
@@ -73,9 +83,6 @@ pub fn load_project<P: Progress>(
     if config.sysroot.is_some() || config.rustc_source.is_some() {
         return Err(Fault::Condition);
     }
-    let ProjectManifest::CargoToml(_) = manifest else {
-        return Err(Fault::Condition);
-    };
     let ask = given.ask(config);
     Ok(ProjectWorkspace::load(alloc, manifest, config, &given.limits, &ask, progress))
 }
@@ -112,18 +119,51 @@ fn of_project(
 
 /// What a case asks of the project that was loaded.
 pub fn asked(alloc: Global, question: &str, project: &ProjectWorkspace) -> Result<Value, Fault> {
-    let ProjectWorkspaceKind::Cargo { cargo, error, .. } = &project.kind;
     match question {
         "summary" => summary(alloc, project),
-        "names" => names(alloc, cargo),
+        "names" => names(alloc, project),
         "roots" => roots(alloc, project),
-        "error" => optional_answer(alloc, error.as_ref().map(Text::as_str)),
-        "env" => env_answer(alloc, cargo.env()),
+        "error" | "env" => asked_of_cargo(alloc, question, project),
         "cfgs" => cfgs_answer(alloc, &project.rustc_cfg),
         "toolchain" => version_answer(alloc, project.toolchain.as_ref()),
         "target" => target_answer(alloc, &project.target),
         "buildfiles" => buildfiles(alloc, project),
         _ => Err(Fault::Member("ask")),
+    }
+}
+
+// What a case asks of a project's Cargo workspace, or null where there is none.
+fn asked_of_cargo(
+    alloc: Global,
+    question: &str,
+    project: &ProjectWorkspace,
+) -> Result<Value, Fault> {
+    match (question, cargo_of(project)) {
+        ("error", Some((_, error))) => { optional_answer(alloc, error.as_ref().map(Text::as_str)) }
+        (_, Some((cargo, _))) => env_answer(alloc, cargo.env()),
+        (_, None) => Ok(Value::Null),
+    }
+}
+
+/// The Cargo workspace of a project, where it has one, and the error beside it.
+pub fn cargo_of(project: &ProjectWorkspace) -> Option<(&CargoWorkspace, &Option<Text>)> {
+    match &project.kind {
+        ProjectWorkspaceKind::Cargo { cargo, error, .. } => Some((cargo, error)),
+        ProjectWorkspaceKind::Json(_) => None,
+        ProjectWorkspaceKind::DetachedFile { cargo, .. } => {
+            let (cargo, _, error) = cargo.as_ref()?;
+            Some((cargo, error))
+        }
+    }
+}
+
+/// Whether no crates of the compiler were read beside the project.
+pub fn has_no_rustc(project: &ProjectWorkspace) -> bool
+    ensures { IsTrue result → HasNoRustc project.now }
+{
+    match &project.kind {
+        ProjectWorkspaceKind::Cargo { rustc, .. } => rustc.is_err(),
+        ProjectWorkspaceKind::Json(_) | ProjectWorkspaceKind::DetachedFile { .. } => true,
     }
 }
 
@@ -140,9 +180,9 @@ fn buildfiles(alloc: Global, project: &ProjectWorkspace) -> Result<Value, Fault>
 
 // The roots of a project beside which no crates of the compiler were read.
 fn roots(alloc: Global, project: &ProjectWorkspace) -> Result<Value, Fault> {
-    let ProjectWorkspaceKind::Cargo { rustc: Err(_), .. } = &project.kind else {
+    if !has_no_rustc(project) {
         return Err(Fault::Condition);
-    };
+    }
     match project.to_roots(alloc) {
         Ok(roots) => roots_answer(alloc, roots.as_slice()),
         Err(_) => Err(Fault::OutOfMemory),
@@ -161,7 +201,24 @@ fn summary(alloc: Global, project: &ProjectWorkspace) -> Result<Value, Fault> {
         .answer()
 }
 
-fn names(alloc: Global, cargo: &CargoWorkspace) -> Result<Value, Fault> {
+// The names of the packages, or the root modules of the crates of a JSON project; null for a detached file alone.
+fn names(alloc: Global, project: &ProjectWorkspace) -> Result<Value, Fault> {
+    match (&project.kind, cargo_of(project)) {
+        (ProjectWorkspaceKind::Json(project), _) => root_modules(alloc, project),
+        (_, Some((cargo, _))) => package_names(alloc, cargo),
+        (_, None) => Ok(Value::Null),
+    }
+}
+
+fn root_modules(alloc: Global, project: &ProjectJson) -> Result<Value, Fault> {
+    let mut answers = List::new(alloc);
+    for krate in project.crates.as_slice() {
+        answers = answers.text(krate.root_module.as_str());
+    }
+    answers.answer()
+}
+
+fn package_names(alloc: Global, cargo: &CargoWorkspace) -> Result<Value, Fault> {
     let mut answers = List::new(alloc);
     for id in cargo.packages() {
         if cargo.has_package(id) {
@@ -211,6 +268,7 @@ fn target_answer(alloc: Global, target: &TargetLoadResult) -> Result<Value, Faul
 // A refusal by its name, with its text or with what there is too much of.
 fn refusal(alloc: Global, error: &LoadError) -> Result<Value, Fault> {
     match error {
+        LoadError::NoSuchFile(path) => with_text(alloc, "NoSuchFile", path.as_str()),
         LoadError::CargoMetadata { stderr } => with_text(alloc, "CargoMetadata", stderr.as_str()),
         LoadError::Io { line } => with_text(alloc, "Io", line.as_str()),
         LoadError::Json { field } => with_text(alloc, "Json", field.as_str()),

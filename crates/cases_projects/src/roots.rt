@@ -35,8 +35,11 @@ fn is_copied(alloc: Global, roots: &Items<PackageRoot>) -> Result<Value, Fault> 
     Ok(Value::from(roots.try_clone(alloc)? == *roots))
 }
 
-// The directories that builds wrote into, each behind the number of its package.
-fn out_dirs_of(alloc: Global, case: Case<'_>) -> Result<ArenaMap<PackageTag, AbsPathBuf>, Fault> {
+/// The directories that builds wrote into, each behind the number of its package.
+pub fn out_dirs_of(
+    alloc: Global,
+    case: Case<'_>,
+) -> Result<ArenaMap<PackageTag, AbsPathBuf>, Fault> {
     let values = case.list("out_dirs")?;
     let mut out_dirs = ArenaMap::new(alloc);
     for value in values {

@@ -1,5 +1,5 @@
 -- What builds give projects, one after another.
-use Rattle.std.proofs.Common.{◌≡◌, ℕ, ◌+◌, ◌<◌, List, [], ◌∷◌, ◌++◌, IfOk, Result, Ok, Err, ap, get_or, length, map, subst, sym, take, ◌∙◌}
+use Rattle.std.proofs.Common.{◌≡◌, ℕ, ◌+◌, ◌<◌, List, [], ◌∷◌, ◌++◌, IfOk, Result, Ok, Err, refl, ap, get_or, length, map, subst, sym, take, ◌∙◌}
 use Rattle.std.proofs.lemmas.List.{map-append, take_more}
 use Rattle.pm_build.specs.Outputs.{BuildScripts}
 use Rattle.pm_build.specs.Reading.{Gives, Reading}
@@ -9,7 +9,7 @@ use Rattle.pm_build.specs.declared.build_error.BuildError.TheVariants.{Io, NotAb
 use Rattle.pm_lower.specs.Builds.{GivesEach, kind_share}
 use Rattle.pm_lower.specs.declared.project_workspace.ProjectWorkspace.{ProjectWorkspace}
 use Rattle.pm_lower.specs.declared.project_workspace.ProjectWorkspaceKind.{ProjectWorkspaceKind}
-use Rattle.pm_lower.specs.declared.project_workspace.ProjectWorkspaceKind.TheVariants.{Cargo}
+use Rattle.pm_lower.specs.declared.project_workspace.ProjectWorkspaceKind.TheVariants.{Cargo, Json, DetachedFile}
 
 -- one more
 gives_each-more : {T : Type 0} (results : List (Result T BuildError)) (readings : List (Reading T)) (result : Result T BuildError) (reading : Reading T)
@@ -35,6 +35,8 @@ gives_share (Ok build) reading (Cargo cargo error scripts rustc) is = ap (λ q. 
 gives_share (Err (Io line)) reading (Cargo cargo error scripts rustc) is = ap (λ q. kind_share q (Cargo cargo error scripts rustc)) is
 gives_share (Err (NotAbsolute text)) reading (Cargo cargo error scripts rustc) is = ap (λ q. kind_share q (Cargo cargo error scripts rustc)) is
 gives_share (Err OutOfMemory) reading (Cargo cargo error scripts rustc) is = tt
+gives_share build reading (Json project) is = refl
+gives_share build reading (DetachedFile file script) is = refl
 
 -- so it is of each project
 gives_each_share : (build reading : Reading SharedBuild) (projects : List ProjectWorkspace) → Gives build reading

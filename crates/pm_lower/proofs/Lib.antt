@@ -1,5 +1,5 @@
 mod BuildLemmas
+mod DetachedLemmas
 mod EqualityLemmas
-mod LoadingLemmas
+mod JsonLemmas
 mod ProjectLemmas
-mod ToolLemmas

@@ -1,10 +1,5 @@
 -- A project is loaded step by step: each step is that of the definition, where the code's values are those of the definition.
-use Rattle.std.proofs.Common.{◌≡◌, ℕ, Bool, false, List, codes, Option, Some, Result, Ok, Err, refl, sym, ap, subst, ◌∙◌}
-use Rattle.std.specs.Borrow.{Bor}
-use Rattle.std.specs.Option.{unwrap_or}
-use Rattle.base_text.specs.Paths.{parent_text}
-use Rattle.outside.specs.declared.command.Output.{Output}
-use Rattle.outside.specs.declared.command.Question.{Question}
+use Rattle.std.proofs.Common.{◌≡◌, ℕ, false, List, Option, Result, Ok, Err, refl, sym, ap, subst, ◌∙◌}
 use Rattle.outside.specs.declared.limits.Limits.{Limits}
 use Rattle.cargo_meta.specs.declared.metadata.Metadata.{Metadata}
 use Rattle.cargo_values.specs.declared.errors.Error.{Error}
@@ -13,44 +8,52 @@ use Rattle.pm_cargo.specs.Shuffle.{IsShuffle}
 use Rattle.pm_cargo.specs.Workspace.{Workspace}
 use Rattle.pm_cargo.proofs.ShuffleLemmas.{shuffle-read}
 use Rattle.pm_config.specs.declared.config.CargoConfig.{CargoConfig}
-use Rattle.pm_config.specs.declared.metadata_config.CargoMetadataConfig.{CargoMetadataConfig}
-use Rattle.pm_config.specs.declared.tool_root.ToolRoot.{ToolRoot}
-use Rattle.pm_fetch.specs.Fetch.{Fetch, fetch_answer, fetch_of}
-use Rattle.pm_lower.specs.Located.{located_manifest}
-use Rattle.pm_lower.specs.Loading.{Gives, Loading, Refuses, ◌>>=◌, of_fetch, of_reading, of_workspace_error}
+use Rattle.pm_load.specs.Located.{located_manifest}
+use Rattle.pm_load.specs.Loading.{Gives, Loading, Refuses, ◌>>=◌, of_fetch, of_reading, of_workspace_error}
+use Rattle.pm_load.specs.Metadata.{environment, fetched}
+use Rattle.pm_load.specs.ToolAnswers.{tool_answers}
+use Rattle.pm_load.specs.declared.load_error.LoadError.{LoadError}
+use Rattle.pm_load.specs.declared.tool_answers.PlatformAsked.TheVariants.{FirstTarget}
+use Rattle.pm_load.specs.declared.tool_answers.ToolAnswers.{ToolAnswers}
+use Rattle.pm_load.proofs.LoadingLemmas.{gives_next, refuses_first, refuses_reading}
 use Rattle.pm_lower.specs.Order.{IsLoadedAlike}
-use Rattle.pm_lower.specs.Project.{cargo_project, environment, fetched, fetched_as, kind_of, kind_with, located_project, metadata_config, project_of, project_with, tool_answers}
-use Rattle.pm_lower.specs.declared.load_error.LoadError.{LoadError}
+use Rattle.pm_lower.specs.Project.{cargo_project, kind_of, kind_with, located_project, project_of, project_with}
+use Rattle.pm_lower.specs.declared.cargo_project.Settings.{Settings}
 use Rattle.pm_lower.specs.declared.project_workspace.ProjectWorkspace.{ProjectWorkspace}
 use Rattle.pm_lower.specs.declared.project_workspace.ProjectWorkspaceKind.{ProjectWorkspaceKind}
-use Rattle.pm_lower.specs.declared.tool_answers.ToolAnswers.{ToolAnswers}
-use Rattle.pm_lower.proofs.LoadingLemmas.{gives_next, refuses_first, refuses_reading}
 use Rattle.pm_reading.specs.Reading as reading
 use Rattle.pm_reading.specs.Reading.{Reading}
 use Rattle.pm_reading.specs.declared.workspace_error.WorkspaceError.{WorkspaceError}
-use Rattle.pm_roots.specs.Roots.{directory_of}
 use Rattle.pm_sysroot.specs.Ask.{Means}
-use Rattle.pm_sysroot.specs.Sysroot.{tool_root}
 use Rattle.pm_sysroot.specs.Toolchain.{Toolchain}
 
--- ---- what is asked of a manifest
+-- ---- what is kept of the configuration
 
--- the directory that is above a manifest
-above : (manifest dir : List ℕ) → Some dir ≡ parent_text manifest → dir ≡ directory_of manifest
-above manifest dir is = ap (λ (parent : Option (List ℕ)). unwrap_or parent (codes "/")) is
+-- the project of a kind, made of parts
+abbrev pub made_of : Toolchain → Settings → ToolAnswers → ProjectWorkspaceKind → ProjectWorkspace
+made_of sysroot settings answers kind = record {
+  kind = kind;
+  sysroot = sysroot;
+  rustc_cfg = answers.rustc_cfg;
+  toolchain = answers.toolchain;
+  target = answers.target;
+  cfg_overrides = settings.cfg_overrides;
+  extra_includes = settings.extra_includes;
+  set_test = settings.set_test;
+}
 
--- what is fetched by a command; the directory is that of the manifest
-pub fetched_as-is : (manifest dir : List ℕ) (asked : CargoMetadataConfig) (root : ToolRoot) (no_deps : Bool) (answers : List (Question × Output)) (fetch : Fetch) → Some dir ≡ parent_text manifest
-    → fetch ≡ fetch_of manifest dir asked root no_deps answers → fetch_answer fetch false answers ≡ fetched_as manifest asked root no_deps answers
-fetched_as-is manifest dir asked root no_deps answers fetch is_dir is_fetch =
-    ap (λ (f : Fetch). fetch_answer f false answers) (is_fetch ∙ (λ i. fetch_of manifest (above manifest dir is_dir i) asked root no_deps answers))
+-- what a project keeps of its configuration
+abbrev pub settings_kept : CargoConfig → Settings
+settings_kept config = record {
+  cfg_overrides = config.cfg_overrides;
+  extra_includes = config.extra_includes;
+  set_test = config.set_test;
+}
 
--- what is fetched; the kind of metadata has no effect
-pub fetched-is : (sysroot : Toolchain) (manifest : List ℕ) (config : CargoConfig) (answers : ToolAnswers) (means : Means) (kind : Bor (List ℕ))
-    (asked : CargoMetadataConfig) (root : ToolRoot) → asked ≡ record (metadata_config config answers) { kind = kind } → root ≡ tool_root sysroot means
-    → fetched_as manifest asked root config.no_deps means.answers ≡ fetched sysroot manifest config answers means
-unfolding fetched
-fetched-is sysroot manifest config answers means kind asked root is_asked is_root = λ i. fetched_as manifest (is_asked i) (is_root i) config.no_deps means.answers
+-- with these, the project is that of the definition
+pub made-is : (sysroot : Toolchain) (config : CargoConfig) (settings : Settings) (answers : ToolAnswers) (kind : ProjectWorkspaceKind) (made : ProjectWorkspace)
+    → made ≡ made_of sysroot settings answers kind → settings ≡ settings_kept config → made ≡ project_of sysroot config answers kind
+made-is sysroot config settings answers kind made is_made is_settings = is_made ∙ ap (λ (s : Settings). made_of sysroot s answers kind) is_settings
 
 -- ---- a load
 
@@ -91,12 +94,12 @@ module _ (sysroot : Toolchain) (manifest : List ℕ) (config : CargoConfig) (lim
     unfolding project_with
     project-read kind project is made = ap (λ (r : Loading ProjectWorkspaceKind). r >>= λ k. Ok (project_of sysroot config answers k)) is ∙ ap Ok (sym made)
 
-  module _ (answers : ToolAnswers) (is_answers : answers ≡ tool_answers sysroot manifest config means) where
+  module _ (answers : ToolAnswers) (is_answers : answers ≡ tool_answers sysroot manifest FirstTarget config means) where
     -- no metadata is fetched
     pub metadata-refused : (e : LoadError) → Refuses e (of_fetch (fetched sysroot manifest config answers means)) → Refuses e (located_project sysroot manifest config limits means)
     unfolding located_project
     metadata-refused e h =
-        let all = tool_answers sysroot manifest config means in
+        let all = tool_answers sysroot manifest FirstTarget config means in
         refuses_first e (of_fetch (fetched sysroot manifest config all means)) (λ (m : Metadata × Option Error). project_with sysroot manifest config all limits means m)
         (subst (λ (a : ToolAnswers). Refuses e (of_fetch (fetched sysroot manifest config a means))) is_answers h)
 
@@ -105,7 +108,7 @@ module _ (sysroot : Toolchain) (manifest : List ℕ) (config : CargoConfig) (lim
         → Gives result (project_with sysroot manifest config answers limits means metadata) → Gives result (located_project sysroot manifest config limits means)
     unfolding located_project
     metadata-gives result metadata is h =
-        let all = tool_answers sysroot manifest config means in
+        let all = tool_answers sysroot manifest FirstTarget config means in
         gives_next result (of_fetch (fetched sysroot manifest config all means)) metadata (λ (m : Metadata × Option Error). project_with sysroot manifest config all limits means m)
         (subst (λ (a : ToolAnswers). of_fetch (fetched sysroot manifest config a means) ≡ Ok metadata) is_answers is)
         (subst (λ (a : ToolAnswers). Gives result (project_with sysroot manifest config a limits means metadata)) is_answers h)
@@ -125,7 +128,7 @@ module _ (sysroot : Toolchain) (manifest : List ℕ) (config : CargoConfig) (lim
 -- ---- the order of metadata
 
 -- what is loaded of a reading in two steps is made of what was read
-read_before : {A B C : Type 0} (part : Reading A) (f : A → B) (g : B → C) (y : C) → ((of_reading part >>= λ x. Ok (f x)) >>= λ k. Ok (g k)) ≡ Ok y → (x : A) × (part ≡ Ok x) × (g (f x) ≡ y)
+pub read_before : {A B C : Type 0} (part : Reading A) (f : A → B) (g : B → C) (y : C) → ((of_reading part >>= λ x. Ok (f x)) >>= λ k. Ok (g k)) ≡ Ok y → (x : A) × (part ≡ Ok x) × (g (f x) ≡ y)
 read_before (Ok x) f g y is = (x, refl, cc)
 read_before (Err e) f g y is = cc
 

@@ -1,7 +1,8 @@
 -- Builds of projects: what a build gives one project, or several, which may share one build; and a project with what a build gave. The rules are those of rust-analyzer's `ProjectWorkspace`.
-use Rattle.std.specs.Prelude.{ℕ, List, [], ◌∷◌, map, Option, Some, None, Result, Ok}
+use Rattle.std.specs.Prelude.{◌≡◌, ◌⊎◌, ℕ, true, List, [], ◌∷◌, map, Option, Some, None, Result, Ok}
 use Rattle.std.specs.FinMap.{empty}
 use Rattle.std.specs.List.{flat_map}
+use Rattle.std.specs.Option.{option_map}
 use Rattle.base_values.specs.Version.{Parts}
 use Rattle.outside.specs.declared.command.CommandLine.{CommandLine}
 use Rattle.outside.specs.declared.command.Output.{Output}
@@ -15,9 +16,10 @@ use Rattle.pm_cargo.specs.Workspace.{Workspace}
 use Rattle.pm_config.specs.declared.config.CargoConfig.{CargoConfig}
 use Rattle.pm_config.specs.declared.config.InvocationStrategy.{InvocationStrategy}
 use Rattle.pm_config.specs.declared.config.InvocationStrategy.TheVariants.{Once, PerWorkspace}
+use Rattle.pm_lower.specs.ProjectWorkspace.{ScriptPart, has_cargo_workspace}
 use Rattle.pm_lower.specs.declared.project_workspace.ProjectWorkspace.{ProjectWorkspace}
 use Rattle.pm_lower.specs.declared.project_workspace.ProjectWorkspaceKind.{ProjectWorkspaceKind}
-use Rattle.pm_lower.specs.declared.project_workspace.ProjectWorkspaceKind.TheVariants.{Cargo}
+use Rattle.pm_lower.specs.declared.project_workspace.ProjectWorkspaceKind.TheVariants.{Cargo, Json, DetachedFile}
 use Rattle.pm_sysroot.specs.Ask.{Means}
 use Rattle.pm_sysroot.specs.Toolchain.{Toolchain}
 
@@ -27,10 +29,21 @@ no_scripts = record { outputs = empty; error = None }
 
 -- ---- one project
 
--- the workspace of a kind of project that its builds count for: none where the light metadata stands in for the full one
+-- a workspace that builds count for: none where the light metadata stands in for the full one
+abbrev pub unless_light : Workspace → Option (List ℕ) → Option Workspace
+unless_light cargo None = Some cargo
+unless_light cargo (Some error) = None
+
+-- the workspace of a detached file that its builds count for
+abbrev pub built_script : Option ScriptPart → Option Workspace
+built_script None = None
+built_script (Some script) = unless_light script.0 script.2
+
+-- the workspace of a kind of project that its builds count for
 abbrev pub built_workspace : ProjectWorkspaceKind → Option Workspace
-built_workspace (Cargo cargo None scripts rustc) = Some cargo
-built_workspace (Cargo cargo (Some error) scripts rustc) = None
+built_workspace (Cargo cargo error scripts rustc) = unless_light cargo error
+built_workspace (Json project) = None
+built_workspace (DetachedFile file script) = built_script script
 
 -- what the output of a build gives the workspace that it counts for, if there is one
 abbrev pub outputs_for : Option Workspace → Output → Reading BuildScripts
@@ -52,17 +65,21 @@ project_build config means p = build_for config p.sysroot p.toolchain means (bui
 
 -- ---- several projects
 
--- the workspaces of a kind of project that a build of all covers
+-- the workspaces of a kind of project that a build of all covers: that of a project of cargo
 abbrev pub kind_workspaces : ProjectWorkspaceKind → List Workspace
 kind_workspaces (Cargo cargo error scripts rustc) = cargo ∷ []
+kind_workspaces (Json project) = []
+kind_workspaces (DetachedFile file script) = []
 
 -- those of some projects
 abbrev pub workspaces_of : List ProjectWorkspace → List Workspace
 workspaces_of projects = flat_map (λ p. kind_workspaces p.kind) projects
 
--- what a build of all gives a kind of project: its packages' outputs, or the refusal
+-- what a build of all gives a kind of project: a project of cargo its packages' outputs, or the refusal, and any other nothing
 abbrev pub kind_share : Reading SharedBuild → ProjectWorkspaceKind → Reading BuildScripts
 kind_share build (Cargo cargo error scripts rustc) = build >>= λ shared. Ok (scripts_for shared cargo)
+kind_share build (Json project) = Ok no_scripts
+kind_share build (DetachedFile file script) = Ok no_scripts
 
 -- the command that is asked once for all projects, where it is configured so
 abbrev pub command_for_all : CargoConfig → List ℕ → Means → InvocationStrategy → Option CommandLine
@@ -86,9 +103,19 @@ GivesEach results readings = ⊥
 
 -- ---- a project with what a build gave
 
+-- a kind of project can be given this: it has a Cargo workspace, or nothing is given
+abbrev pub TakesBuild : ProjectWorkspaceKind → BuildScripts → Type 0
+TakesBuild kind scripts = (has_cargo_workspace kind ≡ true) ⊎ (scripts ≡ no_scripts)
+
+-- the project of a detached file, with this in place of what a build gave it before
+abbrev pub script_with_build : BuildScripts → ScriptPart → ScriptPart
+script_with_build scripts script = (script.0, scripts, script.2)
+
 -- a kind of project with this in place of what a build gave it before
 abbrev pub kind_with_build_scripts : ProjectWorkspaceKind → BuildScripts → ProjectWorkspaceKind
 kind_with_build_scripts (Cargo cargo error before rustc) scripts = Cargo cargo error scripts rustc
+kind_with_build_scripts (Json project) scripts = Json project
+kind_with_build_scripts (DetachedFile file script) scripts = DetachedFile file (option_map (script_with_build scripts) script)
 
 -- a project with this in place of what a build gave it before
 abbrev pub with_build_scripts : ProjectWorkspace → BuildScripts → ProjectWorkspace

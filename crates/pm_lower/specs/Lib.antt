@@ -1,9 +1,10 @@
 pub mod Builds
+pub mod DetachedProject
 pub mod Equality
-pub mod Loading
-pub mod Located
+pub mod JsonProject
 pub mod Project
 pub mod Order
 pub mod ProjectWorkspace
+pub mod ReadProject
 pub mod ToCrateGraph
 pub mod ToRoots

@@ -1,12 +1,13 @@
 -- The order of metadata has no effect on the project that is loaded from it.
-use Rattle.std.specs.Prelude.{◌≡◌, ℕ, List, Option, Ok}
+use Rattle.std.specs.Prelude.{◌≡◌, ℕ, List, Option, Some, Ok}
 use Rattle.outside.specs.declared.limits.Limits.{Limits}
 use Rattle.cargo_meta.specs.declared.metadata.Metadata.{Metadata}
 use Rattle.cargo_values.specs.declared.errors.Error.{Error}
 use Rattle.pm_config.specs.declared.config.CargoConfig.{CargoConfig}
+use Rattle.pm_lower.specs.DetachedProject.{detached_with}
 use Rattle.pm_lower.specs.Project.{project_with}
 use Rattle.pm_lower.specs.declared.project_workspace.ProjectWorkspace.{ProjectWorkspace}
-use Rattle.pm_lower.specs.declared.tool_answers.ToolAnswers.{ToolAnswers}
+use Rattle.pm_load.specs.declared.tool_answers.ToolAnswers.{ToolAnswers}
 use Rattle.pm_sysroot.specs.Ask.{Means}
 use Rattle.pm_sysroot.specs.Toolchain.{Toolchain}
 
@@ -16,3 +17,10 @@ IsLoadedAlike a b = (sysroot : Toolchain) (manifest : List ℕ) (config : CargoC
     (error : Option Error) (p q : ProjectWorkspace)
     → project_with sysroot manifest config answers limits means (a, error) ≡ Ok p
     → project_with sysroot manifest config answers limits means (b, error) ≡ Ok q → p ≡ q
+
+-- the same of the project that cargo reads a detached file as
+abbrev pub IsDetachedAlike : Metadata → Metadata → Type 0
+IsDetachedAlike a b = (sysroot : Toolchain) (file : List ℕ) (config : CargoConfig) (answers : ToolAnswers) (limits : Limits) (means : Means)
+    (error : Option Error) (p q : ProjectWorkspace)
+    → detached_with sysroot file config answers limits means (Some (a, error)) ≡ Ok p
+    → detached_with sysroot file config answers limits means (Some (b, error)) ≡ Ok q → p ≡ q

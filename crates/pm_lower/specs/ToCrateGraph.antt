@@ -2,10 +2,15 @@
 use Rattle.std.specs.Prelude.{ℕ, List, Result, Ok, Err}
 use Rattle.crate_graph.specs.Graph.{Graph}
 use Rattle.crate_values.specs.declared.workspace_data.CrateWorkspaceData.{CrateWorkspaceData}
+use Rattle.pm_detached.specs.Lowering as detached
+use Rattle.pm_json_rows.specs.Lowering as json
+use Rattle.pm_json_rows.specs.Rows.{rows_by_place}
+use Rattle.pm_json_rows.specs.WantedEdges as json_edges
 use Rattle.pm_loader.specs.Loader.{Files}
+use Rattle.pm_lower.specs.ProjectWorkspace.{script_workspace}
 use Rattle.pm_lower.specs.declared.project_workspace.ProjectWorkspace.{ProjectWorkspace}
 use Rattle.pm_lower.specs.declared.project_workspace.ProjectWorkspaceKind.{ProjectWorkspaceKind}
-use Rattle.pm_lower.specs.declared.project_workspace.ProjectWorkspaceKind.TheVariants.{Cargo}
+use Rattle.pm_lower.specs.declared.project_workspace.ProjectWorkspaceKind.TheVariants.{Cargo, Json, DetachedFile}
 use Rattle.pm_rows.specs.Lowering.{Crate, HasCrates, lowering}
 use Rattle.pm_rows.specs.Refusal.{Refuses}
 use Rattle.pm_rows.specs.Rows.{parts}
@@ -19,6 +24,8 @@ shared_of p = record { target = p.target; toolchain = p.toolchain }
 -- the crates of a kind of project, or why there are none
 abbrev pub kind_lowering : Files → ProjectWorkspaceKind → CrateWorkspaceData → ℕ → Result (List Crate) LowerError
 kind_lowering files (Cargo cargo error scripts rustc) shared limit = lowering files cargo shared limit
+kind_lowering files (Json project) shared limit = json.lowering files project shared limit
+kind_lowering files (DetachedFile file script) shared limit = detached.lowering files file (script_workspace script) shared limit
 
 -- the crates of a project with these live files and at most so many crates, or why there are none
 abbrev pub project_lowering : Files → ℕ → ProjectWorkspace → Result (List Crate) LowerError
@@ -32,3 +39,5 @@ IsGraphOf limit (Err error) crates = Refuses error crates
 -- the edges that a kind of project wants
 abbrev pub kind_wants : Files → ProjectWorkspaceKind → List Edge
 kind_wants files (Cargo cargo error scripts rustc) = wanted_edges (parts files cargo)
+kind_wants files (Json project) = json_edges.wanted_edges (rows_by_place files project)
+kind_wants files (DetachedFile file script) = detached.wanted_edges files (script_workspace script)

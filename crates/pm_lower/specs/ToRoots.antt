@@ -1,11 +1,15 @@
 -- The roots of a project: those of its packages, those of its toolchain's libraries, and those of the compiler's crates. The rules are those of rust-analyzer's `ProjectWorkspace::to_roots`.
-use Rattle.std.specs.Prelude.{ℕ, false, IsErr, List, [], ◌∷◌, ◌++◌, Option}
+use Rattle.std.specs.Prelude.{ℕ, false, IsErr, List, [], ◌∷◌, ◌++◌, Option, Some, None}
 use Rattle.std.specs.FinMap.{get}
 use Rattle.std.specs.Option.{option_and_then, option_to_list}
 use Rattle.pm_build.specs.Outputs.{BuildScripts}
+use Rattle.pm_detached.specs.Roots as detached
+use Rattle.pm_json_rows.specs.Roots as json
+use Rattle.pm_lower.specs.Builds.{no_scripts}
+use Rattle.pm_lower.specs.ProjectWorkspace.{ScriptPart}
 use Rattle.pm_lower.specs.declared.project_workspace.ProjectWorkspace.{ProjectWorkspace}
 use Rattle.pm_lower.specs.declared.project_workspace.ProjectWorkspaceKind.{ProjectWorkspaceKind}
-use Rattle.pm_lower.specs.declared.project_workspace.ProjectWorkspaceKind.TheVariants.{Cargo}
+use Rattle.pm_lower.specs.declared.project_workspace.ProjectWorkspaceKind.TheVariants.{Cargo, Json, DetachedFile}
 use Rattle.pm_roots.specs.Roots.{roots_of}
 use Rattle.pm_roots.specs.declared.package_root.PackageRoot.{PackageRoot}
 use Rattle.pm_sysroot.specs.Toolchain.{Toolchain}
@@ -16,9 +20,16 @@ use Rattle.pm_sysroot.specs.declared.rust_lib_src.RustLibSrcWorkspace.TheVariant
 abbrev pub out_dir_at : BuildScripts → ℕ → Option (List ℕ)
 out_dir_at scripts number = option_and_then (λ output. output.out_dir) (get scripts.outputs number)
 
+-- the roots of a detached file: its own, and then those of its project
+abbrev pub script_roots : List ℕ → Option ScriptPart → List (List ℕ) → List PackageRoot
+script_roots file None extra = detached.roots_of file None (out_dir_at no_scripts) extra
+script_roots file (Some script) extra = detached.roots_of file (Some script.0) (out_dir_at script.1) extra
+
 -- the roots of a kind of project, with the extra directories
 abbrev pub kind_roots : ProjectWorkspaceKind → List (List ℕ) → List PackageRoot
 kind_roots (Cargo cargo error scripts rustc) extra = roots_of cargo (out_dir_at scripts) extra
+kind_roots (Json project) extra = json.roots_of project extra
+kind_roots (DetachedFile file script) extra = script_roots file script extra
 
 -- the roots of the packages of a toolchain's libraries
 abbrev pub library_roots : RustLibSrcWorkspace → List PackageRoot
@@ -39,6 +50,8 @@ project_roots p = kind_roots p.kind p.extra_includes ++ sysroot_roots p.sysroot
 -- no crates of the compiler were read beside the project
 abbrev pub KindHasNoRustc : ProjectWorkspaceKind → Type 0
 KindHasNoRustc (Cargo cargo error scripts rustc) = IsErr rustc
+KindHasNoRustc (Json project) = Unit {0}
+KindHasNoRustc (DetachedFile file script) = Unit {0}
 
 -- the same of a project
 abbrev pub HasNoRustc : ProjectWorkspace → Type 0

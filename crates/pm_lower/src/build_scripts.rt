@@ -4,11 +4,12 @@ ghost use Rattle.std.specs.Prelude.{◌≡◌, map, IfOk, option_copied};
 ghost use Rattle.pm_build.specs.Packages.{lent_workspaces};
 ghost use Rattle.pm_build.specs.Reading.{Gives};
 ghost use Rattle.pm_build.specs.SharedBuild.{shared_build};
-ghost use Rattle.pm_lower.specs.Builds.{GivesEach, all_builds, built_workspace, command_for_all, kind_share, project_build, project_outputs, with_build_scripts, workspaces_of};
+ghost use Rattle.pm_lower.specs.Builds.{GivesEach, TakesBuild, all_builds, built_script, built_workspace, command_for_all, kind_share};
+ghost use Rattle.pm_lower.specs.Builds.{project_build, project_outputs, unless_light, with_build_scripts, workspaces_of};
 ghost use Rattle.pm_sysroot.specs.Ask.{means_of};
 
-use crate::project_workspace::{ProjectWorkspace, ProjectWorkspaceKind};
-use base_text::{AbsPathBuf, CommandLine, Items, Output, Runner, TryClone};
+use crate::project_workspace::{ProjectWorkspace, ProjectWorkspaceKind, ScriptWorkspace};
+use base_text::{AbsPathBuf, CommandLine, Items, Output, Runner, Text, TryClone};
 use pm_build::{BuildError, SharedBuild, WorkspaceBuildScripts};
 use pm_build_question::configured_question;
 use pm_cargo::CargoWorkspace;
@@ -84,22 +85,47 @@ impl ProjectWorkspace {
         ensures { option_copied result ≡ built_workspace self.now.kind }
     {
         match &self.kind {
-            ProjectWorkspaceKind::Cargo {
-                cargo,
-                error: None,
-                ..
-            } => Some(cargo),
-            ProjectWorkspaceKind::Cargo { error: Some(_), .. } => None,
+            ProjectWorkspaceKind::Cargo { cargo, error, .. } => unless_light(cargo, error),
+            ProjectWorkspaceKind::Json(_) => None,
+            ProjectWorkspaceKind::DetachedFile { cargo, .. } => built_script(cargo),
         }
     }
 
-    /// Puts what a build gave in place of what was given before.
+    /// Puts what a build gave in place of what was given before. Where there is no Cargo workspace, as
+    /// [`has_cargo_workspace`](ProjectWorkspace::has_cargo_workspace) says, there are no other outputs than none.
     pub fn set_build_scripts(&mut self, bs: WorkspaceBuildScripts)
+        requires { TakesBuild self.old.kind bs }
         ensures { self.new ≡ with_build_scripts self.old bs }
     {
         match &mut self.kind {
             ProjectWorkspaceKind::Cargo { build_scripts, .. } => *build_scripts = bs,
+            ProjectWorkspaceKind::DetachedFile {
+                cargo: Some((_, build_scripts, _)),
+                ..
+            } => *build_scripts = bs,
+            ProjectWorkspaceKind::DetachedFile { cargo: None, .. }
+            | ProjectWorkspaceKind::Json(_) => {}
         }
+    }
+}
+
+// A workspace, unless the metadata of the members alone stands in for that of all packages.
+fn unless_light<'a>(cargo: &'a CargoWorkspace, error: &Option<Text>) -> Option<&'a CargoWorkspace>
+    ensures { option_copied result ≡ unless_light cargo.now error.now }
+{
+    match error {
+        Some(_) => None,
+        None => Some(cargo),
+    }
+}
+
+// The workspace of a detached file that builds count for.
+fn built_script(script: &Option<ScriptWorkspace>) -> Option<&CargoWorkspace>
+    ensures { option_copied result ≡ built_script script.now }
+{
+    match script {
+        Some((cargo, _, error)) => unless_light(cargo, error),
+        None => None,
     }
 }
 
@@ -166,8 +192,9 @@ fn workspaces_of<'a>(
 {
     let mut workspaces = Vec::with_capacity(alloc, projects.len())?;
     for project in projects {
-        let ProjectWorkspaceKind::Cargo { cargo, .. } = &project.kind;
-        workspaces.push(cargo)?;
+        if let ProjectWorkspaceKind::Cargo { cargo, .. } = &project.kind {
+            workspaces.push(cargo)?;
+        }
     }
     Ok(workspaces)
 }
@@ -195,7 +222,9 @@ fn share_of(
 ) -> Result<BuildResult, AllocError>
     ensures { IfOk result (λ given. given ≡ kind_share build.now project.now.kind) }
 {
-    let ProjectWorkspaceKind::Cargo { cargo, .. } = &project.kind;
+    let ProjectWorkspaceKind::Cargo { cargo, .. } = &project.kind else {
+        return Ok(Ok(WorkspaceBuildScripts::new(alloc)));
+    };
     match build {
         Ok(build) => Ok(Ok(build.scripts_for(alloc, cargo)?)),
         Err(error) => Ok(Err(error.try_clone(alloc)?)),

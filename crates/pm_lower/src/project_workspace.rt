@@ -1,20 +1,27 @@
 //! A project as its load read it.
 
-ghost use Rattle.std.specs.Prelude.{◌≡◌, ◌-◌, ◌^◌, [], false, length, min, IfOk, option_copied};
+ghost use Rattle.std.specs.Prelude.{◌≡◌, ◌-◌, ◌^◌, length, min, IfOk, option_copied};
 ghost use Rattle.base_text.specs.AbsPath.{abs_text};
-ghost use Rattle.pm_lower.specs.Equality.{equal_except_builds, equal_kinds};
-ghost use Rattle.pm_lower.specs.ProjectWorkspace.{kind_manifest, kind_manifest_or_root, kind_root, package_count};
+ghost use Rattle.pm_lower.specs.Equality.{equal_except_builds, equal_kinds, equal_scripts};
+ghost use Rattle.pm_lower.specs.ProjectWorkspace as spec;
+ghost use Rattle.pm_lower.specs.ProjectWorkspace.{is_json_kind, json_buildfiles, kind_buildfiles, kind_manifest, kind_manifest_or_root};
+ghost use Rattle.pm_lower.specs.ProjectWorkspace.{kind_root, package_count, rustc_packages, script_packages, script_workspace};
 
 use base_text::{AbsPath, AbsPathBuf, Boxed, CfgAtom, Items, Text, TryClone, Version};
 use crate_graph::target::TargetLoadResult;
 use pm_build::WorkspaceBuildScripts;
 use pm_cargo::{CargoWorkspace, ManifestPath};
 use pm_config::CfgOverrides;
+use pm_json::ProjectJson;
 use pm_sysroot::{RustLibSrcWorkspace, Sysroot};
 use std::alloc::{AllocError, Global};
 
 /// The crates of the compiler, with what their builds gave.
 pub type RustcWorkspace = Boxed<(CargoWorkspace, WorkspaceBuildScripts)>;
+
+/// The project that cargo reads a detached file as, what its builds gave, and why the metadata of the members alone
+/// stands in for that of all packages, where it does.
+pub type ScriptWorkspace = (CargoWorkspace, WorkspaceBuildScripts, Option<Text>);
 
 /// What was read of a project, by its kind.
 #[derive(Drop)]
@@ -28,6 +35,14 @@ pub enum ProjectWorkspaceKind {
         build_scripts: WorkspaceBuildScripts,
         /// The crates of the compiler, or why there are none, where they are needed.
         rustc: Result<RustcWorkspace, Option<Text>>,
+    },
+    /// A project that a JSON document describes.
+    Json(ProjectJson),
+    /// A Rust file by itself.
+    DetachedFile {
+        file: ManifestPath,
+        /// The project that cargo reads the file as, where it does.
+        cargo: Option<ScriptWorkspace>,
     },
 }
 
@@ -60,62 +75,136 @@ fn count_packages(workspace: &CargoWorkspace) -> usize
     count
 }
 
+/// The workspace of a detached file, where cargo reads it as a project.
+pub(crate) fn script_workspace(script: &Option<ScriptWorkspace>) -> Option<&CargoWorkspace>
+    ensures { option_copied result ≡ script_workspace script.now }
+{
+    match script {
+        Some((cargo, _, _)) => Some(cargo),
+        None => None,
+    }
+}
+
+// The build files of the crates of a JSON project.
+fn json_buildfiles(alloc: Global, project: &ProjectJson) -> Result<Items<AbsPathBuf>, AllocError>
+    ensures { IfOk result (λ files. files ≡ json_buildfiles project.now) }
+{
+    let mut files = Vec::new(alloc);
+    for krate in project.crates.as_slice() {
+        if let Some(build) = &krate.build {
+            let root = project.project_root();
+            files.push(root.join(alloc, build.build_file.as_str())?)?;
+        }
+    }
+    Ok(Items::new(files))
+}
+
+// How many packages the crates of the compiler have, or the greatest count where they are more.
+fn rustc_packages(rustc: &Result<RustcWorkspace, Option<Text>>) -> usize
+    ensures { result ≡ min (rustc_packages rustc.now) (2 ^ 64 - 1) }
+{
+    match rustc {
+        Ok(rustc) => count_packages(&rustc.get().0),
+        Err(_) => 0,
+    }
+}
+
+// How many packages a detached file has, or the greatest count where they are more: itself alone counts as one.
+fn script_packages(script: &Option<ScriptWorkspace>) -> usize
+    ensures { result ≡ min (script_packages (script_workspace script.now)) (2 ^ 64 - 1) }
+{
+    match script_workspace(script) {
+        Some(cargo) => count_packages(cargo),
+        None => 1,
+    }
+}
+
 impl ProjectWorkspace {
-    /// The path of the manifest.
+    /// The path of the manifest, or that of the directory of a JSON project that no file describes.
     pub fn manifest_or_root(&self) -> AbsPath<'_>
         ensures { abs_text result ≡ kind_manifest_or_root self.now.kind }
     {
         match &self.kind {
             ProjectWorkspaceKind::Cargo { cargo, .. } => cargo.manifest_path().as_path(),
+            ProjectWorkspaceKind::Json(project) => project.manifest_or_root(),
+            ProjectWorkspaceKind::DetachedFile { file, .. } => file.as_path(),
         }
     }
 
+    /// The root of the workspace; of a detached file, the directory that it lies in.
     pub fn workspace_root(&self) -> AbsPath<'_>
         ensures { abs_text result ≡ kind_root self.now.kind }
     {
         match &self.kind {
             ProjectWorkspaceKind::Cargo { cargo, .. } => cargo.workspace_root(),
+            ProjectWorkspaceKind::Json(project) => project.project_root(),
+            ProjectWorkspaceKind::DetachedFile { file, .. } => file.parent(),
         }
     }
 
+    /// The manifest, if there is one. A detached file has that of the project that cargo reads it as.
     pub fn manifest(&self) -> Option<&ManifestPath>
         ensures { option_copied result ≡ kind_manifest self.now.kind }
     {
         match &self.kind {
             ProjectWorkspaceKind::Cargo { cargo, .. } => Some(cargo.manifest_path()),
+            ProjectWorkspaceKind::Json(project) => project.manifest(),
+            ProjectWorkspaceKind::DetachedFile { cargo, .. } => {
+                Some(script_workspace(cargo)?.manifest_path())
+            }
         }
     }
 
-    /// How many packages there are: those of the toolchain's libraries, of the project and of the compiler.
+    /// How many packages there are: those of the toolchain's libraries, of the project and of the compiler. The crates
+    /// of a JSON project count as packages, and so does a detached file that cargo reads as no project.
     pub fn n_packages(&self) -> usize
         ensures { result ≡ package_count self.now }
     {
         let libraries = match self.sysroot.workspace() {
             RustLibSrcWorkspace::Empty => 0usize,
         };
-        let ProjectWorkspaceKind::Cargo { cargo, rustc, .. } = &self.kind;
-        let rustc = match rustc {
-            Ok(rustc) => count_packages(&rustc.get().0),
-            Err(_) => 0,
-        };
-        libraries.saturating_add(count_packages(cargo).saturating_add(rustc))
+        match &self.kind {
+            ProjectWorkspaceKind::Cargo { cargo, rustc, .. } => {
+                let rustc = rustc_packages(rustc);
+                libraries.saturating_add(count_packages(cargo).saturating_add(rustc))
+            }
+            ProjectWorkspaceKind::Json(project) => libraries.saturating_add(project.n_crates()),
+            ProjectWorkspaceKind::DetachedFile { cargo, .. } => {
+                libraries.saturating_add(script_packages(cargo))
+            }
+        }
     }
 
     /// Whether the project is described by a JSON document.
     pub fn is_json(&self) -> bool
-        ensures { result ≡ false }
+        ensures { result ≡ is_json_kind self.now.kind }
     {
         match &self.kind {
-            ProjectWorkspaceKind::Cargo { .. } => false,
+            ProjectWorkspaceKind::Json(_) => true,
+            ProjectWorkspaceKind::Cargo { .. } | ProjectWorkspaceKind::DetachedFile { .. } => false,
         }
     }
 
-    /// The files by which another build system than cargo builds the crates. A project of cargo has none.
-    pub fn buildfiles(&self, alloc: Global) -> Result<Items<AbsPathBuf>, AllocError>
-        ensures { IfOk result (λ files. files ≡ []) }
+    /// Whether there is a Cargo workspace, which builds can be set in.
+    pub fn has_cargo_workspace(&self) -> bool
+        ensures { result ≡ spec.has_cargo_workspace self.now.kind }
     {
         match &self.kind {
-            ProjectWorkspaceKind::Cargo { .. } => Ok(Items::empty(alloc)),
+            ProjectWorkspaceKind::Cargo { .. } => true,
+            ProjectWorkspaceKind::Json(_) => false,
+            ProjectWorkspaceKind::DetachedFile { cargo, .. } => cargo.is_some(),
+        }
+    }
+
+    /// The files by which another build system than cargo builds the crates: those of a JSON project, in order.
+    pub fn buildfiles(&self, alloc: Global) -> Result<Items<AbsPathBuf>, AllocError>
+        ensures { IfOk result (λ files. files ≡ kind_buildfiles self.now.kind) }
+    {
+        match &self.kind {
+            ProjectWorkspaceKind::Json(project) => json_buildfiles(alloc, project),
+            ProjectWorkspaceKind::Cargo { .. } | ProjectWorkspaceKind::DetachedFile { .. } => {
+                Ok(Items::empty(alloc))
+            }
         }
     }
 
@@ -134,17 +223,34 @@ impl ProjectWorkspace {
 }
 
 impl ProjectWorkspaceKind {
-    // Whether the workspaces and the crates of the compiler are equal.
+    // Whether the workspaces, the documents or the files are equal, and the crates of the compiler.
     fn eq_ignore_build_data(&self, other: &ProjectWorkspaceKind) -> bool
         ensures { result ≡ equal_kinds self.now other.now }
     {
-        let ProjectWorkspaceKind::Cargo { cargo, rustc, .. } = self;
-        let ProjectWorkspaceKind::Cargo {
-            cargo: other_cargo,
-            rustc: other_rustc,
-            ..
-        } = other;
-        cargo == other_cargo && rustc == other_rustc
+        match (self, other) {
+            (
+                ProjectWorkspaceKind::Cargo { cargo, rustc, .. },
+                ProjectWorkspaceKind::Cargo {
+                    cargo: other_cargo,
+                    rustc: other_rustc,
+                    ..
+                },
+            ) => cargo == other_cargo && rustc == other_rustc,
+            (ProjectWorkspaceKind::Json(project), ProjectWorkspaceKind::Json(other)) => {
+                project == other
+            }
+            (
+                ProjectWorkspaceKind::DetachedFile {
+                    file,
+                    cargo: Some((cargo, _, _)),
+                },
+                ProjectWorkspaceKind::DetachedFile {
+                    file: other_file,
+                    cargo: Some((other_cargo, _, _)),
+                },
+            ) => file == other_file && cargo == other_cargo,
+            _ => false,
+        }
     }
 }
 
@@ -162,8 +268,32 @@ impl TryClone for ProjectWorkspaceKind {
                 rustc: copy_rustc(alloc, rustc)?,
                 cargo: cargo.try_clone(alloc)?,
             }),
+            ProjectWorkspaceKind::Json(project) => {
+                Ok(ProjectWorkspaceKind::Json(project.try_clone(alloc)?))
+            }
+            ProjectWorkspaceKind::DetachedFile { file, cargo } => {
+                Ok(ProjectWorkspaceKind::DetachedFile {
+                    file: file.try_clone(alloc)?,
+                    cargo: copy_script(alloc, cargo)?,
+                })
+            }
         }
     }
+}
+
+// A copy of the project of a detached file, if there is one.
+fn copy_script(
+    alloc: Global,
+    script: &Option<ScriptWorkspace>,
+) -> Result<Option<ScriptWorkspace>, AllocError>
+    ensures { IfOk result (λ copy. copy ≡ script.now) }
+{
+    let Some((cargo, build_scripts, error)) = script else {
+        return Ok(None);
+    };
+    let error = error.try_clone(alloc)?;
+    let build_scripts = build_scripts.try_clone(alloc)?;
+    Ok(Some((cargo.try_clone(alloc)?, build_scripts, error)))
 }
 
 // A copy of the crates of the compiler, or of why there are none.

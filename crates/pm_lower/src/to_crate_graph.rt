@@ -2,16 +2,17 @@
 
 ghost use Rattle.std.specs.Prelude.{◌≡◌, IfOk};
 ghost use Rattle.std.specs.BTreeMap as tree;
-ghost use Rattle.pm_lower.specs.ToCrateGraph.{IsGraphOf, kind_wants, project_lowering, shared_of};
+ghost use Rattle.pm_lower.specs.ToCrateGraph.{IsGraphOf, kind_lowering, kind_wants, project_lowering, shared_of};
 ghost use Rattle.pm_lower.specs.ToRoots.{HasNoRustc};
-ghost use Rattle.pm_rows.specs.Lowering.{LacksCyclesAlone, lowering};
-ghost use Rattle.pm_rows.specs.Rows.{parts};
-ghost use Rattle.pm_rows.specs.WantedEdges.{wanted_edges};
+ghost use Rattle.pm_rows.specs.Lowering.{IsLowered, LacksCyclesAlone};
 
-use crate::project_workspace::{ProjectWorkspace, ProjectWorkspaceKind, copy_target};
+use crate::project_workspace::{
+    ProjectWorkspace, ProjectWorkspaceKind, copy_target, script_workspace,
+};
 use base_text::{Limits, Runner, TryClone};
 use crate_graph::{CrateGraphBuilder, CrateWorkspaceData, ProcMacroPaths};
-use pm_cargo::CargoWorkspace;
+use pm_detached::lower_detached;
+use pm_json_rows::lower_json;
 use pm_loader::Loader;
 use pm_rows::{LowerError, lower_cargo};
 use pm_sysroot::Ask;
@@ -30,9 +31,35 @@ fn shared_of(alloc: Global, project: &ProjectWorkspace) -> Result<CrateWorkspace
     })
 }
 
+// The graph of the crates of a kind of project, which share what is known of the machine and the toolchain.
+fn kind_graph<L: Loader>(
+    alloc: Global,
+    kind: &ProjectWorkspaceKind,
+    shared: &Rc<CrateWorkspaceData>,
+    loader: &mut L,
+    limits: &Limits,
+) -> Result<CrateGraphBuilder, LowerError>
+    ensures lowers { IsLowered limits.now.crates result (kind_lowering (L.files loader.old)
+        kind.now shared.now.value limits.now.crates) }
+    ensures missing { IfOk result (λ graph.
+        LacksCyclesAlone (kind_wants (L.files loader.old) kind.now) graph.crates) }
+    ensures loader { L.files loader.new ≡ L.files loader.old }
+{
+    match kind {
+        ProjectWorkspaceKind::Cargo { cargo, .. } => {
+            lower_cargo(alloc, cargo, shared, loader, limits)
+        }
+        ProjectWorkspaceKind::Json(project) => lower_json(alloc, project, shared, loader, limits),
+        ProjectWorkspaceKind::DetachedFile { file, cargo } => {
+            lower_detached(alloc, file, script_workspace(cargo), shared, loader, limits)
+        }
+    }
+}
+
 impl ProjectWorkspace {
-    /// The graph of the project's crates: one for each target of which the loader has the root file, unless it
-    /// is a program, a test, an example, a benchmark or a build script of a package that is no member. No crate has
+    /// The graph of the project's crates whose root files the loader has. A project of cargo has one for each target, unless
+    /// it is a program, a test, an example, a benchmark or a build script of a package that is no member; a JSON project one
+    /// for each of its crates; and a detached file those of the project that cargo reads it as, or else itself. No crate has
     /// a library of procedural macros, and nothing is asked: what that is asked for stays empty.
     pub fn to_crate_graph<L: Loader, R: Runner, T: Tree>(
         &self,
@@ -49,30 +76,8 @@ impl ProjectWorkspace {
         ensures macros { IfOk result (λ found. tree.IsEmpty found.1) }
         ensures loader { L.files loader.new ≡ L.files loader.old }
     {
-        match &self.kind {
-            ProjectWorkspaceKind::Cargo { cargo, .. } => {
-                self.cargo_graph(alloc, cargo, loader, limits)
-            }
-        }
-    }
-
-    // The graph of a workspace's crates, which share what is known of the project's machine and toolchain.
-    fn cargo_graph<L: Loader>(
-        &self,
-        alloc: Global,
-        cargo: &CargoWorkspace,
-        loader: &mut L,
-        limits: &Limits,
-    ) -> Result<(CrateGraphBuilder, ProcMacroPaths), LowerError>
-        ensures lowers { IsGraphOf limits.now.crates result (lowering (L.files loader.old) cargo.now
-            (shared_of self.now) limits.now.crates) }
-        ensures missing { IfOk result (λ found. LacksCyclesAlone
-            (wanted_edges (parts (L.files loader.old) cargo.now)) found.0.crates) }
-        ensures macros { IfOk result (λ found. tree.IsEmpty found.1) }
-        ensures loader { L.files loader.new ≡ L.files loader.old }
-    {
         let shared = Rc::new(alloc, shared_of(alloc, self)?)?;
-        let graph = lower_cargo(alloc, cargo, &shared, loader, limits)?;
+        let graph = kind_graph(alloc, &self.kind, &shared, loader, limits)?;
         Ok((graph, BTreeMap::new(alloc)))
     }
 }

@@ -1,12 +1,14 @@
 //! The roots of a project: the directories that the files of its packages are read from.
 
 ghost use Rattle.std.specs.Prelude.{◌≡◌, ◌++◌, IfOk, OnOk};
-ghost use Rattle.pm_lower.specs.ToRoots.{HasNoRustc, project_roots, source_root, sysroot_roots};
+ghost use Rattle.pm_lower.specs.ToRoots.{HasNoRustc, kind_roots, project_roots, script_roots, source_root, sysroot_roots};
 
-use crate::project_workspace::{ProjectWorkspace, ProjectWorkspaceKind};
-use base_text::{AbsPath, Items};
+use crate::project_workspace::{ProjectWorkspace, ProjectWorkspaceKind, ScriptWorkspace};
+use base_text::{AbsPath, AbsPathBuf, Items};
 use pm_build::WorkspaceBuildScripts;
-use pm_cargo::Package;
+use pm_cargo::{ManifestPath, Package};
+use pm_detached::detached_roots;
+use pm_json_rows::json_roots;
 use pm_roots::{OutDirs, PackageRoot, cargo_roots};
 use pm_sysroot::{RustLibSrcWorkspace, Sysroot};
 use std::alloc::{AllocError, Global};
@@ -60,23 +62,62 @@ fn push_sysroot_roots(
     Ok(())
 }
 
+// The roots of a detached file.
+fn script_roots(
+    alloc: Global,
+    file: &ManifestPath,
+    script: &Option<ScriptWorkspace>,
+    extra: &[AbsPathBuf],
+) -> Result<Items<PackageRoot>, AllocError>
+    ensures { IfOk result (λ roots. roots ≡ script_roots file.now script.now extra.now) }
+{
+    match script {
+        Some((cargo, scripts, _)) => {
+            detached_roots(alloc, file, Some(cargo), &BuildDirs { scripts }, extra)
+        }
+        None => {
+            let scripts = &WorkspaceBuildScripts::new(alloc);
+            detached_roots(alloc, file, None, &BuildDirs { scripts }, extra)
+        }
+    }
+}
+
+// The roots of a kind of project.
+fn kind_roots(
+    alloc: Global,
+    kind: &ProjectWorkspaceKind,
+    extra: &[AbsPathBuf],
+) -> Result<Items<PackageRoot>, AllocError>
+    ensures { IfOk result (λ roots. roots ≡ kind_roots kind.now extra.now) }
+{
+    match kind {
+        ProjectWorkspaceKind::Cargo {
+            cargo,
+            build_scripts,
+            ..
+        } => {
+            let out_dirs = BuildDirs {
+                scripts: build_scripts,
+            };
+            cargo_roots(alloc, cargo, &out_dirs, extra)
+        }
+        ProjectWorkspaceKind::Json(project) => json_roots(alloc, project, extra),
+        ProjectWorkspaceKind::DetachedFile { file, cargo } => {
+            script_roots(alloc, file, cargo, extra)
+        }
+    }
+}
+
 impl ProjectWorkspace {
-    /// The roots of the packages in their order, and behind them that of the toolchain's sources, which has no
-    /// directory where they are not known.
+    /// The roots of the project in their order, and behind them that of the toolchain's sources, which has no
+    /// directory where they are not known. A project of cargo has one for each package, a JSON project one for each crate,
+    /// of equal ones the first alone, and a detached file one of its own before those of the project that it is read as.
     pub fn to_roots(&self, alloc: Global) -> Result<Items<PackageRoot>, AllocError>
         requires { HasNoRustc self.now }
         ensures { IfOk result (λ roots. roots ≡ project_roots self.now) }
     {
-        let ProjectWorkspaceKind::Cargo {
-            cargo,
-            build_scripts,
-            ..
-        } = &self.kind;
-        let out_dirs = BuildDirs {
-            scripts: build_scripts,
-        };
         let extra = self.extra_includes.as_slice();
-        let mut roots = cargo_roots(alloc, cargo, &out_dirs, extra)?.into_inner();
+        let mut roots = kind_roots(alloc, &self.kind, extra)?.into_inner();
         push_sysroot_roots(alloc, &mut roots, &self.sysroot)?;
         Ok(Items::new(roots))
     }

@@ -28,6 +28,7 @@ fn of_crate(
         "roots" => root(alloc, case, krate),
         "edges" => edges(alloc, case, krate),
         "columns" => columns::answer(alloc, krate),
+        "attributes" => attributes(alloc, krate),
         _ => Err(Fault::Member("ask")),
     }
 }
@@ -68,4 +69,12 @@ fn dependency(alloc: Global, dep: &DependencyBuilder) -> Result<Value, Fault> {
     } else {
         answer.flag(is_prelude).flag(is_sysroot).answer()
     }
+}
+
+fn attributes(alloc: Global, krate: &CrateBuilder) -> Result<Value, Fault> {
+    let mut answers = List::new(alloc);
+    for attribute in krate.basic.crate_attrs.as_slice() {
+        answers = answers.text(attribute.as_str());
+    }
+    answers.answer()
 }

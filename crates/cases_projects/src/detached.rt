@@ -1,0 +1,46 @@
+//! The graphs and the roots of detached files, each alone or with the workspace of the case's document.
+
+use crate::loaders::live_loader;
+use crate::lowerings::{graph_answer, limits_of, workspace_data};
+use crate::roots::out_dirs_of;
+use crate::values::{manifest_of, paths_of, roots_answer, workspace_of};
+use cases::{Case, Fault};
+use pm_cargo::CargoWorkspace;
+use pm_detached::{detached_roots, lower_detached};
+use serde_json::Value;
+use std::alloc::Global;
+
+/// What a case asks of the graph of its file, or the roots of that.
+pub fn answer(alloc: Global, case: Case<'_>) -> Result<Value, Fault> {
+    let cargo = cargo_of(alloc, case)?;
+    let cargo = cargo.as_deref();
+    match case.text("call")? {
+        "lower_detached" => lowered(alloc, case, cargo),
+        "detached_roots" => roots(alloc, case, cargo),
+        _ => Err(Fault::Call),
+    }
+}
+
+// The workspace that Cargo reads the file as, where the case has a document.
+fn cargo_of(alloc: Global, case: Case<'_>) -> Result<Option<Box<CargoWorkspace>>, Fault> {
+    if case.find("document").is_none() {
+        return Ok(None);
+    }
+    Ok(Some(workspace_of(alloc, case)?))
+}
+
+fn lowered(alloc: Global, case: Case<'_>, cargo: Option<&CargoWorkspace>) -> Result<Value, Fault> {
+    let limits = limits_of(case)?;
+    let file = manifest_of(alloc, case.text("manifest")?)?;
+    let mut loader = live_loader(alloc, case.list("live")?)?;
+    let shared = workspace_data(alloc)?;
+    let graph = lower_detached(alloc, &file, cargo, &shared, &mut loader, &limits);
+    graph_answer(alloc, case, &graph)
+}
+
+fn roots(alloc: Global, case: Case<'_>, cargo: Option<&CargoWorkspace>) -> Result<Value, Fault> {
+    let file = manifest_of(alloc, case.text("manifest")?)?;
+    let (out_dirs, extra) = (out_dirs_of(alloc, case)?, paths_of(alloc, case, "extra")?);
+    let roots = detached_roots(alloc, &file, cargo, &out_dirs, extra.as_slice())?;
+    roots_answer(alloc, roots.as_slice())
+}

@@ -1,0 +1,43 @@
+-- A JSON project is loaded step by step: each step is that of the definition, where the code's values are those of the definition.
+use Rattle.std.proofs.Common.{◌≡◌, ℕ, List, Option, Ok, sym, ap, ◌∙◌}
+use Rattle.outside.specs.declared.limits.Limits.{Limits}
+use Rattle.pm_config.specs.declared.config.CargoConfig.{CargoConfig}
+use Rattle.pm_json.specs.Queries.{root_of}
+use Rattle.pm_json.specs.declared.project_json.ProjectJson.{ProjectJson}
+use Rattle.pm_load.specs.Compiler.{compiler_answers}
+use Rattle.pm_load.specs.JsonDocument.{json_content, stated_sysroot}
+use Rattle.pm_load.specs.Loading.{Loading, Refuses, ◌>>=◌}
+use Rattle.pm_load.specs.declared.load_error.LoadError.{LoadError}
+use Rattle.pm_load.specs.declared.tool_answers.ToolAnswers.{ToolAnswers}
+use Rattle.pm_load.proofs.LoadingLemmas.{refuses_first}
+use Rattle.pm_lower.specs.JsonProject.{inline_project, json_project}
+use Rattle.pm_lower.specs.Project.{project_of}
+use Rattle.pm_lower.specs.declared.cargo_project.Settings.{Settings}
+use Rattle.pm_lower.specs.declared.project_workspace.ProjectWorkspace.{ProjectWorkspace}
+use Rattle.pm_lower.specs.declared.project_workspace.ProjectWorkspaceKind.TheVariants.{Json}
+use Rattle.pm_lower.proofs.ProjectLemmas.{made-is, made_of, settings_kept}
+use Rattle.pm_sysroot.specs.Ask.{Means}
+use Rattle.pm_sysroot.specs.Toolchain.{Toolchain}
+
+-- what a compiler says in the directory of a project
+pub answers-are : (sysroot stated : Toolchain) (dir root : List ℕ) (target : Option (List ℕ)) (means : Means) (answers : ToolAnswers) → sysroot ≡ stated → dir ≡ root
+    → answers ≡ compiler_answers sysroot dir target means → answers ≡ compiler_answers stated root target means
+answers-are sysroot stated dir root target means answers is_sysroot is_dir is = is ∙ (λ i. compiler_answers (is_sysroot i) (is_dir i) target means)
+
+-- the parts of a project that was read
+pub inline-is : (project : ProjectJson) (config : CargoConfig) (means : Means) (sysroot : Toolchain) (settings : Settings) (answers : ToolAnswers) (made : ProjectWorkspace)
+    → sysroot ≡ stated_sysroot project → answers ≡ compiler_answers (stated_sysroot project) (root_of project) config.target means → settings ≡ settings_kept config
+    → made ≡ made_of sysroot settings answers (Json project) → made ≡ inline_project project config means
+unfolding inline_project
+inline-is project config means sysroot settings answers made is_sysroot is_answers is_settings is_made =
+    made-is sysroot config settings answers (Json project) made is_made is_settings ∙ (λ i. project_of (is_sysroot i) config (is_answers i) (Json project))
+
+module _ (path : List ℕ) (config : CargoConfig) (limits : Limits) (means : Means) where
+  pub json-refused : (e : LoadError) → Refuses e (json_content path limits means.files) → Refuses e (json_project path config limits means)
+  unfolding json_project
+  json-refused e h = refuses_first e (json_content path limits means.files) (λ (project : ProjectJson). Ok (inline_project project config means)) h
+
+  pub json-read : (project : ProjectJson) (made : ProjectWorkspace) → json_content path limits means.files ≡ Ok project
+      → made ≡ inline_project project config means → json_project path config limits means ≡ Ok made
+  unfolding json_project
+  json-read project made is is_made = ap (λ (l : Loading ProjectJson). l >>= λ p. Ok (inline_project p config means)) is ∙ ap Ok (sym is_made)

@@ -1,0 +1,23 @@
+-- A JSON project as a load reads it: the project of the document, and what the compiler of its toolchain says in its directory. The order is that of rust-analyzer's `ProjectWorkspace::load`.
+use Rattle.std.specs.Prelude.{ℕ, List, Ok}
+use Rattle.outside.specs.declared.limits.Limits.{Limits}
+use Rattle.pm_config.specs.declared.config.CargoConfig.{CargoConfig}
+use Rattle.pm_json.specs.Queries.{root_of}
+use Rattle.pm_json.specs.declared.project_json.ProjectJson.{ProjectJson}
+use Rattle.pm_load.specs.Compiler.{compiler_answers}
+use Rattle.pm_load.specs.JsonDocument.{json_content, stated_sysroot}
+use Rattle.pm_load.specs.Loading.{Loading, ◌>>=◌}
+use Rattle.pm_lower.specs.Project.{project_of}
+use Rattle.pm_lower.specs.declared.project_workspace.ProjectWorkspace.{ProjectWorkspace}
+use Rattle.pm_lower.specs.declared.project_workspace.ProjectWorkspaceKind.TheVariants as of
+use Rattle.pm_sysroot.specs.Ask.{Means}
+
+-- a project with what the compiler of its toolchain says in its directory
+unfoldable pub inline_project : ProjectJson → CargoConfig → Means → ProjectWorkspace
+inline_project project config means =
+    let sysroot = stated_sysroot project in
+    project_of sysroot config (compiler_answers sysroot (root_of project) config.target means) (of.Json project)
+
+-- the project of a document's path
+unfoldable pub json_project : List ℕ → CargoConfig → Limits → Means → Loading ProjectWorkspace
+json_project path config limits means = json_content path limits means.files >>= λ project. Ok (inline_project project config means)

@@ -1,0 +1,82 @@
+//! Loading a JSON project: the project of its document, and what the compiler of its toolchain says.
+
+ghost use Rattle.std.specs.Prelude.{◌≡◌, IfOk};
+ghost use Rattle.pm_json.specs.Queries.{root_of};
+ghost use Rattle.pm_load.specs.Compiler.{compiler_answers};
+ghost use Rattle.pm_load.specs.JsonDocument as stated;
+ghost use Rattle.pm_load.specs.Loading.{Gives};
+ghost use Rattle.pm_lower.specs.JsonProject as spec;
+ghost use Rattle.pm_sysroot.specs.Ask.{means_of};
+
+use crate::cargo_project::{Settings, project_of, settings_of};
+use crate::project_workspace::{ProjectWorkspace, ProjectWorkspaceKind};
+use base_text::{Limits, Runner};
+use pm_cargo::ManifestPath;
+use pm_config::{CargoConfig, Progress};
+use pm_json::ProjectJson;
+use pm_load::LoadError;
+use pm_load::json_document::{json_content, stated_sysroot};
+use pm_load::tool_answers::{ToolAnswers, ask_compiler};
+use pm_sysroot::{Ask, Sysroot};
+use std::alloc::{AllocError, Global};
+use trees::Tree;
+
+// The toolchain that a project states, and what its compiler says in the project's directory.
+fn ask_stated<R: Runner, T: Tree, P: Progress>(
+    alloc: Global,
+    project: &ProjectJson,
+    config: &CargoConfig,
+    ask: &Ask<'_, R, T>,
+    progress: &mut P,
+) -> Result<(Sysroot, ToolAnswers), AllocError>
+    ensures sysroot { IfOk result (λ said. said.0 ≡ stated.stated_sysroot project.now) }
+    ensures answers { IfOk result (λ said. said.1 ≡ compiler_answers (stated.stated_sysroot project.now)
+        (root_of project.now) config.now.target (means_of R.answers T.files ask.now)) }
+{
+    progress.line("discovering sysroot");
+    let sysroot = stated_sysroot(alloc, project)?;
+    progress.line("querying project metadata");
+    let answers = ask_compiler(alloc, &sysroot, project.project_root(), config, ask)?;
+    Ok((sysroot, answers))
+}
+
+// A project with what the compiler of its toolchain says in its directory.
+#[tactic(auto, unfolding(crate::specs::JsonProject::inline_project))]
+fn inline_project<R: Runner, T: Tree, P: Progress>(
+    alloc: Global,
+    project: ProjectJson,
+    settings: Settings,
+    config: &CargoConfig,
+    ask: &Ask<'_, R, T>,
+    progress: &mut P,
+) -> Result<ProjectWorkspace, AllocError>
+    requires { settings ≡ record {
+      cfg_overrides = config.now.cfg_overrides;
+      extra_includes = config.now.extra_includes;
+      set_test = config.now.set_test;
+    } }
+    ensures { IfOk result (λ loaded. loaded
+        ≡ spec.inline_project project config.now (means_of R.answers T.files ask.now)) }
+{
+    let (sysroot, answers) = ask_stated(alloc, &project, config, ask, progress)?;
+    let kind = ProjectWorkspaceKind::Json(project);
+    Ok(project_of(sysroot, settings, answers, kind))
+}
+
+/// The project of a document's path.
+#[tactic(auto, unfolding(crate::specs::JsonProject::json_project))]
+pub(crate) fn json_project<R: Runner, T: Tree, P: Progress>(
+    alloc: Global,
+    path: &ManifestPath,
+    config: &CargoConfig,
+    limits: &Limits,
+    ask: &Ask<'_, R, T>,
+    progress: &mut P,
+) -> Result<ProjectWorkspace, LoadError>
+    ensures { Gives result (spec.json_project path.now config.now limits.now
+        (means_of R.answers T.files ask.now)) }
+{
+    let settings = settings_of(alloc, config)?;
+    let project = json_content(alloc, path, limits, ask.tree)?;
+    Ok(inline_project(alloc, project, settings, config, ask, progress)?)
+}

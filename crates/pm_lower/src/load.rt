@@ -1,0 +1,46 @@
+//! Loading a project by the kind of its manifest.
+
+ghost use Rattle.pm_load.specs.Loading.{Gives};
+ghost use Rattle.pm_lower.specs.ReadProject.{IsPlain, read_project};
+ghost use Rattle.pm_sysroot.specs.Ask.{means_of};
+
+use crate::cargo_project::cargo_project;
+use crate::detached_project::detached_project;
+use crate::json_project::json_project;
+use crate::project_workspace::ProjectWorkspace;
+use base_text::{Limits, Runner};
+use pm_config::{CargoConfig, Progress};
+use pm_load::LoadError;
+use pm_sysroot::{Ask, Sysroot};
+use pm_tools::ProjectManifest;
+use std::alloc::Global;
+use trees::Tree;
+
+impl ProjectWorkspace {
+    /// Loads the project of a manifest. `progress` takes a line for each part of a project of cargo and of a JSON
+    /// project, and those of fetching the metadata; it takes none for a detached file.
+    pub fn load<R: Runner, T: Tree, P: Progress>(
+        alloc: Global,
+        manifest: &ProjectManifest,
+        config: &CargoConfig,
+        limits: &Limits,
+        ask: &Ask<'_, R, T>,
+        progress: &mut P,
+    ) -> Result<ProjectWorkspace, LoadError>
+        requires { IsPlain config.now (means_of R.answers T.files ask.now) }
+        ensures { Gives result (read_project manifest.now config.now limits.now
+            (means_of R.answers T.files ask.now)) }
+    {
+        match manifest {
+            ProjectManifest::ProjectJson(path) => {
+                json_project(alloc, path, config, limits, ask, progress)
+            }
+            ProjectManifest::CargoToml(path) => {
+                cargo_project(alloc, Sysroot::empty(), path, config, limits, ask, progress)
+            }
+            ProjectManifest::CargoScript(file) => {
+                detached_project(alloc, Sysroot::empty(), file, config, limits, ask)
+            }
+        }
+    }
+}
