@@ -15,6 +15,14 @@ const PROJECT_PATHS: [&str; 5] = [
     "/n.rs",
 ];
 
+// What is loaded: of the projects of cargo, twice as often, the JSON project, and the detached file.
+const MANIFESTS: [&str; 4] = [
+    "/w/Cargo.toml",
+    "/w/Cargo.toml",
+    "/w/rust-project.json",
+    "/w/b/x.rs",
+];
+
 // Directories that a build names: one of another package, one of all files, and none.
 const BUILD_DIRECTORIES: [&str; 3] = ["/w/b", "/", ""];
 
@@ -22,14 +30,25 @@ const TEXTS: [&str; 3] = ["", "x", "fn main() {}"];
 
 const FLUSH: &str = "{\"event\":\"flush\"}\n";
 
+/// The documents of a case: those that answer the question for metadata, and those of the JSON project.
+#[derive(Clone, Copy)]
+struct Documents<'a> {
+    metadata: &'a [Value],
+    json: &'a [Value],
+}
+
 /// How many of so many scripts have the status and the pages of the plain account: scripts of files alone, each of which ends with
-/// 0, or of all events, with the documents of the case as answers.
+/// 0, or of all events, with the documents of the case as answers and as files.
 pub fn answer(alloc: Global, case: Case<'_>) -> Result<Value, Fault> {
-    let documents = case.list("documents")?;
+    let documents = Documents {
+        metadata: case.list("documents")?,
+        json: case.list("json")?,
+    };
     let mut count = 0u64;
     for seed in 0..case.number("scripts")? {
         let script = script_of(alloc, seed, documents)?;
-        if is_alike(alloc, script.as_str().as_bytes(), documents.is_empty())? {
+        let is_taken = documents.metadata.is_empty();
+        if is_alike(alloc, script.as_str().as_bytes(), is_taken)? {
             count = count.saturating_add(1);
         }
     }
@@ -59,14 +78,15 @@ impl Sequence {
 }
 
 // A script of 3 to 26 lines. One of all events begins with an answer.
-fn script_of(alloc: Global, seed: u64, documents: &[Value]) -> Result<String, Fault> {
+fn script_of(alloc: Global, seed: u64, documents: Documents<'_>) -> Result<String, Fault> {
     let mut sequence = Sequence { state: seed };
     let mut script = String::new(alloc);
-    if !documents.is_empty() {
-        push_answer(alloc, &mut script, &mut sequence, documents)?;
+    let has_files_alone = documents.metadata.is_empty();
+    if !has_files_alone {
+        push_answer(alloc, &mut script, &mut sequence, documents.metadata)?;
     }
     for _ in 0..sequence.next() % 24 + 3 {
-        if documents.is_empty() {
+        if has_files_alone {
             push_line(&mut script, &mut sequence)?;
         } else {
             push_any(alloc, &mut script, &mut sequence, documents)?;
@@ -87,18 +107,19 @@ fn push_line(script: &mut String, sequence: &mut Sequence) -> Result<(), AllocEr
     }
 }
 
-// One line: an answer, a load, a build, or one of the others. One load in sixteen is of a manifest that has no answer.
+// One line: an answer, a document, a load, a build, or one of the others. One load in sixteen is of a manifest that has no answer.
 fn push_any(
     alloc: Global,
     script: &mut String,
     sequence: &mut Sequence,
-    documents: &[Value],
+    documents: Documents<'_>,
 ) -> Result<(), Fault> {
     let path = PROJECT_PATHS[(sequence.next() % 5) as usize];
     let text = TEXTS[(sequence.next() % 3) as usize];
     match sequence.next() % 32 {
         0 | 1 | 2 | 3 | 4 | 5 | 6 | 7 => script.push_str(FLUSH)?,
-        8 | 9 | 10 | 11 => push_answer(alloc, script, sequence, documents)?,
+        8 | 9 | 10 => push_answer(alloc, script, sequence, documents.metadata)?,
+        11 | 25 | 26 => push_document(alloc, script, sequence, documents.json)?,
         12 | 13 | 14 | 15 | 16 | 17 => push_load(script, sequence)?,
         18 => push_event(script, "exclude", path, None)?,
         19 | 20 | 21 => push_event(script, "file", path, None)?,
@@ -109,14 +130,47 @@ fn push_any(
 }
 
 fn push_load(script: &mut String, sequence: &mut Sequence) -> Result<(), AllocError> {
-    if sequence.next() % 16 == 0 {
-        push_event(script, "load", "/x/Cargo.toml", None)
+    let place = (sequence.next() % 4) as usize;
+    let path = if sequence.next() % 16 == 0 {
+        "/x/Cargo.toml"
     } else {
-        push_event(script, "load", "/w/Cargo.toml", None)
+        MANIFESTS[place]
+    };
+    push_event(script, "load", path, None)
+}
+
+// A text of the JSON project's document: one of the first four.
+fn push_document(
+    alloc: Global,
+    script: &mut String,
+    sequence: &mut Sequence,
+    documents: &[Value],
+) -> Result<(), Fault> {
+    let place = (sequence.next() % 4) as usize;
+    let line = Object::new(alloc)
+        .text("event", "file")
+        .text("path", "/w/rust-project.json")
+        .text("text", text_of(item(documents, place, "json")?, "json")?)
+        .answer()?;
+    push_value(alloc, script, &line)
+}
+
+// The words of the metadata command, for the project of cargo or for the detached file, and its directory.
+fn question_of(alloc: Global, is_script: bool) -> (List, &'static str) {
+    let words = List::new(alloc)
+        .text("metadata")
+        .text("--format-version")
+        .text("1")
+        .text("--manifest-path");
+    if is_script {
+        let words = words.text("/w/b/x.rs").text("-Zscript");
+        (words.text("-Zunstable-options"), "/w/b")
+    } else {
+        (words.text("/w/Cargo.toml"), "/w")
     }
 }
 
-// An answer of the metadata command, with one of the first four documents.
+// An answer of the metadata command, with one of the first four documents. One in four is of the detached file.
 fn push_answer(
     alloc: Global,
     script: &mut String,
@@ -125,17 +179,12 @@ fn push_answer(
 ) -> Result<(), Fault> {
     let place = (sequence.next() % 4) as usize;
     let out = text_of(item(documents, place, "documents")?, "documents")?;
-    let words = List::new(alloc)
-        .text("metadata")
-        .text("--format-version")
-        .text("1")
-        .text("--manifest-path")
-        .text("/w/Cargo.toml");
+    let (words, dir) = question_of(alloc, sequence.next() % 4 == 0);
     let line = Object::new(alloc)
         .text("event", "answer")
         .text("program", "cargo")
         .member("words", words.answer())
-        .text("dir", "/w")
+        .text("dir", dir)
         .flag("ok", true)
         .text("out", out)
         .answer()?;

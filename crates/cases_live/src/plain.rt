@@ -90,6 +90,7 @@ fn error_of(alloc: Global, name: &str) -> Result<Option<LiveError>, AllocError> 
 fn project_error(alloc: Global, name: &str) -> Result<Option<LiveError>, AllocError> {
     Ok(Some(match name {
         "BadManifest" => LiveError::BadManifest(Text::of_str(alloc, "w/Cargo.toml")?),
+        "NoSuchFile" => LiveError::NoSuchFile(Text::of_str(alloc, "/j/rust-project.json")?),
         "Io" => LiveError::Io(Text::of_str(alloc, "cargo metadata")?),
         "CargoMetadata" => LiveError::CargoMetadata(Text::of_str(alloc, "no net")?),
         "NoJson" => LiveError::NoJson,

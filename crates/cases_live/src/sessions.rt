@@ -110,7 +110,7 @@ fn database(alloc: Global, case: Case<'_>, vfs: &Vfs, db: &InputDb) -> Result<Va
         .answer()
 }
 
-// Of each path the text and the root that the database has, and null for a file that does not live.
+// Of each path the text and the root that the database has, and its number; and null for a file that does not live.
 fn files(alloc: Global, vfs: &Vfs, db: &InputDb, paths: &[Value]) -> Result<Value, Fault> {
     let mut files = List::new(alloc);
     for path in paths {
@@ -137,5 +137,6 @@ fn file(alloc: Global, db: &InputDb, id: FileId) -> Result<Value, Fault> {
     List::new(alloc)
         .text(db.file_text(id).text.as_str())
         .number(db.file_source_root(id).source_root_id.0 as u64)
+        .number(id.index() as u64)
         .answer()
 }

@@ -1,5 +1,5 @@
 -- One event that is a build: what it gives the project, or why it is refused.
-use Rattle.std.proofs.Common.{◌≡◌, ℕ, List, [], Option, Some, None, Result, Ok, Err, inl, inr, ◌⊎◌, refl, sym, ap, subst, ◌∙◌, arith}
+use Rattle.std.proofs.Common.{◌≡◌, ℕ, Bool, true, false, cond, List, [], Option, Some, None, Result, Ok, Err, inl, inr, ◌⊎◌, refl, sym, ap, subst, ◌∙◌, arith}
 use Rattle.std.specs.Prelude.{IfErr, OnErr, OnOk, is_err}
 use Rattle.outside.specs.Sink.{Appends-nil}
 use Rattle.outside.specs.declared.command.Output.{Output}
@@ -7,6 +7,7 @@ use Rattle.outside.specs.declared.limits.Limit.TheVariants.{Bytes}
 use Rattle.pm_build.specs.Reading.{Reading}
 use Rattle.pm_build.specs.declared.build_error.BuildError.{BuildError}
 use Rattle.pm_build.specs.declared.build_error.BuildError.TheVariants as build
+use Rattle.pm_lower.specs.ProjectWorkspace.{has_cargo_workspace}
 use Rattle.live_project.specs.Build.{built_project}
 use Rattle.live_project.specs.Project.{ProjectContent}
 use Rattle.live_input.specs.declared.event.Event.{Event}
@@ -24,7 +25,7 @@ use Rattle.live.proofs.Outcomes.{AppendsFront-nil}
 
 -- ---- refusals
 
--- why a build is refused: there is no project, or its outputs are refused
+-- why a build is refused: there is no project with a Cargo workspace, or its outputs are refused
 abbrev IsBuildRefusal : LiveError → Type 0
 IsBuildRefusal error = (error ≡ NoCargoProject) ⊎ ((refusal : BuildError) × (error ≡ of_build_error refusal))
 
@@ -34,7 +35,11 @@ building-refused (Err refusal) error is = inr (refusal, (let told : of_build_err
 
 build-refused : (project : Option ProjectContent) (output : Output) (error : LiveError) → project_after_build project output ≡ Err error → IsBuildRefusal error
 build-refused None output error is = inl (let told : NoCargoProject ≡ error = cc in sym told)
-build-refused (Some project) output error is = building-refused (built_project project output) error is
+build-refused (Some project) output error is = by (has_cargo_workspace project.workspace.kind) is
+  where
+    by : (has : Bool) → cond has (of_building (built_project project output)) (Err NoCargoProject) ≡ Err error → IsBuildRefusal error
+    by true e = building-refused (built_project project output) error e
+    by false e = inl (let told : NoCargoProject ≡ error = cc in sym told)
 
 build-status : (refusal : BuildError) → IsOneOf turn_statuses (status_of (of_build_error refusal))
 build-status (build.Io line) = refl

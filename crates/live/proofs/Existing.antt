@@ -1,6 +1,5 @@
 -- The files that exist, of a file system that follows marks, are the live files of the marks, in one order.
-use Rattle.std.proofs.Common.{◌≡◌, ℕ, zero, suc, ◌+◌, ◌<◌, nat_eq, eq-eqb, slice_get, subst, Bool, true, false, List, [], ◌∷◌, ◌++◌, Option, Some, None, get_or, map, refl, sym, ◌∙◌, ap, arith, is_some, if◌then◌else◌}
-use Rattle.std.proofs.lemmas.Bool.Decides.{nat_tests}
+use Rattle.std.proofs.Common.{◌≡◌, ℕ, zero, suc, ◌+◌, nat_eq, eq-eqb, slice_get, subst, Bool, true, false, List, [], ◌∷◌, ◌++◌, Option, Some, None, get_or, map, refl, sym, ◌∙◌, ap, arith, is_some, if◌then◌else◌}
 use Rattle.std.specs.List.{All, IsDistinct, enumerate_from, filter_map, list_any}
 use Rattle.std.specs.Map.{keys_of, lookup}
 use Rattle.std.specs.Option.{option_map, unwrap_or}

@@ -7,8 +7,8 @@ use Rattle.outside.specs.Sink.{Appends-nil}
 use Rattle.outside.specs.declared.command.CommandLine.{CommandLine}
 use Rattle.outside.specs.declared.command.Output.{Output}
 use Rattle.outside.specs.declared.limits.Limit.TheVariants.{Bytes, Paths, Packages, Targets, Crates}
-use Rattle.pm_lower.specs.declared.load_error.LoadError.{LoadError}
-use Rattle.pm_lower.specs.declared.load_error.LoadError.TheVariants as load
+use Rattle.pm_load.specs.declared.load_error.LoadError.{LoadError}
+use Rattle.pm_load.specs.declared.load_error.LoadError.TheVariants as load
 use Rattle.pm_lower.specs.declared.project_workspace.ProjectWorkspace.{ProjectWorkspace}
 use Rattle.live_project.specs.Project.{NamesLoadLimit, ProjectContent, Refuses, read_sources}
 use Rattle.live_project.specs.declared.project_error.ProjectError.{ProjectError}
@@ -147,6 +147,7 @@ refused_ends live live' path s error held h same r =
     })
   where
     no-load_fault : (error : LoadError) → of_load_error error ≡ WriteFault → ⊥
+    no-load_fault (load.NoSuchFile path) e = cc
     no-load_fault (load.CargoMetadata stderr) e = cc
     no-load_fault (load.Io line) e = cc
     no-load_fault (load.Json field) e = cc
@@ -176,6 +177,7 @@ fails_load live live' path (Err error) held event is (inr refused) same = λ s h
 -- ---- causes
 
 refusal-status : (error : LoadError) → IsOneOf turn_statuses (status_of (of_load_error error))
+refusal-status (load.NoSuchFile path) = refl
 refusal-status (load.CargoMetadata stderr) = refl
 refusal-status (load.Io line) = refl
 refusal-status (load.Json field) = refl
@@ -193,6 +195,7 @@ project-status project.OutOfMemory = refl
 
 -- the limit of bytes is none of a load's
 load-limit : (error : LoadError) → NamesLoadLimit (project.Refused error) → of_load_error error ≡ TooMany Bytes → ⊥
+load-limit (load.NoSuchFile path) names e = cc
 load-limit (load.CargoMetadata stderr) names e = cc
 load-limit (load.Io line) names e = cc
 load-limit (load.Json field) names e = cc
@@ -214,6 +217,7 @@ project-limit project.OutOfMemory names e = cc
 
 no-write : (refusal : ProjectError) → IsOneOf turn_statuses (status_of (of_project_error refusal)) → of_project_error refusal ≡ WriteFault → ⊥
 no-write (project.BadManifest path) only e = cc
+no-write (project.Refused (load.NoSuchFile path)) only e = cc
 no-write (project.Refused (load.CargoMetadata stderr)) only e = cc
 no-write (project.Refused (load.Io line)) only e = cc
 no-write (project.Refused (load.Json field)) only e = cc

@@ -14,7 +14,7 @@ use Rattle.live_input.specs.declared.lines.LineError.TheVariants.{ReadFault as R
 use Rattle.live_input.proofs.Gaves.{Gave-fresh}
 use Rattle.live.specs.declared.session.Live.{Live}
 use Rattle.live.specs.declared.fault.LiveError.{LiveError}
-use Rattle.live.specs.declared.fault.LiveError.TheVariants.{OutOfMemory, Usage, ReadFault, WriteFault, Script, BadManifest, Io, CargoMetadata, NoJson, Json, NotAbsolute, UnknownPackage, BadCrateName, NoParent, NoCargoProject, TooMany}
+use Rattle.live.specs.declared.fault.LiveError.TheVariants.{OutOfMemory, Usage, ReadFault, WriteFault, Script, BadManifest, NoSuchFile, Io, CargoMetadata, NoJson, Json, NotAbsolute, UnknownPackage, BadCrateName, NoParent, NoCargoProject, TooMany}
 use Rattle.live_input.specs.Event.{event}
 use Rattle.live.specs.Fault.{IsOneOf, IsRefusal, fault_of, line_statuses, run_statuses, status_of}
 use Rattle.live.specs.Run.{Completes, Fails, Finishes, HasCause, Ran, Stops, TakesAtMost}
@@ -156,6 +156,7 @@ write_fault ReadFault e = absurd (omega arith)
 write_fault WriteFault e = refl
 write_fault (Script line) e = absurd (omega arith)
 write_fault (BadManifest path) e = absurd (omega arith)
+write_fault (NoSuchFile path) e = absurd (omega arith)
 write_fault (Io line) e = absurd (omega arith)
 write_fault (CargoMetadata stderr) e = absurd (omega arith)
 write_fault NoJson e = absurd (omega arith)
@@ -184,6 +185,7 @@ completes_err o ReadFault live old new reads reads' writes writes' fails cause r
 completes_err o WriteFault live old new reads reads' writes writes' fails cause read write = absurd (write (cause.write refl))
 completes_err o (Script line) live old new reads reads' writes writes' fails cause read write = inr (fails.refused (omega arith)).refused
 completes_err o (BadManifest path) live old new reads reads' writes writes' fails cause read write = inr (fails.refused (omega arith)).refused
+completes_err o (NoSuchFile path) live old new reads reads' writes writes' fails cause read write = inr (fails.refused (omega arith)).refused
 completes_err o (Io line) live old new reads reads' writes writes' fails cause read write = inr (fails.refused (omega arith)).refused
 completes_err o (CargoMetadata stderr) live old new reads reads' writes writes' fails cause read write = inr (fails.refused (omega arith)).refused
 completes_err o NoJson live old new reads reads' writes writes' fails cause read write = inr (fails.refused (omega arith)).refused

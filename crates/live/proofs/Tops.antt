@@ -4,7 +4,6 @@ use Rattle.std.specs.declared.alloc.Global.{Global}
 use Rattle.live.specs.declared.fault.LiveError.TheVariants.{OutOfMemory}
 use Rattle.live.specs.declared.session.Live.{Live}
 use Rattle.live.specs.Cli.{CompletesAs, FailsAs, StatusOf}
-use Rattle.live.specs.Fault.{status_of}
 use Rattle.live.specs.Session.{State, session}
 use Rattle.live.specs.Turn.{Holds, first_state}
 use Rattle.live.proofs.Outcomes.{AppendsFront-nil}

@@ -9,6 +9,7 @@ use Rattle.live_input.specs.declared.config.LiveConfig.{LiveConfig}
 use Rattle.live_input.specs.declared.event.Event.{Event}
 use Rattle.live_input.specs.declared.event.Event.TheVariants.{Answer, Build, Exclude, File, Flush, Load}
 use Rattle.live.specs.declared.fault.LiveError.{LiveError}
+use Rattle.live.specs.declared.fault.LiveError.TheVariants.{NoCargoProject}
 use Rattle.live_input.specs.Event.{event}
 use Rattle.live.specs.Laws.{IsJoined, SessionsJoin, counted_on}
 use Rattle.bounded_lines.specs.Lines.{final, front, last_line, lines_of, newline, partial_line, pieces, whole_lines}
@@ -19,12 +20,13 @@ use Rattle.std.specs.Prelude.{Result, Ok, Err}
 use Rattle.outside.specs.declared.command.Output.{Output}
 use Rattle.pm_build.specs.Reading.{Reading}
 use Rattle.pm_build.specs.declared.build_error.BuildError.TheVariants as build
-use Rattle.pm_lower.specs.declared.load_error.LoadError.{LoadError}
-use Rattle.pm_lower.specs.declared.load_error.LoadError.TheVariants as load
+use Rattle.pm_load.specs.declared.load_error.LoadError.{LoadError}
+use Rattle.pm_load.specs.declared.load_error.LoadError.TheVariants as load
 use Rattle.pm_lower.specs.declared.project_workspace.ProjectWorkspace.{ProjectWorkspace}
 use Rattle.pm_rows.specs.Lowering.{Crate}
 use Rattle.pm_rows.specs.declared.lower_error.LowerError.{LowerError}
 use Rattle.pm_rows.specs.declared.lower_error.LowerError.TheVariants as lower
+use Rattle.pm_lower.specs.ProjectWorkspace.{has_cargo_workspace}
 use Rattle.live_project.specs.Build.{built_project}
 use Rattle.live_project.specs.Project.{ProjectContent, read_sources}
 use Rattle.live_project.specs.declared.project_error.ProjectError.{ProjectError}
@@ -99,6 +101,7 @@ mark_turn-split s path kind lines true e = rw e refl
 mark_turn-split s path kind lines false e = rw e refl
 
 refusal-counted : (lines : ℕ) (error : LoadError) → counted_on lines (of_load_error error) ≡ of_load_error error
+refusal-counted lines (load.NoSuchFile path) = refl
 refusal-counted lines (load.CargoMetadata stderr) = refl
 refusal-counted lines (load.Io line) = refl
 refusal-counted lines (load.Json field) = refl
@@ -126,7 +129,12 @@ built-counted s lines (Err build.OutOfMemory) = refl
 build-counted : (s : State) (lines : ℕ) (project : Option ProjectContent) (output : Output)
     → option_map (counted_on lines) (built s (project_after_build project output)).refusal ≡ (built s (project_after_build project output)).refusal
 build-counted s lines None output = refl
-build-counted s lines (Some project) output = built-counted s lines (built_project project output)
+build-counted s lines (Some project) output = by (has_cargo_workspace project.workspace.kind)
+  where
+    by : (has : Bool) → option_map (counted_on lines) (built s (cond has (of_building (built_project project output)) (Err NoCargoProject))).refusal
+        ≡ (built s (cond has (of_building (built_project project output)) (Err NoCargoProject))).refusal
+    by true = built-counted s lines (built_project project output)
+    by false = refl
 
 flush-counted : (s : State) (flush : FlushContent) (lines : ℕ) (crates : Result (List Crate) LowerError)
     → option_map (counted_on lines) (flushed_turn s flush crates).refusal ≡ (flushed_turn s flush crates).refusal

@@ -5,7 +5,7 @@ use Rattle.std.specs.Option.{option_map}
 use Rattle.live.specs.declared.session.Live.{Live}
 use Rattle.live_input.specs.declared.config.LiveConfig.{LiveConfig}
 use Rattle.live.specs.declared.fault.LiveError.{LiveError}
-use Rattle.live.specs.declared.fault.LiveError.TheVariants.{OutOfMemory, Usage, ReadFault, WriteFault, Script, BadManifest, Io, CargoMetadata, NoJson, Json, NotAbsolute, UnknownPackage, BadCrateName, NoParent, NoCargoProject, TooMany}
+use Rattle.live.specs.declared.fault.LiveError.TheVariants.{OutOfMemory, Usage, ReadFault, WriteFault, Script, BadManifest, NoSuchFile, Io, CargoMetadata, NoJson, Json, NotAbsolute, UnknownPackage, BadCrateName, NoParent, NoCargoProject, TooMany}
 use Rattle.std.specs.Prelude.{IfErr, IsErrOf, OnOk, String}
 use Rattle.std.specs.declared.alloc.Global.{Global}
 use Rattle.live.specs.Cli.{CompletesAs, CompletesFor, FailsFor, FinishesAs, StatusOf, TakesFor, UsageError, UsageExactly, with_config, state_of_command, state_for, texts_of}
@@ -88,6 +88,7 @@ wider_status ReadFault = refl
 wider_status WriteFault = refl
 wider_status (Script line) = refl
 wider_status (BadManifest path) = refl
+wider_status (NoSuchFile path) = refl
 wider_status (Io line) = refl
 wider_status (CargoMetadata stderr) = refl
 wider_status NoJson = refl
@@ -145,6 +146,7 @@ is_usage ReadFault e = absurd (omega arith)
 is_usage WriteFault e = absurd (omega arith)
 is_usage (Script line) e = absurd (omega arith)
 is_usage (BadManifest path) e = absurd (omega arith)
+is_usage (NoSuchFile path) e = absurd (omega arith)
 is_usage (Io line) e = absurd (omega arith)
 is_usage (CargoMetadata stderr) e = absurd (omega arith)
 is_usage NoJson e = absurd (omega arith)

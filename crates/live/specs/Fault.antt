@@ -9,12 +9,12 @@ use Rattle.live_project.specs.declared.project_error.ProjectError.{ProjectError}
 use Rattle.live_project.specs.declared.project_error.ProjectError.TheVariants as project
 use Rattle.pm_build.specs.declared.build_error.BuildError.{BuildError}
 use Rattle.pm_build.specs.declared.build_error.BuildError.TheVariants as build
-use Rattle.pm_lower.specs.declared.load_error.LoadError.{LoadError}
-use Rattle.pm_lower.specs.declared.load_error.LoadError.TheVariants as load
+use Rattle.pm_load.specs.declared.load_error.LoadError.{LoadError}
+use Rattle.pm_load.specs.declared.load_error.LoadError.TheVariants as load
 use Rattle.pm_rows.specs.declared.lower_error.LowerError.{LowerError}
 use Rattle.pm_rows.specs.declared.lower_error.LowerError.TheVariants as lower
 use Rattle.live.specs.declared.fault.LiveError.{LiveError}
-use Rattle.live.specs.declared.fault.LiveError.TheVariants.{OutOfMemory, Usage, ReadFault, WriteFault, Script, BadManifest, Io, CargoMetadata, NoJson, Json, NotAbsolute, UnknownPackage, BadCrateName, NoParent, NoCargoProject, TooMany}
+use Rattle.live.specs.declared.fault.LiveError.TheVariants.{OutOfMemory, Usage, ReadFault, WriteFault, Script, BadManifest, NoSuchFile, Io, CargoMetadata, NoJson, Json, NotAbsolute, UnknownPackage, BadCrateName, NoParent, NoCargoProject, TooMany}
 use Rattle.live.specs.declared.fault.StepError.{StepError}
 use Rattle.live.specs.declared.fault.StepError.TheVariants.{Refused, Ended}
 
@@ -26,6 +26,7 @@ status_of ReadFault = 3
 status_of WriteFault = 4
 status_of (Script line) = 5
 status_of (BadManifest path) = 6
+status_of (NoSuchFile path) = 7
 status_of (Io line) = 8
 status_of (CargoMetadata stderr) = 9
 status_of NoJson = 10
@@ -53,6 +54,7 @@ text_of ReadFault = codes "read fault"
 text_of WriteFault = codes "write fault"
 text_of (Script line) = codes "script line " ++ decimal line
 text_of (BadManifest path) = codes "bad manifest: " ++ path
+text_of (NoSuchFile path) = codes "no such file: " ++ path
 text_of (Io line) = codes "cannot start: " ++ line
 text_of (CargoMetadata stderr) = codes "cargo metadata failed: " ++ stderr
 text_of NoJson = codes "no json in the metadata answer"
@@ -73,6 +75,7 @@ step_error_text Ended = codes "Ended"
 
 -- why a project is not read
 abbrev pub of_load_error : LoadError → LiveError
+of_load_error (load.NoSuchFile path) = NoSuchFile path
 of_load_error (load.CargoMetadata stderr) = CargoMetadata stderr
 of_load_error (load.Io line) = Io line
 of_load_error (load.Json field) = Json field
@@ -124,23 +127,23 @@ flush_statuses = 1 ∷ 4 ∷ 14 ∷ 17 ∷ []
 
 -- those of a load
 abbrev pub load_statuses : List ℕ
-load_statuses = 1 ∷ 6 ∷ 8 ∷ 9 ∷ 10 ∷ 11 ∷ 12 ∷ 13 ∷ 15 ∷ 17 ∷ []
+load_statuses = 1 ∷ 6 ∷ 7 ∷ 8 ∷ 9 ∷ 10 ∷ 11 ∷ 12 ∷ 13 ∷ 15 ∷ 17 ∷ []
 
 -- those of the errors of one event
 abbrev pub turn_statuses : List ℕ
-turn_statuses = 1 ∷ 4 ∷ 6 ∷ 8 ∷ 9 ∷ 10 ∷ 11 ∷ 12 ∷ 13 ∷ 14 ∷ 15 ∷ 16 ∷ 17 ∷ []
+turn_statuses = 1 ∷ 4 ∷ 6 ∷ 7 ∷ 8 ∷ 9 ∷ 10 ∷ 11 ∷ 12 ∷ 13 ∷ 14 ∷ 15 ∷ 16 ∷ 17 ∷ []
 
 -- those of reading lines
 abbrev pub line_statuses : List ℕ
-line_statuses = 1 ∷ 4 ∷ 5 ∷ 6 ∷ 8 ∷ 9 ∷ 10 ∷ 11 ∷ 12 ∷ 13 ∷ 14 ∷ 15 ∷ 16 ∷ 17 ∷ []
+line_statuses = 1 ∷ 4 ∷ 5 ∷ 6 ∷ 7 ∷ 8 ∷ 9 ∷ 10 ∷ 11 ∷ 12 ∷ 13 ∷ 14 ∷ 15 ∷ 16 ∷ 17 ∷ []
 
 -- those of a run over a script
 abbrev pub run_statuses : List ℕ
-run_statuses = 1 ∷ 3 ∷ 4 ∷ 5 ∷ 6 ∷ 8 ∷ 9 ∷ 10 ∷ 11 ∷ 12 ∷ 13 ∷ 14 ∷ 15 ∷ 16 ∷ 17 ∷ []
+run_statuses = 1 ∷ 3 ∷ 4 ∷ 5 ∷ 6 ∷ 7 ∷ 8 ∷ 9 ∷ 10 ∷ 11 ∷ 12 ∷ 13 ∷ 14 ∷ 15 ∷ 16 ∷ 17 ∷ []
 
 -- those of the words
 abbrev pub word_statuses : List ℕ
-word_statuses = 1 ∷ 2 ∷ 3 ∷ 4 ∷ 5 ∷ 6 ∷ 8 ∷ 9 ∷ 10 ∷ 11 ∷ 12 ∷ 13 ∷ 14 ∷ 15 ∷ 16 ∷ 17 ∷ []
+word_statuses = 1 ∷ 2 ∷ 3 ∷ 4 ∷ 5 ∷ 6 ∷ 7 ∷ 8 ∷ 9 ∷ 10 ∷ 11 ∷ 12 ∷ 13 ∷ 14 ∷ 15 ∷ 16 ∷ 17 ∷ []
 
 -- all statuses, that of success among them
 abbrev pub all_statuses : List ℕ

@@ -16,6 +16,7 @@ use Rattle.vfs_core.specs.declared.marks.MarkKind.TheVariants.{Out}
 use Rattle.vfs_core.specs.Marks.{live_files, live_text, mentioned_paths}
 use Rattle.vfs_core.specs.Files.{kind_of}
 use Rattle.pm_build.specs.Reading.{Reading}
+use Rattle.pm_lower.specs.ProjectWorkspace.{has_cargo_workspace}
 use Rattle.pm_lower.specs.declared.project_workspace.ProjectWorkspace.{ProjectWorkspace}
 use Rattle.pm_rows.specs.Lowering.{Crate}
 use Rattle.pm_rows.specs.declared.lower_error.LowerError.{LowerError}
@@ -100,10 +101,11 @@ abbrev pub of_building : Reading ProjectContent → Result ProjectContent LiveEr
 of_building (Ok project) = Ok project
 of_building (Err error) = Err (of_build_error error)
 
--- a build is one of the project that is loaded, and the outputs after it are its own alone
+-- a build is one of the project that is loaded, which must have a Cargo workspace, and the outputs after it are its own alone
 abbrev pub project_after_build : Option ProjectContent → Output → Result ProjectContent LiveError
 project_after_build None output = Err NoCargoProject
-project_after_build (Some project) output = of_building (built_project project output)
+project_after_build (Some project) output =
+    if has_cargo_workspace project.workspace.kind then of_building (built_project project output) else Err NoCargoProject
 
 -- a build that gives this project, or its refusal, which leaves the state as it was
 abbrev pub built : State → Result ProjectContent LiveError → Turn

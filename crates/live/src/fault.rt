@@ -26,15 +26,17 @@ pub enum LiveError {
     WriteFault,
     /// The line of this number, counted from 1 in each run, is no event.
     Script(u64),
-    /// The path of a load does not begin with `/`, is the root, or has another file name than `Cargo.toml`: the path as it was given.
+    /// The path of a load does not begin with `/`, is the root, or has the name of no manifest: the path as it was given.
     BadManifest(Text),
+    /// No file lives at the path of a JSON project: the path, with each `..`.
+    NoSuchFile(Text),
     /// The command that gives metadata has no answer: its line.
     Io(Text),
     /// The command that gives metadata failed: what it wrote for people.
     CargoMetadata(Text),
     /// The answer of that command has no document.
     NoJson,
-    /// The document does not fit: the first place that it misses.
+    /// The document of that command or of a JSON project does not fit: the first place that it misses.
     Json(Text),
     /// A path of the document, that of the workspace's root, or one that a build gave does not begin with `/`: its text.
     NotAbsolute(Text),
@@ -42,9 +44,9 @@ pub enum LiveError {
     UnknownPackage(Text),
     /// The name of a dependency between two crates holds a dash: the name.
     BadCrateName(Text),
-    /// The path of a manifest is the root: the path.
+    /// The path of a manifest or of a root module is the root: the path.
     NoParent(Text),
-    /// A build while no project of cargo is loaded.
+    /// A build while no project is loaded, or one without a Cargo workspace.
     NoCargoProject,
     /// The next of this kind would pass its limit.
     TooMany(Limit),
@@ -65,6 +67,7 @@ impl fmt::Display for LiveError {
             LiveError::WriteFault => f.write_str("write fault"),
             LiveError::Script(line) => write!(f, "script line {line}"),
             LiveError::BadManifest(path) => write_both(f, "bad manifest: ", path.as_str()),
+            LiveError::NoSuchFile(path) => write_both(f, "no such file: ", path.as_str()),
             LiveError::Io(line) => write_both(f, "cannot start: ", line.as_str()),
             LiveError::CargoMetadata(err) => write_both(f, "cargo metadata failed: ", err.as_str()),
             LiveError::NoJson => f.write_str("no json in the metadata answer"),
@@ -118,6 +121,7 @@ impl From<LoadError> for LiveError {
 
     fn from(error: LoadError) -> Self {
         match error {
+            LoadError::NoSuchFile(path) => LiveError::NoSuchFile(path),
             LoadError::CargoMetadata { stderr } => LiveError::CargoMetadata(stderr),
             LoadError::Io { line } => LiveError::Io(line),
             LoadError::Json { field } => LiveError::Json(field),
@@ -185,6 +189,7 @@ impl TryClone for LiveError {
             LiveError::WriteFault => Ok(LiveError::WriteFault),
             LiveError::Script(line) => Ok(LiveError::Script(*line)),
             LiveError::BadManifest(path) => Ok(LiveError::BadManifest(path.try_clone(alloc)?)),
+            LiveError::NoSuchFile(path) => Ok(LiveError::NoSuchFile(path.try_clone(alloc)?)),
             LiveError::Io(line) => Ok(LiveError::Io(line.try_clone(alloc)?)),
             LiveError::CargoMetadata(err) => Ok(LiveError::CargoMetadata(err.try_clone(alloc)?)),
             LiveError::NoJson => Ok(LiveError::NoJson),
@@ -211,6 +216,7 @@ impl LiveError {
             LiveError::WriteFault => 4,
             LiveError::Script(_) => 5,
             LiveError::BadManifest(_) => 6,
+            LiveError::NoSuchFile(_) => 7,
             LiveError::Io(_) => 8,
             LiveError::CargoMetadata(_) => 9,
             LiveError::NoJson => 10,

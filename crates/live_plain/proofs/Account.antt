@@ -30,7 +30,7 @@ use Rattle.live.proofs.Flushed.{nodes-seen}
 use Rattle.live_plain.specs.Account.{IsPage, paths_in}
 use Rattle.live.proofs.Existing.{numbered, numbered_texts, texted}
 use Rattle.std.proofs.lemmas.List.{length-map, map-append, take_all, take_more}
-use Rattle.std.proofs.lemmas.List.FromFn.{get_or-range_with_len, length-range_with_len}
+use Rattle.std.proofs.lemmas.List.FromFn.{length-range_with_len}
 use Rattle.std.proofs.lemmas.Option.{get_or_from_slice_get, slice_get-map, slice_get_within}
 use Rattle.std.proofs.lemmas.List.Elements.{filter-append, filter_map-append}
 use Rattle.std.proofs.lemmas.List.Sums.{fold-append}

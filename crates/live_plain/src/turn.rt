@@ -204,6 +204,9 @@ fn build_turn(alloc: Global, state: PlainState, output: &Output) -> Result<Plain
     let Some(project) = state.project.try_clone(alloc)? else {
         return Ok(refuses(alloc, state, LiveError::NoCargoProject));
     };
+    if !project.get().has_cargo_workspace() {
+        return Ok(refuses(alloc, state, LiveError::NoCargoProject));
+    }
     match build(alloc, project.get(), output) {
         Ok(project) => Ok(takes(alloc, with_project(state, project))),
         Err(BuildError::OutOfMemory) => Err(AllocError),

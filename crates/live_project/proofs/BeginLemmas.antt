@@ -16,10 +16,18 @@ use Rattle.crate_graph.specs.Graph.{Graph}
 use Rattle.crate_values.specs.declared.builder.CrateBuilder.{CrateBuilder}
 use Rattle.crate_values.specs.declared.workspace_data.CrateWorkspaceData.{CrateWorkspaceData}
 use Rattle.pm_cargo.specs.Workspace.{Workspace}
+use Rattle.pm_detached.specs.Lowering as detached
+use Rattle.pm_json.specs.Queries.{crates_in}
+use Rattle.pm_json.specs.declared.krate.Crate as document
+use Rattle.pm_json.specs.declared.project_json.ProjectJson.{ProjectJson}
+use Rattle.pm_json_rows.specs.Lowering as json
+use Rattle.pm_json_rows.specs.Rows as json_rows
+use Rattle.pm_json_rows.specs.WantedEdges as json_edges
 use Rattle.pm_loader.specs.Loader as by_path
+use Rattle.pm_lower.specs.ProjectWorkspace.{script_workspace}
 use Rattle.pm_lower.specs.ToCrateGraph.{kind_lowering, shared_of}
 use Rattle.pm_lower.specs.declared.project_workspace.ProjectWorkspaceKind.{ProjectWorkspaceKind}
-use Rattle.pm_lower.specs.declared.project_workspace.ProjectWorkspaceKind.TheVariants.{Cargo}
+use Rattle.pm_lower.specs.declared.project_workspace.ProjectWorkspaceKind.TheVariants.{Cargo, Json, DetachedFile}
 use Rattle.pm_packages.specs.declared.package.PackageData.{PackageData}
 use Rattle.pm_packages.specs.declared.target.TargetData.{TargetData}
 use Rattle.pm_packages.specs.declared.target.TargetTag.{TargetTag}
@@ -128,9 +136,51 @@ module _ (P : ℕ → Type 0) where
         (λ r. IfOk r (λ crates. All (λ krate. P krate.root) crates))
         (λ more. tt) (λ few. named-begin shared (slice_get (bad_names (parts files w)) 0))
 
+  -- ---- the crates of a JSON project, and that of a detached file
+
+  module _ (files : by_path.Files) (all : AllFiles files) where
+    json-row : (n : ℕ) (krate : document.Crate) → All (λ (row : json_rows.Row). P row.file) (option_to_list (json_rows.row_of files n krate))
+    unfolding Rattle.pm_json_rows.specs.Rows.row_of
+    json-row n krate = by (by_path.file_of files krate.root_module) (All-lookup P (path_eq (by_path.normalized krate.root_module)) files all)
+      where
+        by : (file : Option ℕ) → IfSome file P → All (λ (row : json_rows.Row). P row.file) (option_to_list (option_map (json_rows.row_in n krate) file))
+        by None none = All-nil (λ (row : json_rows.Row). P row.file)
+        by (Some file) p = All-cons (λ (row : json_rows.Row). P row.file) (json_rows.row_in n krate file) [] p (All-nil (λ (row : json_rows.Row). P row.file))
+
+    json-rows : (n : ℕ) (crates : List document.Crate) → All (λ (row : json_rows.Row). P row.file) (json_rows.rows_among (json_rows.rows_from files n crates))
+    json-rows n [] = All-nil (λ (row : json_rows.Row). P row.file)
+    json-rows n (krate ∷ crates) =
+        let row = json_rows.row_of files n krate in
+        let next = n + length (option_to_list row) in
+        All-append (λ (row : json_rows.Row). P row.file) (option_to_list row) (json_rows.rows_among (json_rows.rows_from files next crates)) (json-row n krate) (json-rows next crates)
+
+    json-begins : (project : ProjectJson) (shared : CrateWorkspaceData) (limit : ℕ) → IfOk (json.lowering files project shared limit) (λ crates. All (λ krate. P krate.root) crates)
+    unfolding Rattle.pm_json_rows.specs.Lowering.lowering Rattle.pm_json_rows.specs.Lowering.crates_of
+    json-begins project shared limit =
+        let rows = json_rows.rows_among (json_rows.rows_by_place files project) in
+        let kept = kept_edges (json_edges.wanted_edges (json_rows.rows_by_place files project)) in
+        cond_both (nat_lt limit (length rows)) _ (Ok (map (json.crate_of project shared kept) rows)) (λ (r : Result (List Crate) LowerError). IfOk r (λ crates. All (λ (krate : Crate). P krate.root) crates))
+        (λ more. tt) (λ few. All-map (λ (krate : Crate). P krate.root) (json.crate_of project shared kept) rows (json-rows 0 (crates_in project)))
+
+    alone-begins : (file : List ℕ) (shared : CrateWorkspaceData) (number : Option ℕ) → IfSome number P → All (λ (krate : Crate). P krate.root) (detached.crates_of file shared number)
+    unfolding Rattle.pm_detached.specs.Lowering.crates_of
+    alone-begins file shared None none = All-nil (λ (krate : Crate). P krate.root)
+    alone-begins file shared (Some number) p = All-cons (λ (krate : Crate). P krate.root) (detached.crate_of file shared number) [] p (All-nil (λ (krate : Crate). P krate.root))
+
+    detached-begins : (file : List ℕ) (cargo : Option Workspace) (shared : CrateWorkspaceData) (limit : ℕ)
+        → IfOk (detached.lowering files file cargo shared limit) (λ crates. All (λ krate. P krate.root) crates)
+    unfolding Rattle.pm_detached.specs.Lowering.limited
+    detached-begins file None shared limit =
+        let crates = detached.crates_of file shared (by_path.file_of files file) in
+        cond_both (nat_lt limit (length crates)) _ (Ok crates) (λ (r : Result (List Crate) LowerError). IfOk r (λ crates. All (λ (krate : Crate). P krate.root) crates))
+        (λ more. tt) (λ few. alone-begins file shared (by_path.file_of files file) (All-lookup P (path_eq (by_path.normalized file)) files all))
+    detached-begins file (Some w) shared limit = lowering-begins files all w shared limit
+
   kind-begins : (files : by_path.Files) → AllFiles files → (kind : ProjectWorkspaceKind) (shared : CrateWorkspaceData) (limit : ℕ)
       → IfOk (kind_lowering files kind shared limit) (λ crates. All (λ krate. P krate.root) crates)
   kind-begins files all (Cargo cargo error scripts rustc) shared limit = lowering-begins files all cargo shared limit
+  kind-begins files all (Json project) shared limit = json-begins files all project shared limit
+  kind-begins files all (DetachedFile file script) shared limit = detached-begins files all file (script_workspace script) shared limit
 
   -- the crates of a graph as the definition has them
   seen-begins : (crates : List CrateBuilder) → All (λ krate. P krate.root) (map crate_seen crates) → All (λ krate. P krate.basic.root_file_id) crates

@@ -1,43 +1,49 @@
 -- What every project keeps, after a build too.
-use Rattle.std.proofs.Common.{◌≡◌, ℕ, ◌≤◌, ◌^◌, ◌∙◌, List, Ok, length, length-append, refl, sym, arith}
+use Rattle.std.proofs.Common.{◌≡◌, ℕ, suc, ◌≤◌, ◌^◌, ◌∙◌, List, None, Some, Ok, ap, length, length-append, refl, sym, arith}
 use Rattle.std.proofs.lemmas.List.{length-map}
 use Rattle.live_input.specs.Config.{Fits}
-use Rattle.pm_lower.specs.Project.{read_project}
+use Rattle.pm_lower.specs.ReadProject.{read_project}
 use Rattle.pm_build.specs.Outputs.{BuildScripts}
 use Rattle.pm_lower.specs.Builds.{with_build_scripts, kind_with_build_scripts}
-use Rattle.pm_lower.specs.ToRoots.{KindHasNoRustc, kind_roots, project_roots, sysroot_roots}
+use Rattle.pm_lower.specs.ToRoots.{KindHasNoRustc, kind_roots, out_dir_at, project_roots, sysroot_roots}
 use Rattle.pm_lower.specs.declared.project_workspace.ProjectWorkspace.{ProjectWorkspace}
 use Rattle.pm_lower.specs.declared.project_workspace.ProjectWorkspaceKind.{ProjectWorkspaceKind}
-use Rattle.pm_lower.specs.declared.project_workspace.ProjectWorkspaceKind.TheVariants.{Cargo}
+use Rattle.pm_lower.specs.declared.project_workspace.ProjectWorkspaceKind.TheVariants.{Cargo, Json, DetachedFile}
 use Rattle.live_project.specs.Build.{with_build}
 use Rattle.live_project.specs.Project.{IsLoaded, ProjectContent}
 use Rattle.live_project.specs.Roots.{file_root, roots_of_project}
 use Rattle.live_project.specs.Sources.{means_of_sources}
 use Rattle.live_project.specs.declared.sources.Sources.{Sources}
-use Rattle.live_project.proofs.ReadLemmas.{as_many, is_small, kind_packages}
+use Rattle.pm_tools.specs.declared.project_manifest.ProjectManifest.{ProjectManifest}
+use Rattle.live_project.proofs.ReadLemmas.{as_many, is_small}
 
-pub is_loaded : (s : Sources) (manifest : List ℕ) (workspace : ProjectWorkspace) → Fits s.config
+pub is_loaded : (s : Sources) (manifest : ProjectManifest) (workspace : ProjectWorkspace) → Fits s.config
     → read_project manifest s.config.cargo s.config.limits (means_of_sources s) ≡ Ok workspace → IsLoaded (record { sources = s; workspace = workspace })
 is_loaded s manifest workspace fits read =
     let small = is_small manifest s.config.cargo s.config.limits (means_of_sources s) workspace read in
     let count : length (roots_of_project workspace) ≡ length (project_roots workspace) = length-map (project_roots workspace) file_root in
     let most : s.config.limits.packages ≤ 2 ^ 16 = fits.limits.packages in
-    record { no_rustc = small.no_rustc; few = omega (arith, count, small.few, most) }
+    let most_crates : s.config.limits.crates ≤ 2 ^ 18 = fits.limits.crates in
+    record { no_rustc = small.no_rustc; few = omega (arith, count, small.few, most, most_crates) }
 
 -- outputs are no crates of the compiler, and no packages
 no_rustc_with : (kind : ProjectWorkspaceKind) (scripts : BuildScripts) → KindHasNoRustc kind → KindHasNoRustc (kind_with_build_scripts kind scripts)
 no_rustc_with (Cargo cargo error old rustc) scripts none = none
+no_rustc_with (Json project) scripts none = none
+no_rustc_with (DetachedFile file script) scripts none = none
 
-packages_with : (kind : ProjectWorkspaceKind) (scripts : BuildScripts) → kind_packages (kind_with_build_scripts kind scripts) ≡ kind_packages kind
-packages_with (Cargo cargo error old rustc) scripts = refl
+roots_with : (kind : ProjectWorkspaceKind) (scripts : BuildScripts) (extra : List (List ℕ)) → length (kind_roots (kind_with_build_scripts kind scripts) extra) ≡ length (kind_roots kind extra)
+roots_with (Cargo cargo error old rustc) scripts extra = as_many cargo (out_dir_at scripts) extra ∙ sym (as_many cargo (out_dir_at old) extra)
+roots_with (Json project) scripts extra = refl
+roots_with (DetachedFile file None) scripts extra = refl
+roots_with (DetachedFile file (Some script)) scripts extra = ap suc (as_many script.0 (out_dir_at scripts) extra ∙ sym (as_many script.0 (out_dir_at script.1) extra))
 
 -- the same holds with the outputs of a build
 pub is_loaded_with : (p : ProjectContent) (scripts : BuildScripts) → IsLoaded p → IsLoaded (with_build p scripts)
 is_loaded_with p scripts loaded =
     let w = p.workspace in
     let new = with_build_scripts w scripts in
-    let roots : length (kind_roots new.kind w.extra_includes) ≡ length (kind_roots w.kind w.extra_includes) =
-    as_many new.kind w.extra_includes ∙ packages_with w.kind scripts ∙ sym (as_many w.kind w.extra_includes) in
+    let roots = roots_with w.kind scripts w.extra_includes in
     let before = length-append (kind_roots w.kind w.extra_includes) (sysroot_roots w.sysroot) in
     let after = length-append (kind_roots new.kind w.extra_includes) (sysroot_roots w.sysroot) in
     let counted = length-map (project_roots w) file_root in

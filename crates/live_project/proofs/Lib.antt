@@ -1,4 +1,5 @@
 pub mod DocumentLemmas
+pub mod JsonLemmas
 pub mod ReadLemmas
 pub mod FewRoots
 pub mod LoadLemmas

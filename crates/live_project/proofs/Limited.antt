@@ -1,15 +1,20 @@
 -- The limit that refuses the crates of a project is that of crates.
-use Rattle.std.proofs.Common.{◌≡◌, ℕ, Bool, true, false, cond, List, Option, Some, None, Err, length}
+use Rattle.std.proofs.Common.{◌≡◌, ℕ, Bool, true, false, cond, List, Option, Some, None, Ok, Err, length}
 use Rattle.std.specs.Prelude.{nat_lt, slice_get}
 use Rattle.outside.specs.declared.limits.Limit.{Limit}
 use Rattle.outside.specs.declared.limits.Limit.TheVariants.{Crates}
 use Rattle.crate_values.specs.declared.workspace_data.CrateWorkspaceData.{CrateWorkspaceData}
 use Rattle.pm_cargo.specs.Workspace.{Workspace}
+use Rattle.pm_detached.specs.Lowering as detached
+use Rattle.pm_json.specs.declared.project_json.ProjectJson.{ProjectJson}
+use Rattle.pm_json_rows.specs.Lowering as json
+use Rattle.pm_json_rows.specs.Rows.{rows_among, rows_by_place}
 use Rattle.pm_loader.specs.Loader as by_path
+use Rattle.pm_lower.specs.ProjectWorkspace.{script_workspace}
 use Rattle.pm_lower.specs.ToCrateGraph.{kind_lowering, shared_of}
 use Rattle.pm_lower.specs.declared.project_workspace.ProjectWorkspaceKind.{ProjectWorkspaceKind}
-use Rattle.pm_lower.specs.declared.project_workspace.ProjectWorkspaceKind.TheVariants.{Cargo}
-use Rattle.pm_rows.specs.Lowering.{lowering, named_crates}
+use Rattle.pm_lower.specs.declared.project_workspace.ProjectWorkspaceKind.TheVariants.{Cargo, Json, DetachedFile}
+use Rattle.pm_rows.specs.Lowering.{Crate, lowering, named_crates}
 use Rattle.pm_rows.specs.Rows.{Part, parts, rows_of_parts}
 use Rattle.pm_rows.specs.WantedEdges.{bad_names}
 use Rattle.pm_rows.specs.declared.lower_error.LowerError.TheVariants.{TooMany}
@@ -32,8 +37,28 @@ workspace-limit : (files : by_path.Files) (w : Workspace) (shared : CrateWorkspa
 unfolding lowering
 workspace-limit files w shared most limit is = parts-limit shared (parts files w) (nat_lt most (length (rows_of_parts (parts files w)))) limit is
 
+-- crates that are counted alone
+counted-limit : (is_more : Bool) (crates : List Crate) (limit : Limit) → cond is_more (Err (TooMany Crates)) (Ok crates) ≡ Err (TooMany limit) → limit ≡ Crates
+counted-limit true crates limit is = cc
+counted-limit false crates limit is = cc
+
+json-limit : (files : by_path.Files) (project : ProjectJson) (shared : CrateWorkspaceData) (most : ℕ) (limit : Limit) → json.lowering files project shared most ≡ Err (TooMany limit) → limit ≡ Crates
+unfolding Rattle.pm_json_rows.specs.Lowering.lowering
+json-limit files project shared most limit is =
+    counted-limit (nat_lt most (length (rows_among (rows_by_place files project)))) (json.crates_of files project shared) limit is
+
+detached-limit : (files : by_path.Files) (file : List ℕ) (cargo : Option Workspace) (shared : CrateWorkspaceData) (most : ℕ) (limit : Limit)
+    → detached.lowering files file cargo shared most ≡ Err (TooMany limit) → limit ≡ Crates
+unfolding Rattle.pm_detached.specs.Lowering.limited
+detached-limit files file None shared most limit is =
+    let crates = detached.crates_of file shared (by_path.file_of files file) in
+    counted-limit (nat_lt most (length crates)) crates limit is
+detached-limit files file (Some w) shared most limit is = workspace-limit files w shared most limit is
+
 kind-limit : (files : by_path.Files) (kind : ProjectWorkspaceKind) (shared : CrateWorkspaceData) (most : ℕ) (limit : Limit) → kind_lowering files kind shared most ≡ Err (TooMany limit) → limit ≡ Crates
 kind-limit files (Cargo cargo error scripts rustc) shared most limit is = workspace-limit files cargo shared most limit is
+kind-limit files (Json project) shared most limit is = json-limit files project shared most limit is
+kind-limit files (DetachedFile file script) shared most limit is = detached-limit files file (script_workspace script) shared most limit is
 
 pub lowered_limit : (p : ProjectContent) (files : List (ℕ × PathContent)) (limit : Limit) → lowered p files ≡ Err (TooMany limit) → limit ≡ Crates
 lowered_limit p files limit is = kind-limit (files_by_path files) p.workspace.kind (shared_of p.workspace) p.sources.config.limits.crates limit is

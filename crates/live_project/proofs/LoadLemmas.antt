@@ -2,13 +2,14 @@
 use Rattle.std.proofs.Common.{◌≡◌, ℕ, Bool, true, false, cond, List, Some, None, Err, refl, sym, ap, ◌∙◌, true≢false}
 use Rattle.std.specs.Option.{option_and_then}
 use Rattle.base_text.specs.Paths.{components, is_absolute, path_text}
-use Rattle.pm_lower.specs.Loading as loading
-use Rattle.pm_lower.specs.Project.{read_project}
-use Rattle.pm_lower.specs.declared.load_error.LoadError.{LoadError}
-use Rattle.pm_lower.specs.declared.load_error.LoadError.TheVariants as load
+use Rattle.pm_load.specs.Loading as loading
+use Rattle.pm_lower.specs.ReadProject.{read_project}
+use Rattle.pm_load.specs.declared.load_error.LoadError.{LoadError}
+use Rattle.pm_load.specs.declared.load_error.LoadError.TheVariants as load
 use Rattle.pm_lower.specs.declared.project_workspace.ProjectWorkspace.{ProjectWorkspace}
 use Rattle.pm_tools.specs.Manifest.{manifest_of}
-use Rattle.live_project.specs.Project.{NamesLoadLimit, cargo_manifest, manifest_named, of_load_error, read_named, read_sources}
+use Rattle.pm_tools.specs.declared.project_manifest.ProjectManifest.{ProjectManifest}
+use Rattle.live_project.specs.Project.{NamesLoadLimit, manifest_named, of_load_error, read_named, read_sources}
 use Rattle.live_project.specs.Sources.{means_of_sources}
 use Rattle.live_project.specs.declared.project_error.ProjectError.TheVariants.{BadManifest}
 use Rattle.live_project.specs.declared.sources.Sources.{Sources}
@@ -17,13 +18,11 @@ use Rattle.live_project.proofs.ReadLemmas.{limit_named}
 -- ---- the manifest
 
 -- an absolute text names what its path does
-pub absolute_named : (text path : List ℕ) → is_absolute text ≡ true → path ≡ path_text (components text)
-    → option_and_then cargo_manifest (manifest_of path) ≡ manifest_named text
+pub absolute_named : (text path : List ℕ) → is_absolute text ≡ true → path ≡ path_text (components text) → manifest_of path ≡ manifest_named text
 unfolding manifest_named
-absolute_named text path absolute is = ap (λ p. option_and_then cargo_manifest (manifest_of p)) is ∙ sym (by (is_absolute text) absolute)
+absolute_named text path absolute is = ap manifest_of is ∙ sym (by (is_absolute text) absolute)
   where
-    by : (b : Bool) → b ≡ true → option_and_then cargo_manifest (option_and_then manifest_of (cond b (Some (path_text (components text))) None))
-        ≡ option_and_then cargo_manifest (manifest_of (path_text (components text)))
+    by : (b : Bool) → b ≡ true → option_and_then manifest_of (cond b (Some (path_text (components text))) None) ≡ manifest_of (path_text (components text))
     by true e = refl
     by false e = absurd (true≢false (sym e))
 
@@ -32,7 +31,7 @@ pub relative_named : (text : List ℕ) → is_absolute text ≡ false → None �
 unfolding manifest_named
 relative_named text relative = sym (by (is_absolute text) relative)
   where
-    by : (b : Bool) → b ≡ false → option_and_then cargo_manifest (option_and_then manifest_of (cond b (Some (path_text (components text))) None)) ≡ None
+    by : (b : Bool) → b ≡ false → option_and_then manifest_of (cond b (Some (path_text (components text))) None) ≡ None
     by true e = absurd (true≢false e)
     by false e = refl
 
@@ -44,16 +43,17 @@ unfolding read_sources
 reads_none s none = ap (read_named s) (sym none)
 
 -- and where it names one
-pub reads_some : (s : Sources) (manifest : List ℕ) → Some manifest ≡ manifest_named s.path → read_named s (Some manifest) ≡ read_sources s
+pub reads_some : (s : Sources) (manifest : ProjectManifest) → Some manifest ≡ manifest_named s.path → read_named s (Some manifest) ≡ read_sources s
 unfolding read_sources
 reads_some s manifest some = ap (read_named s) some
 
-module _ (s : Sources) (manifest : List ℕ) where
+module _ (s : Sources) (manifest : ProjectManifest) where
   abbrev reading : loading.Loading ProjectWorkspace
   reading = read_project manifest s.config.cargo s.config.limits (means_of_sources s)
 
   -- the limit that a refused load names
   pub refuses_limit : (error : LoadError) → loading.Refuses error reading → NamesLoadLimit (of_load_error error)
+  refuses_limit (load.NoSuchFile path) h = tt
   refuses_limit (load.CargoMetadata stderr) h = tt
   refuses_limit (load.Io line) h = tt
   refuses_limit (load.Json field) h = tt

@@ -6,16 +6,15 @@ use Rattle.std.specs.Option.{option_and_then}
 use Rattle.base_text.specs.Paths.{components, is_absolute, path_text}
 use Rattle.outside.specs.declared.limits.Limit.{Limit}
 use Rattle.outside.specs.declared.limits.Limit.TheVariants.{Bytes, Paths, Packages, Targets, Crates}
-use Rattle.pm_lower.specs.Loading.{Loading}
-use Rattle.pm_lower.specs.Project.{read_project}
+use Rattle.pm_load.specs.Loading.{Loading}
+use Rattle.pm_lower.specs.ReadProject.{read_project}
 use Rattle.pm_lower.specs.ToRoots.{HasNoRustc}
 use Rattle.pm_lower.specs.contracts.project_workspace.ProjectWorkspace as read
-use Rattle.pm_lower.specs.declared.load_error.LoadError.{LoadError}
-use Rattle.pm_lower.specs.declared.load_error.LoadError.TheVariants as load
+use Rattle.pm_load.specs.declared.load_error.LoadError.{LoadError}
+use Rattle.pm_load.specs.declared.load_error.LoadError.TheVariants as load
 use Rattle.pm_lower.specs.declared.project_workspace.ProjectWorkspace.{ProjectWorkspace}
 use Rattle.pm_tools.specs.Manifest.{manifest_of}
 use Rattle.pm_tools.specs.declared.project_manifest.ProjectManifest.{ProjectManifest}
-use Rattle.pm_tools.specs.declared.project_manifest.ProjectManifest.TheVariants.{ProjectJson, CargoToml, CargoScript}
 use Rattle.live_project.specs.Roots.{roots_of_project}
 use Rattle.live_project.specs.Sources.{means_of_sources}
 use Rattle.live_project.specs.contracts.sources.Sources as kept
@@ -40,15 +39,9 @@ project_code =
 abbrev pub path_of_text : List ℕ → Option (List ℕ)
 path_of_text text = if is_absolute text then Some (path_text (components text)) else None
 
--- the path of the manifest of a project of cargo; no other manifests are loaded yet
-abbrev pub cargo_manifest : ProjectManifest → Option (List ℕ)
-cargo_manifest (ProjectJson path) = None
-cargo_manifest (CargoToml path) = Some path
-cargo_manifest (CargoScript path) = None
-
 -- the manifest that a text names
-unfoldable pub manifest_named : List ℕ → Option (List ℕ)
-manifest_named text = option_and_then cargo_manifest (option_and_then manifest_of (path_of_text text))
+unfoldable pub manifest_named : List ℕ → Option ProjectManifest
+manifest_named text = option_and_then manifest_of (path_of_text text)
 
 -- ---- reading
 
@@ -63,7 +56,7 @@ of_loading (Ok workspace) = Ok workspace
 of_loading (Err error) = Err (of_load_error error)
 
 -- what is read of a manifest, where the path names one
-abbrev pub read_named : Sources → Option (List ℕ) → Result ProjectWorkspace ProjectError
+abbrev pub read_named : Sources → Option ProjectManifest → Result ProjectWorkspace ProjectError
 read_named s None = Err (BadManifest s.path)
 read_named s (Some manifest) = of_loading (read_project manifest s.config.cargo s.config.limits (means_of_sources s))
 
@@ -84,13 +77,13 @@ abbrev pub Loads : Sources → Result ProjectWorkspace ProjectError → Result P
 Loads s reading (Ok project) = (project.sources ≡ s) × (reading ≡ Ok project.workspace)
 Loads s reading (Err error) = Refuses error reading
 
--- there is too much of a kind that documents are counted by: packages or targets
+-- there is too much of a kind that documents are counted by: packages, targets or crates
 abbrev pub IsDocumentLimit : Limit → Type 0
 IsDocumentLimit Bytes = ⊥
 IsDocumentLimit Paths = ⊥
 IsDocumentLimit Packages = Unit {0}
 IsDocumentLimit Targets = Unit {0}
-IsDocumentLimit Crates = ⊥
+IsDocumentLimit Crates = Unit {0}
 
 -- the limit that a refused load names, where it names one
 abbrev pub NamesDocumentLimit : LoadError → Type 0

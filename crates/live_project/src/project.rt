@@ -4,12 +4,14 @@ ghost use Rattle.std.specs.Prelude.{◌≡◌, ◌+◌, ◌<◌, ◌^◌, IfErr,
 ghost use Rattle.vfs_core.specs.Files.{existing_files};
 ghost use Rattle.live_input.specs.Config.{Fits};
 ghost use Rattle.pm_build.specs.Reading as build;
-ghost use Rattle.pm_lower.specs.Loading.{Gives};
-ghost use Rattle.pm_lower.specs.Project.{read_project};
+ghost use Rattle.pm_lower.specs.Builds.{TakesBuild};
+ghost use Rattle.pm_load.specs.Loading.{Gives};
+ghost use Rattle.pm_lower.specs.ProjectWorkspace.{has_cargo_workspace};
+ghost use Rattle.pm_lower.specs.ReadProject.{read_project};
 ghost use Rattle.pm_rows.specs.Lowering.{IsLowered, LacksCyclesAlone};
 ghost use Rattle.live_project.specs.Build.{built_project, with_build};
 ghost use Rattle.live_project.specs.Crates.{BeginIn, lowered, lowered_by, wanted, wanted_by};
-ghost use Rattle.live_project.specs.Project.{Loads, NamesLoadLimit, cargo_manifest, manifest_named, read_named, read_sources};
+ghost use Rattle.live_project.specs.Project.{Loads, NamesLoadLimit, manifest_named, read_named, read_sources};
 ghost use Rattle.live_project.specs.Roots.{roots_of_project};
 ghost use Rattle.live_project.specs.Sources.{means_of_sources};
 
@@ -24,7 +26,6 @@ use pm_build::{BuildError, WorkspaceBuildScripts};
 use pm_config::Quiet;
 use pm_loader::Loader;
 use pm_lower::{LoadError, ProjectWorkspace};
-use pm_packages::ManifestPath;
 use pm_rows::LowerError;
 use pm_tools::ProjectManifest;
 use std::alloc::{AllocError, Global};
@@ -51,18 +52,8 @@ impl Model for Project {
     ghost invariant = { λ p. IsLoaded (record { sources = p.sources; workspace = p.workspace }) };
 }
 
-// The path of the manifest of a project of cargo.
-fn cargo_manifest(manifest: ProjectManifest) -> Option<ManifestPath>
-    ensures { result ≡ cargo_manifest manifest }
-{
-    match manifest {
-        ProjectManifest::CargoToml(path) => Some(path),
-        ProjectManifest::ProjectJson(_) | ProjectManifest::CargoScript(_) => None,
-    }
-}
-
 // The manifest that a text names, if it does.
-fn manifest_named(alloc: Global, text: &str) -> Result<Option<ManifestPath>, AllocError>
+fn manifest_named(alloc: Global, text: &str) -> Result<Option<ProjectManifest>, AllocError>
     ensures { IfOk result (λ manifest. manifest ≡ manifest_named text.now) }
 {
     let path = match AbsPathBuf::new(alloc, text) {
@@ -71,7 +62,7 @@ fn manifest_named(alloc: Global, text: &str) -> Result<Option<ManifestPath>, All
         Err(PathError::OutOfMemory) => return Err(AllocError),
     };
     match ProjectManifest::from_manifest_file(path) {
-        Ok(manifest) => Ok(cargo_manifest(manifest)),
+        Ok(manifest) => Ok(Some(manifest)),
         Err(_) => Ok(None),
     }
 }
@@ -79,19 +70,18 @@ fn manifest_named(alloc: Global, text: &str) -> Result<Option<ManifestPath>, All
 // What is read of a manifest with what a load keeps.
 fn workspace_of(
     alloc: Global,
-    manifest: ManifestPath,
+    manifest: &ProjectManifest,
     sources: &Sources,
 ) -> Result<ProjectWorkspace, LoadError>
     requires { Fits sources.now.config }
-    ensures { Gives result (read_project manifest sources.now.config.cargo sources.now.config.limits
-        (means_of_sources sources.now)) }
+    ensures { Gives result (read_project manifest.now sources.now.config.cargo
+        sources.now.config.limits (means_of_sources sources.now)) }
 {
     let config = sources.config.get();
-    let manifest = ProjectManifest::CargoToml(manifest);
     let ask = sources.ask();
     ProjectWorkspace::load(
         alloc,
-        &manifest,
+        manifest,
         &config.cargo,
         &config.limits,
         &ask,
@@ -101,7 +91,7 @@ fn workspace_of(
 
 impl Project {
     /// Loads the project of the manifest that the path of the sources names, and keeps the sources. An error says which refusal
-    /// comes first, and names no other limit than those of packages and targets.
+    /// comes first, and names no other limit than those of packages, targets and crates.
     pub fn load(alloc: Global, sources: Sources) -> Result<Project, ProjectError>
         requires { Fits sources.config }
         ensures loads { Loads sources (read_sources sources) result }
@@ -110,26 +100,33 @@ impl Project {
         let named = manifest_named(alloc, sources.path.as_str())?;
         match named {
             None => Err(ProjectError::BadManifest(sources.path)),
-            Some(manifest) => Project::of_manifest(alloc, manifest, sources),
+            Some(manifest) => Project::of_manifest(alloc, &manifest, sources),
         }
     }
 
     // Loads the project of a manifest.
     fn of_manifest(
         alloc: Global,
-        manifest: ManifestPath,
+        manifest: &ProjectManifest,
         sources: Sources,
     ) -> Result<Project, ProjectError>
         requires { Fits sources.config }
-        ensures loads { Loads sources (read_named sources (Some manifest)) result }
+        ensures loads { Loads sources (read_named sources (Some manifest.now)) result }
         ensures limits { IfErr result NamesLoadLimit }
     {
         let workspace = workspace_of(alloc, manifest, &sources)?;
         Ok(Project { sources, workspace })
     }
 
+    /// Whether a build of the project can be set: it has a Cargo workspace.
+    pub fn has_cargo_workspace(&self) -> bool
+        ensures { result ≡ has_cargo_workspace self.now.workspace.kind }
+    {
+        self.workspace.has_cargo_workspace()
+    }
+
     /// The project with what a build of it gives by what its command wrote, in place of what an earlier build gave. A project whose
-    /// light metadata stands in for the full one keeps the defaults, whatever was written.
+    /// light metadata stands in for the full one keeps the defaults, whatever was written, and one without a Cargo workspace has none.
     pub fn build(&self, alloc: Global, output: &Output) -> Result<Project, BuildError>
         ensures { build.Gives result (built_project self.now output.now) }
     {
@@ -144,6 +141,7 @@ impl Project {
         alloc: Global,
         scripts: WorkspaceBuildScripts,
     ) -> Result<Project, AllocError>
+        requires { TakesBuild self.now.workspace.kind scripts }
         ensures { IfOk result (λ project. project ≡ with_build self.now scripts) }
     {
         let sources = self.sources.try_clone(alloc)?;

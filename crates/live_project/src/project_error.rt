@@ -9,7 +9,7 @@ use std::fmt;
 /// Why a session loads no project.
 #[derive(Debug, PartialEq, Eq, Drop)]
 pub enum ProjectError {
-    /// The path is not absolute, or its name is that of no manifest of cargo: the path as it was given.
+    /// The path is not absolute, or its name is that of no manifest: the path as it was given.
     BadManifest(Text),
     /// The project of the manifest is refused. The error is never `OutOfMemory`.
     Refused(LoadError),

@@ -1,6 +1,6 @@
 //! Giving the project what a build of it wrote.
 
-ghost use Rattle.std.specs.Prelude.{◌≡◌, ◌⊎◌, IfErr, IfOk, OnErr, OnOk, Err, Ok};
+ghost use Rattle.std.specs.Prelude.{◌≡◌, ◌⊎◌, IfErr, IfOk, OnErr, OnOk, Err, Ok, Some};
 ghost use Rattle.live.specs.Marked.{BuildsProject, FailsBuild};
 ghost use Rattle.live.specs.Session.{project_after_build};
 ghost use Rattle.live.specs.declared.fault.LiveError.TheVariants.{OutOfMemory};
@@ -24,12 +24,23 @@ fn built_project(
 {
     match project {
         None => Err(LiveError::NoCargoProject),
-        Some(project) => {
-            let built = project.get().build(alloc, output)?;
-            let built = Rc::new(alloc, built)?;
-            Ok(Shared::new(built))
-        }
+        Some(project) => build_of(alloc, project.get(), output),
     }
+}
+
+// A project after a build of it, where it has a Cargo workspace.
+fn build_of(alloc: Global, project: &Project, output: &Output) -> Result<Shared<Project>, LiveError>
+    ensures ok { IfOk result (λ built.
+        project_after_build (Some project.now) output.now ≡ Ok built) }
+    ensures refused { IfErr result (λ e. (e ≡ OutOfMemory)
+        ⊎ (project_after_build (Some project.now) output.now ≡ Err e)) }
+{
+    if !project.has_cargo_workspace() {
+        return Err(LiveError::NoCargoProject);
+    }
+    let built = project.build(alloc, output)?;
+    let built = Rc::new(alloc, built)?;
+    Ok(Shared::new(built))
 }
 
 impl Live {

@@ -1,8 +1,4 @@
-use Rattle.std.proofs.Common.{◌≡◌, refl, sym, arith, inr}
-use Rattle.live.specs.declared.fault.LiveError.TheVariants.{OutOfMemory}
-use Rattle.live.specs.Cli.{StatusOf}
 use Rattle.live.specs.Turn.{first_state}
-use Rattle.live.proofs.Outcomes.{AppendsFront-nil}
 use Rattle.live.proofs.Tops.{fails_new, memory_completes, memory_top}
 use Rattle.live.proofs.top.live_top.Goals as goal
 

@@ -1,7 +1,5 @@
 use Rattle.std.proofs.Common.{Err, ap, sym, ◌∙◌}
-use Rattle.std.specs.Option.{option_and_then}
 use Rattle.pm_reading.proofs.PathLemmas.{absolute_if, relative_if}
-use Rattle.live_project.specs.Project.{cargo_manifest}
 use Rattle.live_project.proofs.LoadLemmas.{absolute_named, relative_named}
 use Rattle.live_project.proofs.project.manifest_named.Goals as goal
 
@@ -9,13 +7,13 @@ use Rattle.live_project.proofs.project.manifest_named.Goals as goal
 pub returns-in-Ok-from_manifest_file : goal.returns-in-Ok-from_manifest_file
 returns-in-Ok-from_manifest_file c =
     let absolute = absolute_if c.args.text.now (λ other. let h = c.in-Ok.ensures.not_absolute.1 other in cc) in
-    c.cargo_manifest.ensures ∙ sym (ap (option_and_then cargo_manifest) c.in-Ok-from_manifest_file.ensures.ok)
+    sym c.in-Ok-from_manifest_file.ensures.ok
     ∙ absolute_named c.args.text.now c.in-Ok.path absolute c.in-Ok.ensures.ok
 
 pub returns : goal.returns
 returns c =
     let absolute = absolute_if c.args.text.now (λ other. let h = c.in-Ok.ensures.not_absolute.1 other in cc) in
-    sym (ap (option_and_then cargo_manifest) c.in-Err.ensures.bad) ∙ absolute_named c.args.text.now c.in-Ok.path absolute c.in-Ok.ensures.ok
+    sym c.in-Err.ensures.bad ∙ absolute_named c.args.text.now c.in-Ok.path absolute c.in-Ok.ensures.ok
 
 -- a text that begins with no slash names none
 pub returns-in-Err-NotAbsolute : goal.returns-in-Err-NotAbsolute
