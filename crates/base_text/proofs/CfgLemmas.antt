@@ -12,16 +12,7 @@ use Rattle.base_text.specs.declared.cfg.CfgAtom.TheVariants.{Flag, KeyValue}
 use Rattle.base_text.specs.declared.cfg.CfgError.{CfgError}
 use Rattle.base_text.specs.declared.cfg.CfgError.TheVariants.{BadCfg, OutOfMemory}
 use Rattle.base_text.specs.Cfg.{is_equals, unquoted, atom_of, text_of}
-
--- some byte passes where the first place that passes is within the text
-list_any-position : {X : Type 0} (p : X → Bool) (xs : List X) → list_any p xs ≡ ltb (position_or_len p xs) (length xs)
-list_any-position p [] = refl
-list_any-position p (x ∷ xs) =
-    let rest = list_any-position p xs in
-    elim (p x) as (λ b. (b || list_any p xs) ≡ ltb (cond (not b) (1 + position_or_len p xs) 0) (suc (length xs))) [
-      | true ↦ grind (arith, nat_tests)
-      | false ↦ grind (arith, nat_tests)
-    ]
+use Rattle.base_values.proofs.Basics.{list_any-position}
 
 unquoted-between : (value : List ℕ) → unquoted (34 ∷ (value ++ 34 ∷ [])) ≡ Some value
 unfolding unquoted

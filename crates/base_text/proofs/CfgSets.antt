@@ -19,17 +19,13 @@ use Rattle.std.specs.List.Sorted.{IsSorted, IsPermutation, IsStrictlySortedBy, I
 use Rattle.std.proofs.lemmas.List.Kept.{IsStrictlySortedBy-dedup}
 use Rattle.std.proofs.lemmas.List.Sorted.{list_any-IsPermutation}
 use Rattle.base_text.specs.contracts.cfg.CfgAtomOrd.TheImpl.Laws as atom_laws
+use Rattle.base_values.proofs.Basics.{both_equal, or_second}
 
 pub atom_cmp-total : IsTotalOrder atom_cmp
 atom_cmp-total = atom_laws.total-law
 
 texts_tie : IsAntisymmetric (slice_cmp nat_cmp)
 texts_tie = slice_cmp-IsAntisymmetric nat_cmp-IsAntisymmetric
-
-both_equal : (a b : Ordering) → ordering_then a b ≡ Equal → (a ≡ Equal) × (b ≡ Equal)
-both_equal Less b e = cc
-both_equal Equal b e = (refl, e)
-both_equal Greater b e = cc
 
 -- atoms that tie are the same
 pub atom_cmp-IsAntisymmetric : IsAntisymmetric atom_cmp
@@ -86,10 +82,6 @@ one_of : (a b : Bool) → (a || b) ≡ true → (a ≡ true) ⊎ (b ≡ true)
 one_of true b e = inl refl
 one_of false b e = inr e
 
-second_of : (a b : Bool) → b ≡ true → (a || b) ≡ true
-second_of true b e = refl
-second_of false b e = e
-
 -- what is among atoms once one more was put in
 pub contains-with_atom : (atoms : List CfgAtom) (atom x : CfgAtom) → Contains (with_atom atoms atom) x ↔ ((x ≡ atom) ⊎ Contains atoms x)
 contains-with_atom atoms atom x =
@@ -100,6 +92,6 @@ contains-with_atom atoms atom x =
           (one_of (eq_by_cmp atom_cmp x atom) _ (sym put ∙ list_any-from_Contains (eq_by_cmp_equiv atom_cmp-total) x (with_atom atoms atom) there)),
       λ either. contains_found x (with_atom atoms atom) (put ∙ ⊎_elim
           (λ same. ap (λ b. b || list_any (eq_by_cmp atom_cmp x) atoms) (ap (λ y. eq_by_cmp atom_cmp x y) (sym same) ∙ (eq_by_cmp_equiv atom_cmp-total).refl x))
-          (λ among. second_of _ _ (list_any-from_Contains (eq_by_cmp_equiv atom_cmp-total) x atoms among))
+          (λ among. or_second _ _ (list_any-from_Contains (eq_by_cmp_equiv atom_cmp-total) x atoms among))
           either),
     )

@@ -1,3 +1,4 @@
+pub mod Absolute
 pub mod CfgLemmas
 pub mod CfgSets
 pub mod Comparing

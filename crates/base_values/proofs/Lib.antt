@@ -1,3 +1,4 @@
+pub mod Basics
 pub mod Equalities
 pub mod InOrder
 pub mod MapEntries

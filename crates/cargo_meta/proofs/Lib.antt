@@ -1,6 +1,5 @@
 pub mod Folders
 pub mod RootManifest
 pub mod Joins
-pub mod Steps
 pub mod Try
 pub mod GivesBack

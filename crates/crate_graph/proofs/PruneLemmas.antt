@@ -85,13 +85,6 @@ marks_more keep marks i x count within is below long marked n short =
           get_or-set_other marks x n true false other ∙ marked n short ∙ sym (more ∙ or_false (is_named (take i keep) n) (get_or keep i 0 == n) apart)
     ]
 
--- no more numbers are kept than there are
-pub kept_within : (keep : List ℕ) (n : ℕ) → kept_below keep n ≤ n
-kept_within keep zero = omega arith
-kept_within keep (suc n) =
-    let before = kept_within keep n in
-    elim (is_named keep n) as (λ b. cond b (kept_below keep n + 1) (kept_below keep n) ≤ suc n) [ true ↦ omega (arith, before) | false ↦ omega (arith, before) ]
-
 -- one more new number
 module _ (keep : List ℕ) (ids : List (Option (Idx CrateTag))) (k : ℕ) (ids_are : map (option_map number_of) ids ≡ map (new_number keep) (range_with_len 0 k)) where
   ids_more : (o : Option (Idx CrateTag)) → option_map number_of o ≡ new_number keep k → map (option_map number_of) (ids ++ o ∷ []) ≡ map (new_number keep) (range_with_len 0 (k + 1))
@@ -104,12 +97,6 @@ module _ (keep : List ℕ) (ids : List (Option (Idx CrateTag))) (k : ℕ) (ids_a
 
   pub ids_more-other : is_named keep k ≡ false → map (option_map number_of) (ids ++ None ∷ []) ≡ map (new_number keep) (range_with_len 0 (k + 1))
   ids_more-other other = ids_more None (sym (ap (λ b. cond b (Some (kept_below keep k)) None) other))
-
-pub below_named : (keep : List ℕ) (k : ℕ) → is_named keep k ≡ true → kept_below keep (k + 1) ≡ kept_below keep k + 1
-below_named keep k is = ap (kept_below keep) (add-one k) ∙ ap (λ b. cond b (kept_below keep k + 1) (kept_below keep k)) is
-
-pub below_other : (keep : List ℕ) (k : ℕ) → is_named keep k ≡ false → kept_below keep (k + 1) ≡ kept_below keep k
-below_other keep k is = ap (kept_below keep) (add-one k) ∙ ap (λ b. cond b (kept_below keep k + 1) (kept_below keep k)) is
 
 -- a list is closed where each of its crates stays
 pub closed_from : (g : List (List ℕ)) (keep : List ℕ) → ((k : ℕ) → k < length keep → Stays g keep (get_or keep k 0)) → IsClosed g keep

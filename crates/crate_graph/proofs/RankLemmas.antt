@@ -9,28 +9,12 @@ use Rattle.std.proofs.lemmas.List.Elements.{Contains-push_cases}
 use Rattle.graph_base.specs.Edges.{HasEdge, IsInRange, row, with_edge, with_node}
 use Rattle.graph_base.proofs.KeptLemmas.{edge_within}
 use Rattle.graph_base.proofs.MarkLemmas.{pushed_old}
-use Rattle.graph_base.proofs.ReachLemmas.{in_range_with_edge, in_range_with_node, none_in}
+use Rattle.graph_base.proofs.ReachLemmas.{edge_cases, in_range_with_edge, in_range_with_node, node_edges, none_in}
 use Rattle.graph_order.specs.Insertion.{MakesRoom}
 use Rattle.graph_order.specs.Order.{IsOrder, IsOrderOf, Ranking, empty_order, with_next_node, with_next_nodes}
 use Rattle.graph_order.proofs.OrderLemmas.{length-with_next_nodes, next_more, order-with_next_node}
 
 -- ---- one more crate
-
--- the new node has no edges
-node_edge : (g : List (List ℕ)) (x y : ℕ) → HasEdge (with_node g) x y → HasEdge g x y
-node_edge g x y e = elim (cases_lt x (length g)) [
-  | inl old ↦ subst (λ z. Contains z y) (get_or_append_left g ([] ∷ []) [] x old) e
-  | inr new ↦
-      let within = edge_within (with_node g) x y e in
-      let at : x ≡ length g = omega (arith, new, within, length_push g []) in
-      absurd (none_in y (subst (λ z. Contains z y) (last_row g x at) e))
-]
-  where
-    last_row : (g : List (List ℕ)) (n : ℕ) → n ≡ length g → row (with_node g) n ≡ []
-    last_row [] zero at = refl
-    last_row [] (suc n) at = absurd (omega (arith, at))
-    last_row (r ∷ rs) zero at = absurd (omega (arith, at))
-    last_row (r ∷ rs) (suc n) at = last_row rs n (omega (arith, at))
 
 pub ranked-with_node : (order : Ranking) (g : List (List ℕ)) → IsOrderOf order g → length g + 1 < 2 ^ 32 → IsOrderOf (with_next_node order) (with_node g)
 ranked-with_node order g is short = record {
@@ -38,26 +22,13 @@ ranked-with_node order g is short = record {
   count = omega (arith, length_push order.nodes (length order.nodes), length_push g [], is.count);
   in_range = in_range_with_node g is.in_range;
   descends = λ a b e.
-      let old = node_edge g a b e in
+      let old = node_edges g a b e in
       let a_in : a < length order.ranks = omega (arith, edge_within g a b old, is.count, is.ranks_each_once.long) in
       let b_in : b < length order.ranks = omega (arith, is.in_range a b old, is.count, is.ranks_each_once.long) in
       omega (arith, is.descends a b old, pushed_old order.ranks (length order.nodes) a a_in, pushed_old order.ranks (length order.nodes) b b_in);
 }
 
 -- ---- one more dependency
-
--- an edge of the graph with one more is an old one or the new one
-edge_cases : (g : List (List ℕ)) (a b x y : ℕ) → a < length g → HasEdge (with_edge g a b) x y → HasEdge g x y ⊎ ((x ≡ a) × (y ≡ b))
-edge_cases g a b x y within e = elim (cases_eq x a) [
-  | inl same ↦
-      let at_a : HasEdge (with_edge g a b) a y = subst (λ z. HasEdge (with_edge g a b) z y) same e in
-      let there : Contains (row g a ++ b ∷ []) y = subst (λ z. Contains z y) (get_or-set_same g a (row g a ++ b ∷ []) [] within) at_a in
-      elim (Contains-push_cases (row g a) b y there) [
-        | inl old ↦ inl (subst (λ z. HasEdge g z y) (sym same) old)
-        | inr new ↦ inr (same, sym new)
-      ]
-  | inr other ↦ inl (subst (λ z. Contains z y) (get_or-set_other g a x (row g a ++ b ∷ []) [] other) e)
-]
 
 pub ranked-with_edge : (old new : Ranking) (g : List (List ℕ)) (from to : ℕ) → IsOrderOf old g → from < length g → to < length g → IsOrder new → MakesRoom g from to old new → IsOrderOf new (with_edge g from to)
 ranked-with_edge old new g from to is from_in to_in made room = record {

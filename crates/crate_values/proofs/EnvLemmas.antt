@@ -17,7 +17,3 @@ takes_front old new all done left whole is = record {
   within = omega (arith, length-append done left, ap length whole);
   is = is ∙ ap (with_pairs old) (sym (take-append_seam done left) ∙ ap (take (length done)) (sym whole));
 }
-
-pub on_err : {T E : Type 0} (r : Result T E) (P : Type 0) → P → OnErr r P
-on_err (Ok x) P p = tt
-on_err (Err e) P p = p

@@ -19,6 +19,7 @@ use Rattle.std.specs.Cmp.Lexicographic.{pointwise, pointwise_decides, bytes_deci
 use Rattle.std.proofs.lemmas.Bool.{false≢true}
 use Rattle.base_text.specs.Paths.{IsClean, components, path_text}
 use Rattle.base_text.specs.PathOrder.{path_eq}
+use Rattle.base_values.proofs.Basics.{and_both, and_first, and_second}
 
 -- lists whose items are renamed are equal just as before
 pub pointwise-renamed : {A B : Type 0} (old : A → A → Bool) (new : B → B → Bool) (f : A → B) → ((x y : A) → new (f x) (f y) ≡ old x y) → (xs ys : List A) → pointwise new (map f xs) (map f ys) ≡ pointwise old xs ys
@@ -34,17 +35,6 @@ path_eq-clean x y clean_x clean_y e =
 
 pub path_eq-same : (x y : List ℕ) → x ≡ y → path_eq x y ≡ true
 path_eq-same x y e = (pointwise_decides bytes_decides (components x) (components y)).1 (ap components e)
-
-pub and_first : (a b : Bool) → (a && b) ≡ true → a ≡ true
-and_first true b e = refl
-and_first false b e = e
-
-pub and_second : (a b : Bool) → (a && b) ≡ true → b ≡ true
-and_second true b e = e
-and_second false b e = absurd (false≢true e)
-
-pub and_both : (a b : Bool) → a ≡ true → b ≡ true → (a && b) ≡ true
-and_both a b p q = λ i. p i && q i
 
 -- pairs of texts are equal where both of their texts are
 pub pair_decides : (p q : List ℕ × List ℕ) → ((bytes_eq p.0 q.0 && bytes_eq p.1 q.1) ≡ true) ↔ (p ≡ q)

@@ -12,8 +12,8 @@ use Rattle.graph_order.specs.Placing.{no_placement, placement_of}
 use Rattle.graph_order.specs.Search.{Found, IsLabelling, IsSearched, IsVisited, RisesWith, node_of, visit_at}
 use Rattle.graph_order.proofs.FoundLemmas.{apart_from, labelling_of, reached_part}
 use Rattle.graph_order.proofs.LabelLemmas.{label_falls, length-nodes, rank_falls, ranking_is_order}
-use Rattle.graph_order.proofs.ResultLemmas.{none_is}
 use Rattle.graph_order.proofs.RoomLemmas.{apart_already, gives_none, gives_placement}
+use Rattle.base_values.proofs.Basics.{none_is}
 
 -- all of it, of the order of some labels
 module _ (g : List (List ℕ)) (labels : List ℕ) (index : Index) (from to : ℕ) (is : IsLabelled labels index) (count : length (ranking labels index).nodes ≡ length g) (in_range : IsInRange g)

@@ -9,19 +9,12 @@ use Rattle.std.proofs.lemmas.List.Folds.{list_any_at, list_any_more}
 use Rattle.std.proofs.lemmas.List.FromFn.{get_or-map-range_with_len, length-map-range_with_len, map-range_with_len_more}
 use Rattle.std.proofs.lemmas.List.Kept.{AllPairs-filter}
 use Rattle.graph_base.specs.Kept.{is_named, kept_below}
-use Rattle.graph_base.proofs.KeptLemmas.{below_less, below_tells, in_range_kept, length-kept_rows, old_edge}
+use Rattle.graph_base.proofs.KeptLemmas.{below_less, below_named, below_other, below_tells, in_range_kept, length-kept_rows, old_edge}
 use Rattle.graph_order.specs.Order.{IsOrder, Ranking}
 use Rattle.graph_order.specs.Suborder.{FitsKept, HasEachOnce, KeepsRanks, kept_nodes, new_number}
 use Rattle.graph_order.proofs.EachOnceLemmas.{as_many}
 
 -- ---- the new numbers
-
--- one more number, named or not
-below_named : (keep : List ℕ) (n : ℕ) → is_named keep n ≡ true → kept_below keep (suc n) ≡ kept_below keep n + 1
-below_named keep n is = ap (λ b. cond b (kept_below keep n + 1) (kept_below keep n)) is
-
-below_other : (keep : List ℕ) (n : ℕ) → is_named keep n ≡ false → kept_below keep (suc n) ≡ kept_below keep n
-below_other keep n is = ap (λ b. cond b (kept_below keep n + 1) (kept_below keep n)) is
 
 -- the same of the number behind it, as a loop has it
 pub more_named : (keep : List ℕ) (n : ℕ) → is_named keep n ≡ true → kept_below keep (n + 1) ≡ kept_below keep n + 1

@@ -2,18 +2,11 @@
 use Rattle.std.proofs.Common.{◌≡◌, ℕ, Bool, true, false, ◌&&◌, ◌||◌, List, [], ◌∷◌, nat_eq, eqb-true, refl, sym, subst}
 use Rattle.std.specs.List.{list_all, list_any}
 use Rattle.live.specs.Fault.{IsOneOf}
+use Rattle.base_values.proofs.Basics.{and_first, and_second}
 
 -- each of some statuses is among others
 abbrev pub AreAmong : List ℕ → List ℕ → Type 0
 AreAmong statuses more = list_all (λ status. list_any (nat_eq status) more) statuses ≡ true
-
-and-left : (a b : Bool) → (a && b) ≡ true → a ≡ true
-and-left true b h = refl
-and-left false b h = h
-
-and-right : (a b : Bool) → (a && b) ≡ true → b ≡ true
-and-right true b h = h
-and-right false b h = absurd (cc)
 
 -- the same by whether it is the first
 among-split : (first : ℕ) (rest more : List ℕ) (status : ℕ) (is_first : Bool) → nat_eq status first ≡ is_first → list_any (nat_eq first) more ≡ true
@@ -25,5 +18,5 @@ pub among : (statuses more : List ℕ) → AreAmong statuses more → (status : 
 among [] more all status only = absurd (cc)
 among (first ∷ rest) more all status only =
     let Each : ℕ → Bool = λ s. list_any (nat_eq s) more in
-    among-split first rest more status (nat_eq status first) refl (and-left (Each first) (list_all Each rest) all) only
-    (λ later. among rest more (and-right (Each first) (list_all Each rest) all) status later)
+    among-split first rest more status (nat_eq status first) refl (and_first (Each first) (list_all Each rest) all) only
+    (λ later. among rest more (and_second (Each first) (list_all Each rest) all) status later)

@@ -7,6 +7,7 @@ use Rattle.std.specs.List.{after_first, before_first, list_any, position_or_len,
 use Rattle.base_text.specs.Cfg.{is_equals}
 use Rattle.base_text.specs.Paths.{components, is_absolute, path_text}
 use Rattle.live_input.specs.Values.{absolute_path, feature_names, is_comma, is_empty_text, variable_of}
+use Rattle.base_values.proofs.Basics.{list_any-position}
 
 -- the names are those between commas
 pub feature_names-are : (text : List ℕ) (names : List (List ℕ)) → names ≡ slice_split is_comma text → list_any is_empty_text names ≡ false
@@ -35,16 +36,6 @@ absolute_path-is text path absolute is =
 pub absolute_path-none : (text : List ℕ) → (get_or text 0 0 ≡ 47 → ⊥) → absolute_path text ≡ None
 unfolding absolute_path
 absolute_path-none text other = cond-false _ _ _ (ne_eqb (get_or text 0 0) 47 other)
-
--- some byte passes where the first place that passes is within the text
-list_any-position : {X : Type 0} (p : X → Bool) (xs : List X) → list_any p xs ≡ ltb (position_or_len p xs) (length xs)
-list_any-position p [] = refl
-list_any-position p (x ∷ xs) =
-    let rest = list_any-position p xs in
-    elim (p x) as (λ b. (b || list_any p xs) ≡ ltb (cond (not b) (1 + position_or_len p xs) 0) (suc (length xs))) [
-      | true ↦ grind (arith, nat_tests)
-      | false ↦ grind (arith, nat_tests)
-    ]
 
 -- a text without `=` is no variable
 pub variable_of-uncut : (text : List ℕ) → position_or_len is_equals text ≡ length text → variable_of text ≡ None

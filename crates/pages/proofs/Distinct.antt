@@ -17,6 +17,7 @@ use Rattle.base_values.specs.ByText.{text_cmp}
 use Rattle.base_values.specs.Sorted.{sorted}
 use Rattle.pages.specs.Entries.{dependency_cmp, distinct_entries, entry_cmp}
 use Rattle.pages.specs.declared.crate_entry.CrateEntry.{CrateEntry}
+use Rattle.base_values.proofs.Basics.{both_equal}
 
 module _ {K : Type 0} {R : K → K → Ordering} (o : IsTotalOrder R) (same : IsAntisymmetric R) where
   -- what a search finds in one list it finds in another that holds the same items
@@ -58,11 +59,6 @@ entry_total = then_total (on_total (λ entry. entry.root) nat_list_cmp_total) (o
 
 texts_same : IsAntisymmetric text_cmp
 texts_same = slice_cmp-IsAntisymmetric nat_cmp-IsAntisymmetric
-
-both_equal : (a b : Ordering) → ordering_then a b ≡ Equal → (a ≡ Equal) × (b ≡ Equal)
-both_equal Less b e = cc
-both_equal Equal b e = (refl, e)
-both_equal Greater b e = cc
 
 -- dependencies that tie are the same
 dependencies_same : IsAntisymmetric dependency_cmp

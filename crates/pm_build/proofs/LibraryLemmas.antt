@@ -47,12 +47,6 @@ extension-last text name is other = ap (option_and_then extension_of) (file_name
 
 -- ---- absolute paths
 
-pub absolute_if : (text : List ℕ) → ((get_or text 0 0 ≡ 47 → ⊥) → ⊥) → is_absolute text ≡ true
-absolute_if text h = elim (cases_eq (get_or text 0 0) 47) [ inl is ↦ eq-eqb (get_or text 0 0) 47 is | inr other ↦ absurd (h other) ]
-
-pub relative_if : (text : List ℕ) → (get_or text 0 0 ≡ 47 → ⊥) → is_absolute text ≡ false
-relative_if text other = ne_eqb (get_or text 0 0) 47 other
-
 -- an absolute text gives its clean path
 pub absolute_is : (text path : List ℕ) → is_absolute text ≡ true → path ≡ path_text (components text) → absolute_path text ≡ Ok path
 unfolding absolute_path

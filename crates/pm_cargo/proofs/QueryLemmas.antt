@@ -128,11 +128,6 @@ module _ {X : Type 0} (p : X → Bool) where
         ∙ find-past (flat_map f (take i ys)) (f y ++ []) before
         ∙ find-past (f y) [] none
 
--- the test of an answer
-pub none_of : {X : Type 0} (o : Option X) → is_some o ≡ false → o ≡ None
-none_of (Some x) is = absurd (true≢false is)
-none_of None is = refl
-
 -- ---- manifests
 
 pub manifests-found : (is_known : Bool) (root : List ℕ) (found : List (List ℕ)) → (found ≡ [] → ⊥) → Some found ≡ manifests_or_root is_known root found

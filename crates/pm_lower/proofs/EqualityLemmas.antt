@@ -24,23 +24,21 @@ use Rattle.pm_lower.specs.declared.project_workspace.ProjectWorkspace.{ProjectWo
 use Rattle.pm_lower.specs.declared.project_workspace.ProjectWorkspaceKind.{ProjectWorkspaceKind}
 use Rattle.pm_lower.specs.declared.project_workspace.ProjectWorkspaceKind.TheVariants.{Cargo, Json, DetachedFile}
 use Rattle.pm_sysroot.specs.contracts.sysroot.SysrootEq.TheImpl.Laws as toolchains
-
-both : (a b : Bool) → a ≡ true → b ≡ true → (a && b) ≡ true
-both a b p q = λ i. p i && q i
+use Rattle.base_values.proofs.Basics.{and_both}
 
 text_itself : (text : Option (List ℕ)) → option_eq bytes_eq text text ≡ true
 text_itself None = refl
 text_itself (Some text) = (bytes_decides text text).1 refl
 
 rustc_itself : (part : RustcPart) → equal_rustc part part ≡ true
-rustc_itself (Ok rustc) = both _ _ (workspaces.laws-law.refl rustc.0) (scripts.laws-law.refl rustc.1)
+rustc_itself (Ok rustc) = and_both _ _ (workspaces.laws-law.refl rustc.0) (scripts.laws-law.refl rustc.1)
 rustc_itself (Err reason) = text_itself reason
 
 kind_itself : (kind : ProjectWorkspaceKind) (given : BuildScripts) → equal_kinds kind (kind_with_build_scripts kind given) ≡ is_equal_to_itself kind
-kind_itself (Cargo cargo error before rustc) given = both _ _ (workspaces.laws-law.refl cargo) (rustc_itself rustc)
+kind_itself (Cargo cargo error before rustc) given = and_both _ _ (workspaces.laws-law.refl cargo) (rustc_itself rustc)
 kind_itself (Json project) given = documents.laws-law.refl project
 kind_itself (DetachedFile file None) given = refl
-kind_itself (DetachedFile file (Some script)) given = both _ _ (path_eq_equiv.refl file) (workspaces.laws-law.refl script.0)
+kind_itself (DetachedFile file (Some script)) given = and_both _ _ (path_eq_equiv.refl file) (workspaces.laws-law.refl script.0)
 
 version_itself : (v : Option Parts) → option_eq version.ghosts.eq v v ≡ true
 version_itself None = refl
@@ -51,14 +49,14 @@ target_itself (Ok machine) = machines.laws-law.refl machine
 target_itself (Err error) = errors.laws-law.refl error
 
 with_rest : (a b is : Bool) → a ≡ is → b ≡ true → (a && b) ≡ is
-with_rest a b true p q = both a b p q
+with_rest a b true p q = and_both a b p q
 with_rest a b false p q = λ i. p i && q i
 
 -- a project is equal to itself with what a build gave, where its kind is
 pub project_itself : (p : ProjectWorkspace) (given : BuildScripts) → equal_except_builds p (with_build_scripts p given) ≡ is_equal_to_itself p.kind
 project_itself p given =
     with_rest _ _ (is_equal_to_itself p.kind) (kind_itself p.kind given)
-    (both _ _ (toolchains.laws-law.refl p.sysroot)
-    (both _ _ ((lists_equiv atoms.laws-law).refl p.rustc_cfg)
-    (both _ _ (version_itself p.toolchain)
-    (both _ _ (target_itself p.target) (overrides.laws-law.refl p.cfg_overrides)))))
+    (and_both _ _ (toolchains.laws-law.refl p.sysroot)
+    (and_both _ _ ((lists_equiv atoms.laws-law).refl p.rustc_cfg)
+    (and_both _ _ (version_itself p.toolchain)
+    (and_both _ _ (target_itself p.target) (overrides.laws-law.refl p.cfg_overrides)))))

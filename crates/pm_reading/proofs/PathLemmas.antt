@@ -10,12 +10,6 @@ use Rattle.pm_reading.specs.declared.workspace_error.WorkspaceError.{WorkspaceEr
 use Rattle.pm_reading.specs.declared.workspace_error.WorkspaceError.TheVariants.{NotAbsolute, NoParent}
 use Rattle.pm_reading.proofs.ReadingLemmas.{refuses_bind}
 
-pub absolute_if : (text : List ℕ) → ((get_or text 0 0 ≡ 47 → ⊥) → ⊥) → is_absolute text ≡ true
-absolute_if text h = elim (cases_eq (get_or text 0 0) 47) [ inl is ↦ eq-eqb (get_or text 0 0) 47 is | inr other ↦ absurd (h other) ]
-
-pub relative_if : (text : List ℕ) → (get_or text 0 0 ≡ 47 → ⊥) → is_absolute text ≡ false
-relative_if text other = ne_eqb (get_or text 0 0) 47 other
-
 -- an absolute text is read as its clean path
 pub absolute_is : (text path : List ℕ) → is_absolute text ≡ true → path ≡ path_text (components text) → absolute_path text ≡ Ok path
 unfolding absolute_path

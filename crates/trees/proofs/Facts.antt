@@ -8,10 +8,7 @@ use Rattle.base_values.specs.ByText.{text_cmp}
 use Rattle.base_text.specs.Paths.{components, is_prefix, normal}
 use Rattle.trees.specs.Tree.{Files, entry_name, entry_names, file_text, holds_path, is_above, names_in}
 use Rattle.trees.proofs.Fronts.{is_prefix-behind}
-
-or_true : (a b : Bool) → b ≡ true → (a || b) ≡ true
-or_true true b e = refl
-or_true false b e = e
+use Rattle.base_values.proofs.Basics.{or_second}
 
 -- a file that is read is held
 pub holds_path-file_text : (files : Files) (path text : List ℕ) → file_text files path ≡ Some text → holds_path files path ≡ true
@@ -27,7 +24,7 @@ holds_path-file_text (file ∷ files) path text e = by (pointwise bytes_eq (norm
     by true same found rest =
         let parts : normal path ≡ components file.0 = (pointwise_decides bytes_decides (normal path) (components file.0)).0 same in
         ap (λ b. b || others) (ap (is_prefix (normal path)) (sym parts ∙ sym (append-nil (normal path))) ∙ is_prefix-behind (normal path) [])
-    by false other found rest = or_true _ others (rest found)
+    by false other found rest = or_second _ others (rest found)
 
 -- a directory that is above a file is held
 is_prefix-above : (directory file : List (List ℕ)) → is_above directory file ≡ true → is_prefix directory file ≡ true
@@ -48,7 +45,7 @@ held_above (file ∷ files) directory e = by (is_above directory (components fil
     by : (b : Bool) → is_above directory (components file.0) ≡ b → (b || list_any (λ file. is_above directory (components file.0)) files) ≡ true
         → (list_any (λ file. is_above directory (components file.0)) files ≡ true → others ≡ true) → (is_prefix directory (components file.0) || others) ≡ true
     by true above found rest = ap (λ b. b || others) (is_prefix-above directory (components file.0) above)
-    by false other found rest = or_true _ others (rest found)
+    by false other found rest = or_second _ others (rest found)
 
 pub holds_path-names_in : (files : Files) (path : List ℕ) (names : List (List ℕ)) → names_in files path ≡ Some names → holds_path files path ≡ true
 unfolding names_in holds_path

@@ -16,20 +16,11 @@ use Rattle.base_text.specs.PathOrder.{path_cmp, path_cmp_total, path_ties}
 use Rattle.base_text.specs.Paths.{components, is_prefix, normal}
 use Rattle.trees.specs.Tree.{Files, file_text, holds_path}
 use Rattle.trees.proofs.EntryNames.{texts_same}
+use Rattle.base_values.proofs.Basics.{or_swap, or_again}
 
 -- paths that tie have the same components
 same_components : (x y : List ℕ) → path_cmp x y ≡ Equal → components x ≡ components y
 same_components x y = slice_cmp-IsAntisymmetric texts_same (components x) (components y)
-
-or_swap : (a b c : Bool) → (a || (b || c)) ≡ (b || (a || c))
-or_swap true true c = refl
-or_swap true false c = refl
-or_swap false b c = refl
-
-or_again : (a b c : Bool) → a ≡ b → (b || c) ≡ (a || (b || c))
-or_again true true c e = refl
-or_again true false c e = absurd (false≢true (sym e))
-or_again false b c e = refl
 
 -- a test of components passes for one of the files once the new one passes or one passed before
 any-insert_entry : (test : List (List ℕ) → Bool) (files : Files) (path text : List ℕ)

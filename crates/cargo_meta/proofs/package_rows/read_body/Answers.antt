@@ -1,7 +1,7 @@
 use Rattle.std.proofs.Common.{refl}
-use Rattle.cargo_meta.proofs.Steps.{read_on, read_rows}
 use Rattle.cargo_meta.specs.Package.{body_from}
 use Rattle.cargo_meta.proofs.package_rows.read_body.Goals as goal
+use Rattle.json_fields.proofs.Steps.{read_rows, read_on}
 
 pub returns : goal.returns
 unfolding body_from

@@ -2,8 +2,8 @@ use Rattle.std.proofs.Common.{◌≡◌, ℕ, List, ap, arith, length, subst, sy
 use Rattle.graph_order.specs.Labels.{IsLabelled, ranking}
 use Rattle.graph_order.proofs.LabelLemmas.{labelled_same, ranking_same}
 use Rattle.graph_order.proofs.ListingLemmas.{next_labelled, next_ranking}
-use Rattle.graph_order.proofs.ResultLemmas.{on_err}
 use Rattle.graph_order.proofs.order.push_next.Goals as goal
+use Rattle.base_values.proofs.Basics.{on_err}
 
 pub returns-in_err-reserve-clause-labelled : goal.returns-in_err-reserve-clause-labelled
 returns-in_err-reserve-clause-labelled c = subst (λ (ls : List ℕ). IsLabelled ls c.args.index.now) (sym c.in_err-reserve.ensures.items) c.requires.labelled

@@ -5,8 +5,9 @@ use Rattle.graph_order.specs.Moving.{Relabels}
 use Rattle.graph_order.specs.Placing.{FitsOrder, Rearranges, placement_of}
 use Rattle.graph_order.specs.Spots.{AreFree}
 use Rattle.graph_order.proofs.MovingLemmas.{can_move, few_placed, fits_still, mark_in, rearranged, rearranged_still}
-use Rattle.graph_order.proofs.ResultLemmas.{on_err, then_err, then_ok}
+use Rattle.graph_order.proofs.ResultLemmas.{then_err, then_ok}
 use Rattle.graph_order.proofs.placing.place.Goals as goal
+use Rattle.base_values.proofs.Basics.{on_err}
 
 pub make_room-requires-clause-mark : goal.make_room-requires-clause-mark
 make_room-requires-clause-mark c = mark_in (placement_of c.args.below c.args.nodes.now) c.args.labels.now.items c.args.index.now c.requires.labelled c.requires.fits

@@ -1,7 +1,7 @@
 use Rattle.std.proofs.Common.{refl}
-use Rattle.pm_json_data.proofs.Steps.{read_on, read_rows}
 use Rattle.pm_json_data.specs.CrateData.{head_from}
 use Rattle.pm_json_data.proofs.crate_rows.read_head.Goals as goal
+use Rattle.json_fields.proofs.Steps.{read_rows, read_on}
 
 pub returns : goal.returns
 unfolding head_from

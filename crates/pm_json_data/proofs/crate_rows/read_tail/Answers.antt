@@ -1,7 +1,8 @@
 use Rattle.std.proofs.Common.{refl}
-use Rattle.pm_json_data.proofs.Steps.{read_on, read_rows, returns_miss, returns_on, returns_rows}
+use Rattle.pm_json_data.proofs.Steps.{returns_miss, returns_on, returns_rows}
 use Rattle.pm_json_data.specs.CrateData.{tail_from}
 use Rattle.pm_json_data.proofs.crate_rows.read_tail.Goals as goal
+use Rattle.json_fields.proofs.Steps.{read_rows, read_on}
 
 pub returns-in_err-crate_attrs : goal.returns-in_err-crate_attrs
 unfolding tail_from

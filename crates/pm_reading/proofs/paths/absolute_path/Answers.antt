@@ -1,6 +1,7 @@
 use Rattle.std.proofs.Common.{Err, ap}
-use Rattle.pm_reading.proofs.PathLemmas.{absolute_if, absolute_is, relative_if, relative_is}
+use Rattle.pm_reading.proofs.PathLemmas.{absolute_is, relative_is}
 use Rattle.pm_reading.proofs.paths.absolute_path.Goals as goal
+use Rattle.base_text.proofs.Absolute.{absolute_if, relative_if}
 
 pub returns-in-Ok : goal.returns-in-Ok
 returns-in-Ok c = absolute_is c.args.text.now c.in-Ok.path (absolute_if c.args.text.now (λ other. let h = c.in-Ok.ensures.not_absolute.1 other in cc)) c.in-Ok.ensures.ok

@@ -2,13 +2,14 @@ use Rattle.std.proofs.Common.{◌≡◌, ◌+◌, ◌<◌, ◌∙◌, ap, arith,
 use Rattle.base_text.specs.Arena.{number_of}
 use Rattle.std.specs.List.{range_with_len}
 use Rattle.graph_base.specs.Kept.{is_named, kept_below}
-use Rattle.crate_graph.proofs.PruneLemmas.{below_named, below_other, kept_within, ids_more-named, ids_more-other, numbers_more-kept}
+use Rattle.crate_graph.proofs.PruneLemmas.{ids_more-named, ids_more-other, numbers_more-kept}
 use Rattle.crate_graph.proofs.graph.prune.new_ids.Goals as goal
 use Rattle.crate_graph.proofs.graph.prune.new_ids.Goals.{then-mark+in_ok-push-2, else-mark+in_ok-push-3}
+use Rattle.graph_order.proofs.SuborderLemmas.{below_small, more_named, more_other}
 
 pub overflow_add-next : goal.overflow_add-next
 overflow_add-next c =
-    let below = kept_within (map number_of c.args.to_keep.now) c.loop-mark.mark-index in
+    let below = below_small (map number_of c.args.to_keep.now) c.loop-mark.mark-index in
     omega (arith, c.loop-mark.invariant.next, below, c.loop-mark-test.true, c.in_ok-marks.ensures.long, c.requires.short)
 
 pub loop-mark-preserved : goal.loop-mark-preserved
@@ -26,7 +27,7 @@ loop-mark-preserved c =
           record {
             ids_are = rw (w.ids-is, w.in_ok-push-2.ensures.items) (ids_more-named keep c.loop-mark.ids.items place ids_are w.from_raw.result named (w.from_raw.ensures ∙ c.loop-mark.invariant.next));
             numbers_are = numbers;
-            next = w.next-is ∙ ap (λ n. n + 1) c.loop-mark.invariant.next ∙ sym (below_named keep place named);
+            next = w.next-is ∙ ap (λ n. n + 1) c.loop-mark.invariant.next ∙ sym (more_named keep place named);
           }
       | else-mark+in_ok-push-3 w ↦
           let mark : get_or marks place false ≡ false = subst (λ xs. get_or xs place false ≡ false) c.deref-mark-items.ensures.value w.if-mark.false in
@@ -34,6 +35,6 @@ loop-mark-preserved c =
           record {
             ids_are = rw (w.ids-is, w.in_ok-push-3.ensures.items) (ids_more-other keep c.loop-mark.ids.items place ids_are other);
             numbers_are = numbers;
-            next = w.next-is ∙ c.loop-mark.invariant.next ∙ sym (below_other keep place other);
+            next = w.next-is ∙ c.loop-mark.invariant.next ∙ sym (more_other keep place other);
           }
     ]

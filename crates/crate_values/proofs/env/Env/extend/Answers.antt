@@ -1,8 +1,9 @@
 use Rattle.std.proofs.Common.{◌≡◌, ◌∙◌, ap, ◌++◌, map, rules}
 use Rattle.std.proofs.lemmas.List.{map-append}
 use Rattle.crate_values.specs.Env.{pair_text}
-use Rattle.crate_values.proofs.EnvLemmas.{takes_front, on_err}
+use Rattle.crate_values.proofs.EnvLemmas.{takes_front}
 use Rattle.crate_values.proofs.env.Env.extend.Goals as goal
+use Rattle.base_values.proofs.Basics.{on_err}
 
 pub returns-in_err-set-clause-err : goal.returns-in_err-set-clause-err
 returns-in_err-set-clause-err c =

@@ -1,7 +1,8 @@
 use Rattle.std.proofs.Common.{◌≡◌, ◌∙◌, ◌++◌, map, rules}
 use Rattle.base_values.specs.ByText.{text_entries}
-use Rattle.crate_values.proofs.EnvLemmas.{seen_text, takes_front, on_err}
+use Rattle.crate_values.proofs.EnvLemmas.{seen_text, takes_front}
 use Rattle.crate_values.proofs.env.Env.extend_from_other.Goals as goal
+use Rattle.base_values.proofs.Basics.{on_err}
 
 pub returns-in_err-clone-clause-err : goal.returns-in_err-clone-clause-err
 returns-in_err-clone-clause-err c =

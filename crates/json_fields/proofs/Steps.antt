@@ -1,4 +1,4 @@
--- a table's rows are read one after another, from what each reads
+-- A table's rows are read one after another, from what each reads.
 use Rattle.std.proofs.Common.{◌≡◌, ◌∙◌, ap, Ok}
 use Rattle.json_fields.specs.Outcome.{Reading, ◌>>=◌}
 
