@@ -7,7 +7,7 @@ use Rattle.std.specs.List.{slice_split}
 use Rattle.std.specs.Ordering.{nat_cmp}
 use Rattle.std.specs.Prelude.{bytes_eq}
 use Rattle.base_text.specs.PathOrder.{path_cmp, path_eq}
-use Rattle.base_text.specs.Paths.{components, is_slash, path_text, slashed, IsClean}
+use Rattle.base_text.specs.Paths.{components, is_slash, path_text, with_slashes, IsClean}
 use Rattle.base_text.proofs.Names.{components_are_names, split_slashed, AreNames}
 
 -- clean texts are equal exactly where their components are
@@ -27,7 +27,7 @@ pieces [] = [] ∷ []
 pieces (part ∷ parts) = part ∷ parts
 
 split_path_text : (parts : List (List ℕ)) → AreNames parts → slice_split is_slash (path_text parts) ≡ [] ∷ pieces parts
-unfolding path_text slashed pieces
+unfolding path_text with_slashes pieces
 split_path_text [] h = refl
 split_path_text (part ∷ parts) h = ap (λ rest. [] ∷ rest) (split_slashed part parts h.0.unbroken h.1)
 

@@ -6,7 +6,7 @@ use Rattle.std.proofs.Math.Seq.{take-append_seam}
 use Rattle.std.proofs.lemmas.List.Elements.{All-from_get_or, All-from_recursion, All-take, recursion_from_All}
 use Rattle.std.proofs.lemmas.Str.Pattern.{NoCharPasses-char, drop_at_char}
 use Rattle.std.specs.Str.Pattern.{RFindsChar}
-use Rattle.base_text.specs.Paths.{components, slashed, without_last}
+use Rattle.base_text.specs.Paths.{components, with_slashes, without_last}
 use Rattle.base_text.specs.Rows.{IsCutAtLast, IsRow, IsSlashed, Lacks}
 use Rattle.base_text.proofs.Names.{components_are_names, row_of_names, slashed-push, AreNames, IsName}
 
@@ -58,9 +58,9 @@ last_name part [] h = h.0
 last_name part (next ∷ parts) h = last_name next parts h.1
 
 -- a row of names is cut at its last slash into the row without the last name, and that name
-pub slashed_cut : (part : List ℕ) (parts : List (List ℕ)) (front back : List ℕ) → AreNames (part ∷ parts) → IsCutAtLast 47 (slashed (part ∷ parts)) front back → (front ≡ slashed (without_last (part ∷ parts))) × (back ≡ get_or (part ∷ parts) (length parts) [])
+pub slashed_cut : (part : List ℕ) (parts : List (List ℕ)) (front back : List ℕ) → AreNames (part ∷ parts) → IsCutAtLast 47 (with_slashes (part ∷ parts)) front back → (front ≡ with_slashes (without_last (part ∷ parts))) × (back ≡ get_or (part ∷ parts) (length parts) [])
 slashed_cut part parts front back h cut =
-    same_cut 47 _ _ front back (sym (ap slashed (ends part parts) ∙ slashed-push _ _) ∙ cut.parts) (last_name part parts h).unbroken cut.last
+    same_cut 47 _ _ front back (sym (ap with_slashes (ends part parts) ∙ slashed-push _ _) ∙ cut.parts) (last_name part parts h).unbroken cut.last
 
 -- the row without its last name is names
 pub names_without_last : (text : List ℕ) → AreNames (without_last (components text))
@@ -69,10 +69,10 @@ names_without_last text =
 
 -- what the cut leaves before it, as the text is cut short there
 pub short_at_cut : (text short front back : List ℕ) → IsSlashed text → IsCutAtLast 47 text front back → short ≡ take (length front) text → IsRow short (without_last (components text))
-unfolding slashed
+unfolding with_slashes
 short_at_cut text short front back clean cut e = row_of_names _ _ (by (components text) clean (components_are_names text)) (names_without_last text)
   where
-    by : (parts : List (List ℕ)) → text ≡ slashed parts → AreNames parts → short ≡ slashed (without_last parts)
+    by : (parts : List (List ℕ)) → text ≡ with_slashes parts → AreNames parts → short ≡ with_slashes (without_last parts)
     by [] none h = absurd (omega (arith, ap length none, ap length cut.parts, length-append front (47 ∷ back)))
     by (part ∷ parts) is h =
         e ∙ ap (take (length front)) cut.parts ∙ take-append_seam front (47 ∷ back)
@@ -80,9 +80,9 @@ short_at_cut text short front back clean cut e = row_of_names _ _ (by (component
 
 -- a row of names with no slash is empty, and so is the row without its last
 pub none_at_cut : (text : List ℕ) → IsSlashed text → Lacks 47 text → IsRow text (without_last (components text))
-unfolding slashed
+unfolding with_slashes
 none_at_cut text clean lacks = row_of_names _ _ (by (components text) clean) (names_without_last text)
   where
-    by : (parts : List (List ℕ)) → text ≡ slashed parts → text ≡ slashed (without_last parts)
+    by : (parts : List (List ℕ)) → text ≡ with_slashes parts → text ≡ with_slashes (without_last parts)
     by [] none = none
-    by (part ∷ parts) is = absurd (Lacks-not_at 47 [] (part ++ slashed parts) (rw is at lacks))
+    by (part ∷ parts) is = absurd (Lacks-not_at 47 [] (part ++ with_slashes parts) (rw is at lacks))

@@ -5,7 +5,7 @@ use Rattle.std.proofs.lemmas.List.Splits.{slice_split_none, slice_split_at}
 use Rattle.std.proofs.lemmas.List.Elements.{All-from_recursion, filter-append}
 use Rattle.std.specs.List.{AllByRecursion, filter, slice_split, onto_first}
 use Rattle.std.proofs.lemmas.Bool.{cond-true, cond-false}
-use Rattle.base_text.specs.Paths.{is_slash, is_component, components, slashed, path_text, IsClean}
+use Rattle.base_text.specs.Paths.{is_slash, is_component, components, with_slashes, path_text, IsClean}
 use Rattle.base_text.specs.Rows.{IsRow, IsSlashed, Lacks}
 
 -- no byte is a slash
@@ -57,15 +57,15 @@ filter_names [] h = refl
 filter_names (part ∷ parts) h = cond-true _ _ _ h.0.counts ∙ ap (λ rest. part ∷ rest) (filter_names parts h.1)
 
 -- a slash before each name cuts them apart again
-pub split_slashed : (part : List ℕ) (parts : List (List ℕ)) → IsUnbroken part → AreNames parts → slice_split is_slash (part ++ slashed parts) ≡ part ∷ parts
-unfolding slashed
+pub split_slashed : (part : List ℕ) (parts : List (List ℕ)) → IsUnbroken part → AreNames parts → slice_split is_slash (part ++ with_slashes parts) ≡ part ∷ parts
+unfolding with_slashes
 split_slashed part [] u h = rw append-nil (slice_split_none is_slash part (All-from_recursion _ part u))
 split_slashed part (next ∷ parts) u h =
-    slice_split_at is_slash part 47 (next ++ slashed parts) (All-from_recursion _ part u) refl
+    slice_split_at is_slash part 47 (next ++ with_slashes parts) (All-from_recursion _ part u) refl
     ∙ ap (λ rest. part ∷ rest) (split_slashed next parts h.0.unbroken h.1)
 
-pub components-slashed : (parts : List (List ℕ)) → AreNames parts → components (slashed parts) ≡ parts
-unfolding components slashed
+pub components-slashed : (parts : List (List ℕ)) → AreNames parts → components (with_slashes parts) ≡ parts
+unfolding components with_slashes
 components-slashed [] h = refl
 components-slashed (part ∷ parts) h = ap (filter is_component) (split_slashed part parts h.0.unbroken h.1) ∙ filter_names (part ∷ parts) h
 
@@ -79,24 +79,24 @@ pub clean_text : (text : List ℕ) (parts : List (List ℕ)) → text ≡ path_t
 clean_text text parts e h = e ∙ ap path_text (sym (components-path_text parts h) ∙ ap components (sym e))
 
 -- one more name behind a slash
-pub slashed-push : (names : List (List ℕ)) (name : List ℕ) → slashed (names ++ name ∷ []) ≡ slashed names ++ 47 ∷ name
-unfolding slashed
+pub slashed-push : (names : List (List ℕ)) (name : List ℕ) → with_slashes (names ++ name ∷ []) ≡ with_slashes names ++ 47 ∷ name
+unfolding with_slashes
 slashed-push names name =
-    flat_map-append (λ part. 47 ∷ part) names (name ∷ []) ∙ ap (λ rest. slashed names ++ rest) (append-nil (47 ∷ name))
+    flat_map-append (λ part. 47 ∷ part) names (name ∷ []) ∙ ap (λ rest. with_slashes names ++ rest) (append-nil (47 ∷ name))
 
 -- one more part that counts is one more name behind a slash
-pub slashed_more : (parts : List (List ℕ)) (part : List ℕ) → is_component part ≡ true → slashed (filter is_component (parts ++ part ∷ [])) ≡ slashed (filter is_component parts) ++ 47 ∷ part
+pub slashed_more : (parts : List (List ℕ)) (part : List ℕ) → is_component part ≡ true → with_slashes (filter is_component (parts ++ part ∷ [])) ≡ with_slashes (filter is_component parts) ++ 47 ∷ part
 slashed_more parts part e =
-    ap slashed (filter-append is_component parts (part ∷ []) ∙ ap (λ rest. filter is_component parts ++ rest) (cond-true _ _ _ e))
+    ap with_slashes (filter-append is_component parts (part ∷ []) ∙ ap (λ rest. filter is_component parts ++ rest) (cond-true _ _ _ e))
     ∙ slashed-push (filter is_component parts) part
 
 -- a part that does not count changes nothing
-pub slashed_skips : (parts : List (List ℕ)) (part : List ℕ) → is_component part ≡ false → slashed (filter is_component (parts ++ part ∷ [])) ≡ slashed (filter is_component parts)
+pub slashed_skips : (parts : List (List ℕ)) (part : List ℕ) → is_component part ≡ false → with_slashes (filter is_component (parts ++ part ∷ [])) ≡ with_slashes (filter is_component parts)
 slashed_skips parts part e =
-    ap slashed (filter-append is_component parts (part ∷ []) ∙ ap (λ rest. filter is_component parts ++ rest) (cond-false _ _ _ e) ∙ append-nil _)
+    ap with_slashes (filter-append is_component parts (part ∷ []) ∙ ap (λ rest. filter is_component parts ++ rest) (cond-false _ _ _ e) ∙ append-nil _)
 
 -- a text of names behind slashes is their row
-pub row_of_names : (text : List ℕ) (parts : List (List ℕ)) → text ≡ slashed parts → AreNames parts → IsRow text parts
+pub row_of_names : (text : List ℕ) (parts : List (List ℕ)) → text ≡ with_slashes parts → AreNames parts → IsRow text parts
 row_of_names text parts e h = record { text_is = e; components_are = ap components e ∙ components-slashed parts h }
 
 -- the components of a row are names
@@ -105,7 +105,7 @@ row_names text parts h = subst (λ (names : List (List ℕ)). AreNames names) h.
 
 -- a row is slashed
 pub row_slashed : (text : List ℕ) (parts : List (List ℕ)) → IsRow text parts → IsSlashed text
-row_slashed text parts h = h.text_is ∙ ap slashed (sym h.components_are)
+row_slashed text parts h = h.text_is ∙ ap with_slashes (sym h.components_are)
 
 -- a row begun from nothing
 pub row_from_none : (none text : List ℕ) (parts : List (List ℕ)) → none ≡ [] → IsRow text (components none ++ parts) → IsRow text parts
@@ -113,11 +113,11 @@ unfolding components
 row_from_none none text parts e h = rw e at h
 
 -- a row with the row of a text behind it
-pub row_append : (old new : List ℕ) (parts : List (List ℕ)) → IsSlashed old → AreNames parts → new ≡ old ++ slashed parts → IsRow new (components old ++ parts)
-unfolding slashed
+pub row_append : (old new : List ℕ) (parts : List (List ℕ)) → IsSlashed old → AreNames parts → new ≡ old ++ with_slashes parts → IsRow new (components old ++ parts)
+unfolding with_slashes
 row_append old new parts clean h e =
     row_of_names new (components old ++ parts)
-    (e ∙ ap (λ s. s ++ slashed parts) clean ∙ sym (flat_map-append (λ part. 47 ∷ part) (components old) parts))
+    (e ∙ ap (λ s. s ++ with_slashes parts) clean ∙ sym (flat_map-append (λ part. 47 ∷ part) (components old) parts))
     (names_append (components old) (components_are_names old))
   where
     names_append : (first : List (List ℕ)) → AreNames first → AreNames (first ++ parts)
@@ -126,10 +126,10 @@ row_append old new parts clean h e =
 
 -- where there is a text of names, it is the text of a path
 pub path_text-slashed : (text : List ℕ) → 0 < length text → IsSlashed text → text ≡ path_text (components text)
-unfolding slashed path_text
+unfolding with_slashes path_text
 path_text-slashed text some e = by (components text) e
   where
-    by : (parts : List (List ℕ)) → text ≡ slashed parts → text ≡ path_text parts
+    by : (parts : List (List ℕ)) → text ≡ with_slashes parts → text ≡ path_text parts
     by [] none = absurd (omega (arith, ap length none))
     by (part ∷ parts) h = h
 
@@ -141,5 +141,5 @@ path_text-root (b ∷ bs) root none e = absurd (omega arith)
 
 -- an empty text is the row of nothing
 pub empty_slashed : (text : List ℕ) → text ≡ [] → IsSlashed text
-unfolding components slashed
+unfolding components with_slashes
 empty_slashed text e = rw e refl

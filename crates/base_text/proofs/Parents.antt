@@ -5,19 +5,19 @@ use Rattle.std.proofs.lemmas.Str.{IsCharBoundary-after_ascii, IsCharBoundary-bef
 use Rattle.std.proofs.Math.Seq.{get_or-append_seam, take-append_seam}
 use Rattle.std.specs.List.{slice_get, slice_range}
 use Rattle.std.specs.Prelude.{codes, bytes_eq}
-use Rattle.base_text.specs.Paths.{components, file_name, last_component, parent_text, path_text, slashed, without_last, IsClean}
+use Rattle.base_text.specs.Paths.{components, file_name, last_component, parent_text, path_text, with_slashes, without_last, IsClean}
 use Rattle.base_text.specs.Rows.{IsCutAtLast, IsParentLen, IsRow, Lacks}
 use Rattle.base_text.proofs.Cuts.{last_name, names_without_last, slashed_cut, Lacks-not_at}
 use Rattle.base_text.proofs.Names.{clean_text, components_are_names, components-path_text, AreNames, IsName}
 
 -- a clean text has a slash
 pub clean_has_slash : (text : List ℕ) → IsClean text → Lacks 47 text → ⊥
-unfolding path_text slashed
+unfolding path_text with_slashes
 clean_has_slash text clean lacks = by (components text) clean
   where
     by : (parts : List (List ℕ)) → text ≡ path_text parts → ⊥
     by [] e = Lacks-not_at 47 [] [] (rw e at lacks)
-    by (part ∷ parts) e = Lacks-not_at 47 [] (part ++ slashed parts) (rw e at lacks)
+    by (part ∷ parts) e = Lacks-not_at 47 [] (part ++ with_slashes parts) (rw e at lacks)
 
 -- a name is not empty
 name_some : (name : List ℕ) → IsName name → 0 < length name
@@ -48,7 +48,7 @@ last_component-cons part parts =
 -- what a cut with a name behind it says
 pub record IsNameCut (text front back : List ℕ) : Type 0 where
   pub some : 0 < length (components text)
-  pub front_is : front ≡ slashed (without_last (components text))
+  pub front_is : front ≡ with_slashes (without_last (components text))
   pub back_is : last_component (components text) ≡ Some back
 
 -- with something behind its last slash a clean text is cut into its parent and its last component
@@ -58,20 +58,20 @@ name_at_cut text front back clean cut some =
     let found = by (components text) clean (components_are_names text) in
     record { some = found.0; front_is = found.1; back_is = found.2 }
   where
-    by : (parts : List (List ℕ)) → text ≡ path_text parts → AreNames parts → (0 < length parts) × (front ≡ slashed (without_last parts)) × (last_component parts ≡ Some back)
+    by : (parts : List (List ℕ)) → text ≡ path_text parts → AreNames parts → (0 < length parts) × (front ≡ with_slashes (without_last parts)) × (last_component parts ≡ Some back)
     by [] e h = absurd (omega (arith, ap length (sym e ∙ cut.parts), length-append front (47 ∷ back)))
     by (part ∷ parts) e h =
         let halves = slashed_cut part parts front back h (record { parts = sym e ∙ cut.parts; last = cut.last }) in
         (omega arith, halves.0, last_component-cons part parts ∙ ap Some (sym halves.1))
 
 -- the text of no names, or of their row
-path_text-none : (names : List (List ℕ)) (row : List ℕ) → row ≡ slashed names → length row ≡ 0 → path_text names ≡ 47 ∷ []
-unfolding path_text slashed
+path_text-none : (names : List (List ℕ)) (row : List ℕ) → row ≡ with_slashes names → length row ≡ 0 → path_text names ≡ 47 ∷ []
+unfolding path_text with_slashes
 path_text-none [] row e none = refl
 path_text-none (name ∷ names) row e none = absurd (omega (arith, ap length e))
 
-path_text-some : (names : List (List ℕ)) (row : List ℕ) → row ≡ slashed names → 0 < length row → path_text names ≡ row
-unfolding path_text slashed
+path_text-some : (names : List (List ℕ)) (row : List ℕ) → row ≡ with_slashes names → 0 < length row → path_text names ≡ row
+unfolding path_text with_slashes
 path_text-some [] row e some = absurd (omega (arith, ap length e))
 path_text-some (name ∷ names) row e some = sym e
 
@@ -131,7 +131,7 @@ file_name-up text name e up = rw e (cond-true _ _ _ up)
 
 -- the row of `/` is empty
 pub row_of_root : (path : List ℕ) → path ≡ 47 ∷ [] → IsRow [] (components path)
-unfolding components slashed
+unfolding components with_slashes
 row_of_root path e = rw e (record { text_is = refl; components_are = refl })
 
 -- every other clean text is a row
@@ -139,7 +139,7 @@ pub row_of_clean : (path : List ℕ) → IsClean path → (path ≡ 47 ∷ [] �
 unfolding path_text
 row_of_clean path clean other = record { text_is = by (components path) clean; components_are = refl }
   where
-    by : (parts : List (List ℕ)) → path ≡ path_text parts → path ≡ slashed parts
+    by : (parts : List (List ℕ)) → path ≡ path_text parts → path ≡ with_slashes parts
     by [] root = absurd (other root)
     by (part ∷ parts) e = e
 

@@ -7,7 +7,7 @@ use Rattle.std.proofs.lemmas.List.Elements.{All-drop, All-from_recursion, recurs
 use Rattle.std.proofs.Math.Seq.{take-append_seam}
 use Rattle.std.specs.Cmp.Lexicographic.{pointwise_decides, bytes_decides}
 use Rattle.std.specs.List.{join_with_byte, filter}
-use Rattle.base_text.specs.Paths.{components, is_component, is_prefix, slashed, text_below}
+use Rattle.base_text.specs.Paths.{components, is_component, is_prefix, with_slashes, text_below}
 use Rattle.base_text.specs.Rows.{IsRow, IsSlashed}
 use Rattle.base_text.proofs.Names.{components_are_names, row_of_names, split_slashed, filter_names, AreNames, IsName, IsUnbroken}
 
@@ -27,21 +27,21 @@ same_names (c ∷ name) (d ∷ next) rest more u v a b e =
     (cc, tails.1)
 
 -- a row is empty or begins with a slash, whatever follows it does so too
-head_of_row : (parts : List (List ℕ)) (rest : List ℕ) → get_or rest 0 47 ≡ 47 → get_or (slashed parts ++ rest) 0 47 ≡ 47
-unfolding slashed
+head_of_row : (parts : List (List ℕ)) (rest : List ℕ) → get_or rest 0 47 ≡ 47 → get_or (with_slashes parts ++ rest) 0 47 ≡ 47
+unfolding with_slashes
 head_of_row [] rest a = a
 head_of_row (part ∷ parts) rest a = refl
 
 -- a row that goes on behind another goes on with the names behind the other's
-rest_of_row : (front whole : List (List ℕ)) (rest : List ℕ) → AreNames front → AreNames whole → get_or rest 0 47 ≡ 47 → slashed whole ≡ slashed front ++ rest → (whole ≡ front ++ drop (length front) whole) × (rest ≡ slashed (drop (length front) whole))
-unfolding slashed
+rest_of_row : (front whole : List (List ℕ)) (rest : List ℕ) → AreNames front → AreNames whole → get_or rest 0 47 ≡ 47 → with_slashes whole ≡ with_slashes front ++ rest → (whole ≡ front ++ drop (length front) whole) × (rest ≡ with_slashes (drop (length front) whole))
+unfolding with_slashes
 rest_of_row [] whole rest h k a e = (refl, sym e)
 rest_of_row (name ∷ front) [] rest h k a e = absurd (omega (arith, ap length e))
 rest_of_row (name ∷ front) (next ∷ whole) rest h k a e =
-    let inside : next ++ slashed whole ≡ name ++ (slashed front ++ rest) =
-    append_cancel_left (47 ∷ []) _ _ (e ∙ append_assoc (47 ∷ name) (slashed front) rest) in
-    let whole_head : get_or (slashed whole) 0 47 ≡ 47 = ap (λ s. get_or s 0 47) (sym (append-nil (slashed whole))) ∙ head_of_row whole [] refl in
-    let tails = same_names next name (slashed whole) (slashed front ++ rest) k.0.unbroken h.0.unbroken whole_head (head_of_row front rest a) inside in
+    let inside : next ++ with_slashes whole ≡ name ++ (with_slashes front ++ rest) =
+    append_cancel_left (47 ∷ []) _ _ (e ∙ append_assoc (47 ∷ name) (with_slashes front) rest) in
+    let whole_head : get_or (with_slashes whole) 0 47 ≡ 47 = ap (λ s. get_or s 0 47) (sym (append-nil (with_slashes whole))) ∙ head_of_row whole [] refl in
+    let tails = same_names next name (with_slashes whole) (with_slashes front ++ rest) k.0.unbroken h.0.unbroken whole_head (head_of_row front rest a) inside in
     let more = rest_of_row front whole rest h.1 k.1 a tails.1 in
     (ap (λ n. n ∷ whole) tails.0 ∙ ap (λ names. name ∷ names) more.0, more.1)
 
@@ -60,10 +60,10 @@ is_prefix_parts front whole e =
     ∙ take-append-drop (length front) whole)
 
 -- a row whose names begin with those of another is that row and more
-row_of_prefix : (front whole : List (List ℕ)) → is_prefix front whole ≡ true → slashed whole ≡ slashed front ++ slashed (drop (length front) whole)
-unfolding slashed
+row_of_prefix : (front whole : List (List ℕ)) → is_prefix front whole ≡ true → with_slashes whole ≡ with_slashes front ++ with_slashes (drop (length front) whole)
+unfolding with_slashes
 row_of_prefix front whole e =
-    ap slashed (is_prefix_parts front whole e) ∙ flat_map-append (λ part. 47 ∷ part) front (drop (length front) whole)
+    ap with_slashes (is_prefix_parts front whole e) ∙ flat_map-append (λ part. 47 ∷ part) front (drop (length front) whole)
 
 -- where the row begins with the other and goes on with a slash, or not at all
 pub prefix_found : (front whole rest : List ℕ) → IsSlashed front → IsSlashed whole → whole ≡ front ++ rest → get_or rest 0 47 ≡ 47 → (is_prefix (components front) (components whole) ≡ true) × IsRow rest (drop (length (components front)) (components whole))
@@ -75,7 +75,7 @@ prefix_found front whole rest f w e a =
 pub prefix_broken : (front whole rest : List ℕ) → IsSlashed front → IsSlashed whole → whole ≡ front ++ rest → (get_or rest 0 47 ≡ 47 → ⊥) → is_prefix (components front) (components whole) ≡ false
 prefix_broken front whole rest f w e other =
     false_from_ne_true _ (λ is. other (
-    let more : List ℕ = slashed (drop (length (components front)) (components whole)) in
+    let more : List ℕ = with_slashes (drop (length (components front)) (components whole)) in
     let same : front ++ rest ≡ front ++ more = sym e ∙ w ∙ row_of_prefix (components front) (components whole) is ∙ ap (λ s. s ++ more) (sym f) in
     ap (λ s. get_or s 0 47) (append_cancel_left front rest more same ∙ sym (append-nil more)) ∙ head_of_row _ [] refl))
 
@@ -83,34 +83,34 @@ prefix_broken front whole rest f w e other =
 pub prefix_missing : (front whole : List ℕ) → IsSlashed front → IsSlashed whole → ((rest : List ℕ) → whole ≡ front ++ rest → ⊥) → is_prefix (components front) (components whole) ≡ false
 prefix_missing front whole f w lacks =
     false_from_ne_true _ (λ is.
-    let more : List ℕ = slashed (drop (length (components front)) (components whole)) in
+    let more : List ℕ = with_slashes (drop (length (components front)) (components whole)) in
     lacks more (w ∙ row_of_prefix (components front) (components whole) is ∙ ap (λ s. s ++ more) (sym f)))
 
 -- the names of a row with a slash between each two
-slashed-join : (part : List ℕ) (parts : List (List ℕ)) → part ++ slashed parts ≡ join_with_byte 47 (part ∷ parts)
-unfolding slashed
+slashed-join : (part : List ℕ) (parts : List (List ℕ)) → part ++ with_slashes parts ≡ join_with_byte 47 (part ∷ parts)
+unfolding with_slashes
 slashed-join part [] = append-nil part
 slashed-join part (next ∷ parts) = ap (λ rest. part ++ (47 ∷ rest)) (slashed-join next parts)
 
 -- a row without its first slash
 pub below_first : (row names : List ℕ) → IsSlashed row → row ≡ 47 ∷ names → (names ≡ join_with_byte 47 (components row)) × (components names ≡ components row)
-unfolding slashed components
+unfolding with_slashes components
 below_first row names clean e = by (components row) clean (components_are_names row)
   where
-    by : (parts : List (List ℕ)) → row ≡ slashed parts → AreNames parts → (names ≡ join_with_byte 47 parts) × (components names ≡ parts)
+    by : (parts : List (List ℕ)) → row ≡ with_slashes parts → AreNames parts → (names ≡ join_with_byte 47 parts) × (components names ≡ parts)
     by [] none h = absurd (omega (arith, ap length none, ap length e))
     by (part ∷ parts) is h =
-        let text : names ≡ part ++ slashed parts = append_cancel_left (47 ∷ []) _ _ (sym e ∙ is) in
+        let text : names ≡ part ++ with_slashes parts = append_cancel_left (47 ∷ []) _ _ (sym e ∙ is) in
         (text ∙ slashed-join part parts, ap components text ∙ ap (filter is_component) (split_slashed part parts h.0.unbroken h.1) ∙ filter_names (part ∷ parts) h)
 
 -- a row that does not begin with a slash is empty
 pub below_none : (row : List ℕ) → IsSlashed row → ((names : List ℕ) → row ≡ 47 ∷ names → ⊥) → row ≡ join_with_byte 47 (components row)
-unfolding slashed
+unfolding with_slashes
 below_none row clean lacks = by (components row) clean
   where
-    by : (parts : List (List ℕ)) → row ≡ slashed parts → row ≡ join_with_byte 47 parts
+    by : (parts : List (List ℕ)) → row ≡ with_slashes parts → row ≡ join_with_byte 47 parts
     by [] none = none
-    by (part ∷ parts) is = absurd (lacks (part ++ slashed parts) is)
+    by (part ∷ parts) is = absurd (lacks (part ++ with_slashes parts) is)
 
 -- what is left below a front, where there is one
 pub text_below-none : (front whole : List (List ℕ)) → is_prefix front whole ≡ false → text_below front whole ≡ None

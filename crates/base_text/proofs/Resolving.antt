@@ -5,13 +5,13 @@ use Rattle.std.proofs.lemmas.List.Elements.{All-from_recursion, recursion_from_A
 use Rattle.std.proofs.lemmas.List.Sums.{fold-append}
 use Rattle.std.specs.List.{filter, fold, AllByRecursion}
 use Rattle.std.specs.Prelude.{codes, bytes_eq}
-use Rattle.base_text.specs.Paths.{components, is_component, resolve, resolved_components, slashed, without_last}
+use Rattle.base_text.specs.Paths.{components, is_component, resolve, resolved_components, with_slashes, without_last}
 use Rattle.base_text.specs.Rows.{IsRow, IsSlashed}
 use Rattle.base_text.proofs.Names.{AreNames, IsName, components_are_names, row_of_names, slashed-push}
 
 -- the text holds what is taken of the parts so far, after what it held at the start
 pub record HasTaken (text : List ℕ) (start parts : List (List ℕ)) : Type 0 where
-  pub built : text ≡ slashed (fold resolve start (filter is_component parts))
+  pub built : text ≡ with_slashes (fold resolve start (filter is_component parts))
   pub names : AreNames (fold resolve start (filter is_component parts))
 
 -- at the start nothing is taken
@@ -32,7 +32,7 @@ HasTaken-up text short start parts part h up e =
     let now : fold resolve start (filter is_component (parts ++ part ∷ [])) ≡ without_last taken =
     ap (λ p. fold resolve start (filter is_component (parts ++ p ∷ []))) up ∙ fold-counts start parts (codes "..") refl in
     record {
-      built = e.text_is ∙ ap (λ names. slashed (without_last names)) (row_of_names text taken h.built h.names).components_are ∙ ap slashed (sym now);
+      built = e.text_is ∙ ap (λ names. with_slashes (without_last names)) (row_of_names text taken h.built h.names).components_are ∙ ap with_slashes (sym now);
       names = rw now (recursion_from_All IsName _ (All-take IsName (length taken - 1) taken (All-from_recursion IsName taken h.names)));
     }
 
@@ -44,7 +44,7 @@ HasTaken-name text slash more start parts part h other name one two =
     let now : fold resolve start (filter is_component (parts ++ part ∷ [])) ≡ taken ++ part ∷ [] =
     fold-counts start parts part name.counts ∙ cond-false _ _ _ other in
     record {
-      built = two ∙ ap (λ s. s ++ part) (one ∙ ap (λ s. s ++ 47 ∷ []) h.built) ∙ append_assoc _ (47 ∷ []) part ∙ sym (slashed-push taken part) ∙ ap slashed (sym now);
+      built = two ∙ ap (λ s. s ++ part) (one ∙ ap (λ s. s ++ 47 ∷ []) h.built) ∙ append_assoc _ (47 ∷ []) part ∙ sym (slashed-push taken part) ∙ ap with_slashes (sym now);
       names = rw now (recursion_from_All IsName _ (All-push IsName taken part (All-from_recursion IsName taken h.names) name));
     }
 

@@ -8,5 +8,5 @@ abbrev pub number_of : {K : Type 0} → Idx K → ℕ
 number_of id = id.raw
 
 -- each value with its number, from the first on
-abbrev pub numbered : {T : Type 0} → List T → List (ℕ × T)
-numbered values = enumerate_from 0 values
+abbrev pub with_numbers : {T : Type 0} → List T → List (ℕ × T)
+with_numbers values = enumerate_from 0 values

@@ -17,8 +17,8 @@ abbrev pub is_quote : ℕ → Bool
 is_quote b = b == 34
 
 -- what stands between the two quotes at the ends of a text
-unfoldable pub unquoted : List ℕ → Option (List ℕ)
-unquoted text =
+unfoldable pub unquote : List ℕ → Option (List ℕ)
+unquote text =
     if nat_le 2 (length text) && is_quote (slice_index text 0) && is_quote (slice_index text (length text - 1))
     then Some (slice_range text 1 (length text - 1)) else None
 
@@ -26,7 +26,7 @@ unquoted text =
 unfoldable pub atom_of : List ℕ → Option CfgAtom
 atom_of text =
     if list_any is_equals text
-    then option_map (λ value. KeyValue (before_first is_equals text) value) (unquoted (after_first is_equals text))
+    then option_map (λ value. KeyValue (before_first is_equals text) value) (unquote (after_first is_equals text))
     else Some (Flag text)
 
 -- the text that names an atom

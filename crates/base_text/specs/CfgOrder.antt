@@ -24,8 +24,8 @@ abbrev pub without_atoms : List CfgAtom → List CfgAtom → List CfgAtom
 without_atoms atoms others = filter (λ atom. not (list_any (eq_by_cmp atom_cmp atom) others)) atoms
 
 -- the atoms of a list, in order and each once, that are not among some others
-abbrev pub alone : List CfgAtom → List CfgAtom → List CfgAtom
-alone atoms others = without_atoms (with_atoms [] atoms) others
+abbrev pub atoms_only_in : List CfgAtom → List CfgAtom → List CfgAtom
+atoms_only_in atoms others = without_atoms (with_atoms [] atoms) others
 
 -- atoms in order after a change: some were put in, and others taken out
 abbrev pub atoms_after_change : List CfgAtom → List CfgAtom → List CfgAtom → List CfgAtom

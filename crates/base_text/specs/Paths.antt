@@ -41,13 +41,13 @@ abbrev pub IsResolved : List ℕ → Type 0
 IsResolved text = normal text ≡ components text
 
 -- each component behind a slash
-unfoldable pub slashed : List (List ℕ) → List ℕ
-slashed parts = flat_map (λ part. 47 ∷ part) parts
+unfoldable pub with_slashes : List (List ℕ) → List ℕ
+with_slashes parts = flat_map (λ part. 47 ∷ part) parts
 
 -- the text of a path's components, which is `/` for none
 unfoldable pub path_text : List (List ℕ) → List ℕ
 path_text [] = 47 ∷ []
-path_text (part ∷ parts) = slashed (part ∷ parts)
+path_text (part ∷ parts) = with_slashes (part ∷ parts)
 
 -- the text begins with `/`
 abbrev pub is_absolute : List ℕ → Bool

@@ -2,15 +2,15 @@
 use Rattle.std.specs.Prelude.{◌≡◌, ℕ, ◌<◌, false, ◌==◌, List, ◌∷◌, ◌++◌, length, take}
 use Rattle.std.specs.List.{AllByRecursion}
 use Rattle.std.specs.Str.{IsCharBoundary}
-use Rattle.base_text.specs.Paths.{components, path_text, slashed, without_last}
+use Rattle.base_text.specs.Paths.{components, path_text, with_slashes, without_last}
 
 -- the text is a row of names, each behind a slash
 abbrev pub IsSlashed : List ℕ → Type 0
-IsSlashed text = text ≡ slashed (components text)
+IsSlashed text = text ≡ with_slashes (components text)
 
 -- the text is the row of these components, each behind a slash
 pub record IsRow (text : List ℕ) (parts : List (List ℕ)) : Type 0 where
-  pub text_is : text ≡ slashed parts
+  pub text_is : text ≡ with_slashes parts
   pub components_are : components text ≡ parts
 
 -- no byte is `at`

@@ -6,7 +6,7 @@ ghost use Rattle.std.specs.Prelude.{IfOk, OnOk, OnErr, slice_get};
 ghost use Rattle.std.specs.Option.{option_copied, option_copied_mut};
 ghost use Rattle.std.specs.Iterator.{YieldsFirstBy, item_count};
 ghost use Rattle.std.specs.Borrow.{sem};
-ghost use Rattle.base_text.specs.Arena.{number_of, numbered};
+ghost use Rattle.base_text.specs.Arena.{number_of, with_numbers};
 
 use base_values::TryClone;
 use std::alloc::{AllocError, Global};
@@ -95,7 +95,7 @@ impl<K, T> Arena<K, T> {
 
     /// The numbers and values, from the first on.
     pub fn iter(&self) -> Iter<'_, K, T>
-        ensures { result ≡ numbered self.now }
+        ensures { result ≡ with_numbers self.now }
     {
         Iter {
             left: self.items.as_slice(),

@@ -4,7 +4,7 @@ ghost use Rattle.std.specs.Prelude.{◌≡◌, ◌↔◌, ◌∷◌, [], ◌++�
 ghost use Rattle.std.specs.Prelude.{IfSome, IfOk, IsErrOf};
 ghost use Rattle.std.specs.Option.{option_copied};
 ghost use Rattle.base_text.specs.declared.cfg.CfgError.TheVariants.{OutOfMemory};
-ghost use Rattle.base_text.specs.Cfg.{atom_of, text_of, unquoted};
+ghost use Rattle.base_text.specs.Cfg.{atom_of, text_of, unquote};
 
 use crate::symbol::Symbol;
 use base_values::TryClone;
@@ -68,8 +68,8 @@ impl From<AllocError> for CfgError {
 }
 
 // What stands between the quotes of a text.
-fn unquoted(text: &str) -> Option<&str>
-    ensures value { option_copied result ≡ unquoted text.now }
+fn unquote(text: &str) -> Option<&str>
+    ensures value { option_copied result ≡ unquote text.now }
     ensures between { IfSome result (λ value. text.now ≡ 34 ∷ (value.now ++ 34 ∷ [])) }
 {
     let after = text.strip_prefix('"')?;
@@ -88,7 +88,7 @@ pub fn parse_cfg(alloc: Global, text: &str) -> Result<CfgAtom, CfgError>
             let name = Symbol::of_str(alloc, text)?;
             Ok(CfgAtom::Flag(name))
         }
-        Some((key, quoted)) => match unquoted(quoted) {
+        Some((key, quoted)) => match unquote(quoted) {
             None => Err(CfgError::BadCfg),
             Some(value) => {
                 let key = Symbol::of_str(alloc, key)?;

@@ -2,7 +2,7 @@
 
 ghost use Rattle.std.specs.Prelude.{◌≡◌, ◌+◌, ◌↔◌, IsTrue, length};
 ghost use Rattle.std.specs.List.Sorted.{IsStrictlySortedBy};
-ghost use Rattle.base_text.specs.CfgOrder.{alone, atom_cmp};
+ghost use Rattle.base_text.specs.CfgOrder.{atoms_only_in, atom_cmp};
 
 use crate::cfg::CfgAtom;
 use crate::cfg_options::CfgOptions;
@@ -30,8 +30,8 @@ impl Model for CfgDiff {
 impl CfgDiff {
     /// The change that enables and disables the atoms of two lists, but for those of both.
     pub fn new(enable: Vec<CfgAtom>, disable: Vec<CfgAtom>) -> Self
-        ensures enabled { result.enabled ≡ alone enable.items disable.items }
-        ensures disabled { result.disabled ≡ alone disable.items enable.items }
+        ensures enabled { result.enabled ≡ atoms_only_in enable.items disable.items }
+        ensures disabled { result.disabled ≡ atoms_only_in disable.items enable.items }
     {
         let mut enable = CfgOptions::of_atoms(enable);
         let mut disable = CfgOptions::of_atoms(disable);
@@ -40,7 +40,7 @@ impl CfgDiff {
     }
 
     /// The atoms that go in, in order.
-    pub fn enabled(&self) -> &[CfgAtom]
+    pub fn enabled_atoms(&self) -> &[CfgAtom]
         ensures same { result.now ≡ self.now.enabled }
         ensures ordered { IsStrictlySortedBy atom_cmp result.now }
     {
@@ -48,7 +48,7 @@ impl CfgDiff {
     }
 
     /// The atoms that go out, in order.
-    pub fn disabled(&self) -> &[CfgAtom]
+    pub fn disabled_atoms(&self) -> &[CfgAtom]
         ensures same { result.now ≡ self.now.disabled }
         ensures ordered { IsStrictlySortedBy atom_cmp result.now }
     {

@@ -207,7 +207,7 @@ impl CfgOptions {
             ≡ atoms_after_change self.old diff.now.enabled diff.now.disabled) }
         ensures unchanged { OnErr result (self.new ≡ self.old) }
     {
-        apply(&mut self.atoms, diff.enabled(), diff.disabled())?;
+        apply(&mut self.atoms, diff.enabled_atoms(), diff.disabled_atoms())?;
         Ok(())
     }
 }

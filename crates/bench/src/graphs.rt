@@ -74,7 +74,7 @@ pub fn build(alloc: Global, kind: Kind, count: u32) -> Result<usize> {
     match kind {
         Kind::Set => set(alloc, count, true),
         Kind::SetApart => set(alloc, count, false),
-        _ => reached(alloc, &*graph(alloc, kind, count)?),
+        _ => count_reached(alloc, &*graph(alloc, kind, count)?),
     }
 }
 
@@ -82,13 +82,13 @@ fn graph(alloc: Global, kind: Kind, count: u32) -> Result<Box<CrateGraphBuilder>
     match kind {
         Kind::Backward => chain(alloc, count, false, false),
         Kind::Layers => layers(alloc),
-        Kind::Joined => joined(alloc, count),
+        Kind::Joined => join_graphs(alloc, count),
         _ => chain(alloc, count, false, true),
     }
 }
 
 // How many crates the first one reaches.
-fn reached(alloc: Global, graph: &CrateGraphBuilder) -> Result<usize> {
+fn count_reached(alloc: Global, graph: &CrateGraphBuilder) -> Result<usize> {
     let first = CrateBuilderId::from_raw(0);
     if !graph.contains(first) {
         bail!("no crates");
@@ -123,7 +123,7 @@ fn link(alloc: Global, graph: &mut CrateGraphBuilder, forward: bool) -> Result<(
     Ok(())
 }
 
-fn joined(alloc: Global, count: u32) -> Result<Box<CrateGraphBuilder>> {
+fn join_graphs(alloc: Global, count: u32) -> Result<Box<CrateGraphBuilder>> {
     let mut graph = chain(alloc, count, false, true)?;
     let other = chain(alloc, count, false, true)?;
     let mut proc_macros = ProcMacroPaths::new(alloc);

@@ -19,7 +19,7 @@ pub fn lower(alloc: Global, document: &str) -> Result<usize> {
 
 fn lower_workspace(alloc: Global, workspace: &CargoWorkspace) -> Result<usize> {
     let mut loader = loader_of(alloc, workspace)?;
-    let shared = shared(alloc)?;
+    let shared = shared_data(alloc)?;
     let limits = Limits::greatest();
     match lower_cargo(alloc, workspace, &shared, &mut loader, &limits) {
         Ok(graph) => Ok(graph.len()),
@@ -28,7 +28,7 @@ fn lower_workspace(alloc: Global, workspace: &CargoWorkspace) -> Result<usize> {
 }
 
 // What the crates share: neither a machine nor a toolchain was asked for.
-fn shared(alloc: Global) -> Result<Rc<CrateWorkspaceData>> {
+fn shared_data(alloc: Global) -> Result<Rc<CrateWorkspaceData>> {
     let target = Err(TargetLoadError(Text::of_str(alloc, "not asked")?));
     let data = CrateWorkspaceData {
         target,

@@ -3,8 +3,8 @@ use Rattle.std.specs.Prelude.{◌≡◌, ℕ, false, codes, refl, Ok}
 use Rattle.serde_json.specs.Data.{Data, array, object, string, no_members}
 use Rattle.serde_json.specs.Read.{max_depth}
 use Rattle.serde_json.specs.View.{items_of}
-use Rattle.json_fields.specs.Fields.{list_at, members_at, optional, required, text_at}
-use Rattle.json_fields.specs.Nested.{nested}
+use Rattle.json_fields.specs.Fields.{list_at, members_at, optional_member, required_member, text_at}
+use Rattle.json_fields.specs.Nested.{within_levels}
 use Rattle.json_fields.specs.Outcome.{Reading, ◌>>=◌}
 use Rattle.json_fields.specs.TextJson.{text_form_at, text_form_data}
 use Rattle.json_fields.specs.Written.{is_null, list_data, option_data, set_member}
@@ -20,8 +20,8 @@ use Rattle.cargo_diagnostics.specs.declared.diagnostic.Diagnostic.TheViews.{roll
 unfoldable pub code_at : Data → Reading DiagnosticCode
 code_at d = do
   ms ← members_at d
-  code ← required (codes "code") text_at ms
-  explanation ← optional (codes "explanation") text_at ms
+  code ← required_member (codes "code") text_at ms
+  explanation ← optional_member (codes "explanation") text_at ms
   Ok (record { code = code; explanation = explanation })
 
 -- the document of a code
@@ -39,17 +39,17 @@ code_data-present c = refl
 unfoldable pub diagnostic_row : (Data → Reading Diagnostic) → Data → Reading Diagnostic
 diagnostic_row inner d = do
   ms ← members_at d
-  message ← required (codes "message") text_at ms
-  code ← optional (codes "code") code_at ms
-  level ← required (codes "level") (text_form_at level_of) ms
-  spans ← required (codes "spans") (list_at span_at) ms
-  children ← required (codes "children") (list_at inner) ms
-  rendered ← optional (codes "rendered") text_at ms
+  message ← required_member (codes "message") text_at ms
+  code ← optional_member (codes "code") code_at ms
+  level ← required_member (codes "level") (text_form_at level_of) ms
+  spans ← required_member (codes "spans") (list_at span_at) ms
+  children ← required_member (codes "children") (list_at inner) ms
+  rendered ← optional_member (codes "rendered") text_at ms
   Ok (roll-Diagnostic (record { message = message; code = code; level = level; spans = spans; children = children; rendered = rendered }))
 
 -- a diagnostic of at most n levels
 abbrev pub diagnostic_within : ℕ → Data → Reading Diagnostic
-diagnostic_within = nested diagnostic_row
+diagnostic_within = within_levels diagnostic_row
 
 -- a diagnostic, of as many levels as a document may have
 unfoldable pub diagnostic_at : Data → Reading Diagnostic

@@ -2,8 +2,8 @@
 use Rattle.std.specs.Prelude.{ℕ, codes, Ok}
 use Rattle.serde_json.specs.Data.{Data, object, string, number, boolean, unsigned, no_members}
 use Rattle.serde_json.specs.Read.{max_depth}
-use Rattle.json_fields.specs.Fields.{flag_at, list_at, members_at, number_at, optional, required, text_at}
-use Rattle.json_fields.specs.Nested.{nested, or_null}
+use Rattle.json_fields.specs.Fields.{flag_at, list_at, members_at, number_at, optional_member, required_member, text_at}
+use Rattle.json_fields.specs.Nested.{within_levels, or_null}
 use Rattle.json_fields.specs.Numbers.{u32_at}
 use Rattle.json_fields.specs.Outcome.{Reading, ◌>>=◌}
 use Rattle.json_fields.specs.TextJson.{text_form_at, text_form_data}
@@ -20,9 +20,9 @@ use Rattle.cargo_diagnostics.specs.declared.span.DiagnosticSpan.{DiagnosticSpan}
 unfoldable pub line_at : Data → Reading DiagnosticSpanLine
 line_at d = do
   ms ← members_at d
-  text ← required (codes "text") text_at ms
-  highlight_start ← required (codes "highlight_start") number_at ms
-  highlight_end ← required (codes "highlight_end") number_at ms
+  text ← required_member (codes "text") text_at ms
+  highlight_start ← required_member (codes "highlight_start") number_at ms
+  highlight_end ← required_member (codes "highlight_end") number_at ms
   Ok (record { text = text; highlight_start = highlight_start; highlight_end = highlight_end })
 
 -- the document of a line
@@ -36,28 +36,28 @@ line_data l =
 unfoldable pub expansion_row : (Data → Reading DiagnosticSpan) → Data → Reading DiagnosticSpanMacroExpansion
 expansion_row inner d = do
   ms ← members_at d
-  span ← required (codes "span") inner ms
-  macro_decl_name ← required (codes "macro_decl_name") text_at ms
-  def_site_span ← optional (codes "def_site_span") inner ms
+  span ← required_member (codes "span") inner ms
+  macro_decl_name ← required_member (codes "macro_decl_name") text_at ms
+  def_site_span ← optional_member (codes "def_site_span") inner ms
   Ok (roll-DiagnosticSpanMacroExpansion (record { span = span; macro_decl_name = macro_decl_name; def_site_span = def_site_span }))
 
 -- one level of a span, where the spans of its expansion are read by `inner`
 unfoldable pub span_row : (Data → Reading DiagnosticSpan) → Data → Reading DiagnosticSpan
 span_row inner d = do
   ms ← members_at d
-  file_name ← required (codes "file_name") text_at ms
-  byte_start ← required (codes "byte_start") u32_at ms
-  byte_end ← required (codes "byte_end") u32_at ms
-  line_start ← required (codes "line_start") number_at ms
-  line_end ← required (codes "line_end") number_at ms
-  column_start ← required (codes "column_start") number_at ms
-  column_end ← required (codes "column_end") number_at ms
-  is_primary ← required (codes "is_primary") flag_at ms
-  text ← required (codes "text") (list_at line_at) ms
-  label ← optional (codes "label") text_at ms
-  suggested_replacement ← optional (codes "suggested_replacement") text_at ms
-  suggestion_applicability ← optional (codes "suggestion_applicability") (text_form_at applicability_of) ms
-  expansion ← optional (codes "expansion") (expansion_row inner) ms
+  file_name ← required_member (codes "file_name") text_at ms
+  byte_start ← required_member (codes "byte_start") u32_at ms
+  byte_end ← required_member (codes "byte_end") u32_at ms
+  line_start ← required_member (codes "line_start") number_at ms
+  line_end ← required_member (codes "line_end") number_at ms
+  column_start ← required_member (codes "column_start") number_at ms
+  column_end ← required_member (codes "column_end") number_at ms
+  is_primary ← required_member (codes "is_primary") flag_at ms
+  text ← required_member (codes "text") (list_at line_at) ms
+  label ← optional_member (codes "label") text_at ms
+  suggested_replacement ← optional_member (codes "suggested_replacement") text_at ms
+  suggestion_applicability ← optional_member (codes "suggestion_applicability") (text_form_at applicability_of) ms
+  expansion ← optional_member (codes "expansion") (expansion_row inner) ms
   Ok (roll-DiagnosticSpan (record {
     file_name = file_name;
     byte_start = byte_start;
@@ -76,7 +76,7 @@ span_row inner d = do
 
 -- a span of at most n levels
 abbrev pub span_within : ℕ → Data → Reading DiagnosticSpan
-span_within = nested span_row
+span_within = within_levels span_row
 
 -- a span, of as many levels as a document may have
 unfoldable pub span_at : Data → Reading DiagnosticSpan

@@ -14,7 +14,7 @@ use crate::span::DiagnosticSpan;
 use base_text::{Items, Text};
 use json_fields::{
     Json, MAX_LEVELS, Present, ReadError, ReadJson, below_item, inner_levels, member, members,
-    missed, optional, required, required_by, set, set_value,
+    miss, optional_member, required_by, required_member, set, set_value,
 };
 use serde_json::{Map, Value};
 use std::alloc::{AllocError, Global};
@@ -37,15 +37,15 @@ pub struct Diagnostic {
     pub rendered: Option<Text>,
 }
 
-#[tactic(auto, unfolding(crate::specs::Diagnostic::code_at, json_fields::specs::Fields::required, json_fields::specs::Fields::optional))]
+#[tactic(auto, unfolding(crate::specs::Diagnostic::code_at, json_fields::specs::Fields::required_member, json_fields::specs::Fields::optional_member))]
 impl ReadJson for DiagnosticCode {
     ghost reads = { code_at };
 
     fn read(alloc: Global, value: &Value) -> Result<DiagnosticCode, ReadError> {
         let fields = members(alloc, value)?;
         Ok(DiagnosticCode {
-            code: required(alloc, fields, "code")?,
-            explanation: optional(alloc, fields, "explanation")?,
+            code: required_member(alloc, fields, "code")?,
+            explanation: optional_member(alloc, fields, "explanation")?,
         })
     }
 }
@@ -94,13 +94,13 @@ impl Json for Diagnostic {
 }
 
 #[cycle(diagnostic)]
-#[tactic(auto, unfolding(json_fields::specs::Nested::nested))]
+#[tactic(auto, unfolding(json_fields::specs::Nested::within_levels))]
 fn read_diagnostic(alloc: Global, left: usize, value: &Value) -> Result<Diagnostic, ReadError>
     ensures exact { Gives result (diagnostic_within left (view value.now)) }
 {
     match inner_levels(left) {
         Some(inner) => read_level(alloc, inner, value),
-        None => missed(alloc),
+        None => miss(alloc),
     }
 }
 
@@ -111,16 +111,16 @@ fn read_level(alloc: Global, inner: usize, value: &Value) -> Result<Diagnostic, 
 {
     let fields = members(alloc, value)?;
     Ok(Diagnostic {
-        message: required(alloc, fields, "message")?,
-        code: optional(alloc, fields, "code")?,
-        level: required(alloc, fields, "level")?,
-        spans: required(alloc, fields, "spans")?,
+        message: required_member(alloc, fields, "message")?,
+        code: optional_member(alloc, fields, "code")?,
+        level: required_member(alloc, fields, "level")?,
+        spans: required_member(alloc, fields, "spans")?,
         children: required_by(
             alloc,
             "children",
             children_found(alloc, inner, member(fields, "children")),
         )?,
-        rendered: optional(alloc, fields, "rendered")?,
+        rendered: optional_member(alloc, fields, "rendered")?,
     })
 }
 
@@ -135,7 +135,7 @@ fn children_found(
 {
     match value {
         Some(Value::Array(values)) => Some(read_children(alloc, left, values.as_slice())),
-        Some(_) => Some(missed(alloc)),
+        Some(_) => Some(miss(alloc)),
         None => None,
     }
 }

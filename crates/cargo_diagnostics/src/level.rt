@@ -5,7 +5,7 @@ ghost use Rattle.cargo_diagnostics.specs.Levels.{applicability_of, applicability
 ghost use Rattle.cargo_diagnostics.specs.laws.Levels.{applicability_of-again, level_of-again};
 
 use base_text::TryClone;
-use json_fields::{ReadError, TextJson, missed};
+use json_fields::{ReadError, TextJson, miss};
 use std::alloc::{AllocError, Global};
 
 /// How grave a diagnostic is. `Ice` is a fault of the compiler itself.
@@ -57,7 +57,7 @@ impl TextJson for DiagnosticLevel {
             "failure-note" => Ok(DiagnosticLevel::FailureNote),
             "note" => Ok(DiagnosticLevel::Note),
             "help" => Ok(DiagnosticLevel::Help),
-            _ => missed(alloc),
+            _ => miss(alloc),
         }
     }
 
@@ -104,7 +104,7 @@ impl TextJson for Applicability {
             "HasPlaceholders" => Ok(Applicability::HasPlaceholders),
             "MaybeIncorrect" => Ok(Applicability::MaybeIncorrect),
             "Unspecified" => Ok(Applicability::Unspecified),
-            _ => missed(alloc),
+            _ => miss(alloc),
         }
     }
 

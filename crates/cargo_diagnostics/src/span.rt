@@ -11,8 +11,8 @@ ghost use Rattle.cargo_diagnostics.specs.laws.Span.{line-round_trips, span-round
 use crate::level::Applicability;
 use base_text::{Boxed, Items, Text};
 use json_fields::{
-    Json, MAX_LEVELS, ReadError, ReadJson, boxed, inner_levels, member, members, missed, optional,
-    optional_by, present, required, required_by, set, set_value,
+    Json, MAX_LEVELS, ReadError, ReadJson, in_box, inner_levels, member, members, miss,
+    optional_by, optional_member, present, required_by, required_member, set, set_value,
 };
 use serde_json::{Map, Value};
 use std::alloc::{AllocError, Global};
@@ -53,16 +53,16 @@ pub struct DiagnosticSpanMacroExpansion {
     pub def_site_span: Option<DiagnosticSpan>,
 }
 
-#[tactic(auto, unfolding(crate::specs::Span::line_at, json_fields::specs::Fields::required))]
+#[tactic(auto, unfolding(crate::specs::Span::line_at, json_fields::specs::Fields::required_member))]
 impl ReadJson for DiagnosticSpanLine {
     ghost reads = { line_at };
 
     fn read(alloc: Global, value: &Value) -> Result<DiagnosticSpanLine, ReadError> {
         let fields = members(alloc, value)?;
         Ok(DiagnosticSpanLine {
-            text: required(alloc, fields, "text")?,
-            highlight_start: required(alloc, fields, "highlight_start")?,
-            highlight_end: required(alloc, fields, "highlight_end")?,
+            text: required_member(alloc, fields, "text")?,
+            highlight_start: required_member(alloc, fields, "highlight_start")?,
+            highlight_end: required_member(alloc, fields, "highlight_end")?,
         })
     }
 }
@@ -106,13 +106,13 @@ impl Json for DiagnosticSpan {
 }
 
 #[cycle(span)]
-#[tactic(auto, unfolding(json_fields::specs::Nested::nested))]
+#[tactic(auto, unfolding(json_fields::specs::Nested::within_levels))]
 fn read_span(alloc: Global, left: usize, value: &Value) -> Result<DiagnosticSpan, ReadError>
     ensures exact { Gives result (span_within left (view value.now)) }
 {
     match inner_levels(left) {
         Some(inner) => read_level(alloc, inner, value),
-        None => missed(alloc),
+        None => miss(alloc),
     }
 }
 
@@ -123,18 +123,18 @@ fn read_level(alloc: Global, inner: usize, value: &Value) -> Result<DiagnosticSp
 {
     let fields = members(alloc, value)?;
     Ok(DiagnosticSpan {
-        file_name: required(alloc, fields, "file_name")?,
-        byte_start: required(alloc, fields, "byte_start")?,
-        byte_end: required(alloc, fields, "byte_end")?,
-        line_start: required(alloc, fields, "line_start")?,
-        line_end: required(alloc, fields, "line_end")?,
-        column_start: required(alloc, fields, "column_start")?,
-        column_end: required(alloc, fields, "column_end")?,
-        is_primary: required(alloc, fields, "is_primary")?,
-        text: required(alloc, fields, "text")?,
-        label: optional(alloc, fields, "label")?,
-        suggested_replacement: optional(alloc, fields, "suggested_replacement")?,
-        suggestion_applicability: optional(alloc, fields, "suggestion_applicability")?,
+        file_name: required_member(alloc, fields, "file_name")?,
+        byte_start: required_member(alloc, fields, "byte_start")?,
+        byte_end: required_member(alloc, fields, "byte_end")?,
+        line_start: required_member(alloc, fields, "line_start")?,
+        line_end: required_member(alloc, fields, "line_end")?,
+        column_start: required_member(alloc, fields, "column_start")?,
+        column_end: required_member(alloc, fields, "column_end")?,
+        is_primary: required_member(alloc, fields, "is_primary")?,
+        text: required_member(alloc, fields, "text")?,
+        label: optional_member(alloc, fields, "label")?,
+        suggested_replacement: optional_member(alloc, fields, "suggested_replacement")?,
+        suggestion_applicability: optional_member(alloc, fields, "suggestion_applicability")?,
         expansion: optional_by(
             alloc,
             "expansion",
@@ -153,7 +153,7 @@ fn expansion_found(
         (option_map (λ v. view v.now) value.entry) result }
 {
     match value {
-        Some(value) => Some(boxed(alloc, read_expansion(alloc, inner, value))),
+        Some(value) => Some(in_box(alloc, read_expansion(alloc, inner, value))),
         None => None,
     }
 }
@@ -174,7 +174,7 @@ fn read_expansion(
             "span",
             span_found(alloc, inner, member(fields, "span")),
         )?,
-        macro_decl_name: required(alloc, fields, "macro_decl_name")?,
+        macro_decl_name: required_member(alloc, fields, "macro_decl_name")?,
         def_site_span: optional_by(
             alloc,
             "def_site_span",

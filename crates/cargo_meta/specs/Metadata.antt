@@ -1,7 +1,7 @@
 -- the table of a metadata document, in the field order of `cargo metadata`
 use Rattle.std.specs.Prelude.{codes, Ok}
 use Rattle.serde_json.specs.Data.{Data, Members, null, number, object, no_members, string, unsigned}
-use Rattle.json_fields.specs.Fields.{any_at, defaulted, list_at, members_at, number_at, optional, required, text_at}
+use Rattle.json_fields.specs.Fields.{any_at, default_member, list_at, members_at, number_at, optional_member, required_member, text_at}
 use Rattle.json_fields.specs.Outcome.{Reading, ◌>>=◌}
 use Rattle.json_fields.specs.Written.{list_data, option_data, set_member, set_unless_null}
 use Rattle.cargo_values.specs.Names.{package_id_at, package_id_data}
@@ -12,15 +12,15 @@ use Rattle.cargo_meta.specs.declared.metadata.Metadata.{Metadata}
 -- a document as its members give it
 unfoldable pub metadata_from : Members → Reading Metadata
 metadata_from ms = do
-  packages ← required (codes "packages") (list_at package_at) ms
-  workspace_members ← required (codes "workspace_members") (list_at package_id_at) ms
-  workspace_default_members ← optional (codes "workspace_default_members") (list_at package_id_at) ms
-  resolve ← optional (codes "resolve") resolve_at ms
-  workspace_root ← required (codes "workspace_root") text_at ms
-  target_directory ← required (codes "target_directory") text_at ms
-  build_directory ← optional (codes "build_directory") text_at ms
-  workspace_metadata ← defaulted (codes "metadata") null any_at ms
-  version ← required (codes "version") number_at ms
+  packages ← required_member (codes "packages") (list_at package_at) ms
+  workspace_members ← required_member (codes "workspace_members") (list_at package_id_at) ms
+  workspace_default_members ← optional_member (codes "workspace_default_members") (list_at package_id_at) ms
+  resolve ← optional_member (codes "resolve") resolve_at ms
+  workspace_root ← required_member (codes "workspace_root") text_at ms
+  target_directory ← required_member (codes "target_directory") text_at ms
+  build_directory ← optional_member (codes "build_directory") text_at ms
+  workspace_metadata ← default_member (codes "metadata") null any_at ms
+  version ← required_member (codes "version") number_at ms
   Ok (record {
     packages = packages;
     workspace_members = workspace_members;

@@ -1,7 +1,7 @@
 -- the table of a package, in the field order of `cargo metadata`: three groups of eight rows, each read into the package
 use Rattle.std.specs.Prelude.{◌≡◌, [], codes, false, refl, Ok}
 use Rattle.serde_json.specs.Data.{Data, null, object, string, Members, no_members}
-use Rattle.json_fields.specs.Fields.{any_at, defaulted, list_at, map_at, members_at, optional, required, text_at}
+use Rattle.json_fields.specs.Fields.{any_at, default_member, list_at, map_at, members_at, optional_member, required_member, text_at}
 use Rattle.json_fields.specs.Outcome.{Reading, ◌>>=◌}
 use Rattle.json_fields.specs.Versions.{bare_at, version_at, version_data}
 use Rattle.json_fields.specs.Written.{is_null, list_data, map_data, option_data, set_member, set_unless_null}
@@ -17,14 +17,14 @@ use Rattle.cargo_meta.specs.declared.package_rows.PackageHead.{PackageHead}
 -- the first eight rows
 unfoldable pub head_rows : Members → Reading PackageHead
 head_rows ms = do
-  name ← required (codes "name") text_at ms
-  version ← required (codes "version") version_at ms
-  authors ← defaulted (codes "authors") [] (list_at text_at) ms
-  id ← required (codes "id") package_id_at ms
-  source ← optional (codes "source") source_at ms
-  description ← optional (codes "description") text_at ms
-  dependencies ← required (codes "dependencies") (list_at dependency_at) ms
-  license ← optional (codes "license") text_at ms
+  name ← required_member (codes "name") text_at ms
+  version ← required_member (codes "version") version_at ms
+  authors ← default_member (codes "authors") [] (list_at text_at) ms
+  id ← required_member (codes "id") package_id_at ms
+  source ← optional_member (codes "source") source_at ms
+  description ← optional_member (codes "description") text_at ms
+  dependencies ← required_member (codes "dependencies") (list_at dependency_at) ms
+  license ← optional_member (codes "license") text_at ms
   Ok (record {
     name = name;
     version = version;
@@ -55,14 +55,14 @@ head_from ms = do
 -- the next eight rows of a package
 unfoldable pub body_from : Package → Members → Reading Package
 body_from p ms = do
-  license_file ← optional (codes "license_file") text_at ms
-  targets ← required (codes "targets") (list_at target_at) ms
-  features ← required (codes "features") (map_at (list_at text_at)) ms
-  manifest_path ← required (codes "manifest_path") text_at ms
-  categories ← defaulted (codes "categories") [] (list_at text_at) ms
-  keywords ← defaulted (codes "keywords") [] (list_at text_at) ms
-  readme ← optional (codes "readme") text_at ms
-  repository ← optional (codes "repository") text_at ms
+  license_file ← optional_member (codes "license_file") text_at ms
+  targets ← required_member (codes "targets") (list_at target_at) ms
+  features ← required_member (codes "features") (map_at (list_at text_at)) ms
+  manifest_path ← required_member (codes "manifest_path") text_at ms
+  categories ← default_member (codes "categories") [] (list_at text_at) ms
+  keywords ← default_member (codes "keywords") [] (list_at text_at) ms
+  readme ← optional_member (codes "readme") text_at ms
+  repository ← optional_member (codes "repository") text_at ms
   Ok (record p {
     license_file = license_file;
     targets = targets;
@@ -77,14 +77,14 @@ body_from p ms = do
 -- the last eight rows of a package
 unfoldable pub tail_from : Package → Members → Reading Package
 tail_from p ms = do
-  homepage ← optional (codes "homepage") text_at ms
-  documentation ← optional (codes "documentation") text_at ms
-  edition ← defaulted (codes "edition") E2015 edition_at ms
-  metadata ← defaulted (codes "metadata") null any_at ms
-  links ← optional (codes "links") text_at ms
-  publish ← optional (codes "publish") (list_at text_at) ms
-  default_run ← optional (codes "default_run") text_at ms
-  rust_version ← optional (codes "rust_version") bare_at ms
+  homepage ← optional_member (codes "homepage") text_at ms
+  documentation ← optional_member (codes "documentation") text_at ms
+  edition ← default_member (codes "edition") E2015 edition_at ms
+  metadata ← default_member (codes "metadata") null any_at ms
+  links ← optional_member (codes "links") text_at ms
+  publish ← optional_member (codes "publish") (list_at text_at) ms
+  default_run ← optional_member (codes "default_run") text_at ms
+  rust_version ← optional_member (codes "rust_version") bare_at ms
   Ok (record p {
     homepage = homepage;
     documentation = documentation;

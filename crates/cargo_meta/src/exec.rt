@@ -12,7 +12,7 @@ ghost use Rattle.cargo_meta.specs.Metadata.{metadata_at, metadata_data};
 
 use crate::command::MetadataCommand;
 use crate::metadata::Metadata;
-use crate::words::joined;
+use crate::words::join_texts;
 use base_text::{CommandLine, Output, Runner, Text};
 use cargo_values::{Error, as_error};
 use json_fields::of_text;
@@ -52,7 +52,7 @@ fn line_text(alloc: Global, line: &CommandLine) -> Result<Text, AllocError>
     if words.is_empty() {
         return Text::of_str(alloc, program);
     }
-    let words = joined(alloc, words, " ")?;
+    let words = join_texts(alloc, words, " ")?;
     let text = format!(in alloc; "{program} {words}")?;
     Ok(Text::new(text))
 }

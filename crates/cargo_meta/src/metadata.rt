@@ -12,8 +12,8 @@ use crate::package::Package;
 use base_text::{Items, Text, TryClone};
 use cargo_values::{PackageId, Resolve};
 use json_fields::{
-    AnyValue, Json, ReadError, ReadJson, defaulted, members, optional, required, set,
-    set_unless_null,
+    AnyValue, Json, ReadError, ReadJson, default_member, members, optional_member, required_member,
+    set, set_unless_null,
 };
 use serde_json::{Map, Value};
 use std::alloc::{AllocError, Global};
@@ -191,19 +191,19 @@ impl Json for Metadata {
     ghost round_trips = { metadata-round_trips };
 }
 
-#[tactic(auto, unfolding(crate::specs::Metadata::metadata_from, json_fields::specs::Fields::required, json_fields::specs::Fields::optional, json_fields::specs::Fields::defaulted))]
+#[tactic(auto, unfolding(crate::specs::Metadata::metadata_from, json_fields::specs::Fields::required_member, json_fields::specs::Fields::optional_member, json_fields::specs::Fields::default_member))]
 fn read_metadata(alloc: Global, fields: &Map<String, Value>) -> Result<Metadata, ReadError>
     ensures exact { Gives result (metadata_from (members_view fields.now.entries)) }
 {
-    let packages = required(alloc, fields, "packages")?;
-    let workspace_members = required(alloc, fields, "workspace_members")?;
-    let default_members = optional(alloc, fields, "workspace_default_members")?;
-    let resolve = optional(alloc, fields, "resolve")?;
-    let workspace_root = required(alloc, fields, "workspace_root")?;
-    let target_directory = required(alloc, fields, "target_directory")?;
-    let build_directory = optional(alloc, fields, "build_directory")?;
-    let workspace_metadata = defaulted(alloc, fields, "metadata", AnyValue::null())?;
-    let version = required(alloc, fields, "version")?;
+    let packages = required_member(alloc, fields, "packages")?;
+    let workspace_members = required_member(alloc, fields, "workspace_members")?;
+    let default_members = optional_member(alloc, fields, "workspace_default_members")?;
+    let resolve = optional_member(alloc, fields, "resolve")?;
+    let workspace_root = required_member(alloc, fields, "workspace_root")?;
+    let target_directory = required_member(alloc, fields, "target_directory")?;
+    let build_directory = optional_member(alloc, fields, "build_directory")?;
+    let workspace_metadata = default_member(alloc, fields, "metadata", AnyValue::null())?;
+    let version = required_member(alloc, fields, "version")?;
     Ok(Metadata {
         packages,
         workspace_members,

@@ -9,7 +9,8 @@ use crate::package::{Package, new_package};
 use base_text::{Items, Text, Version};
 use cargo_values::{Dependency, Edition, PackageId, PackageName, Source};
 use json_fields::{
-    AnyValue, BareVersion, ReadError, defaulted, listed, optional, required, set, set_unless_null,
+    AnyValue, BareVersion, ReadError, default_member, list_member, optional_member,
+    required_member, set, set_unless_null,
 };
 use serde_json::{Map, Value};
 use std::alloc::{AllocError, Global};
@@ -27,18 +28,18 @@ struct PackageHead {
     license: Option<Text>,
 }
 
-#[tactic(auto, unfolding(crate::specs::Package::head_rows, json_fields::specs::Fields::required, json_fields::specs::Fields::optional, json_fields::specs::Fields::defaulted))]
+#[tactic(auto, unfolding(crate::specs::Package::head_rows, json_fields::specs::Fields::required_member, json_fields::specs::Fields::optional_member, json_fields::specs::Fields::default_member))]
 fn read_head_rows(alloc: Global, fields: &Map<String, Value>) -> Result<PackageHead, ReadError>
     ensures exact { Gives result (head_rows (members_view fields.now.entries)) }
 {
-    let name = required(alloc, fields, "name")?;
-    let version = required(alloc, fields, "version")?;
-    let authors = listed(alloc, fields, "authors")?;
-    let id = required(alloc, fields, "id")?;
-    let source = optional(alloc, fields, "source")?;
-    let description = optional(alloc, fields, "description")?;
-    let dependencies = required(alloc, fields, "dependencies")?;
-    let license = optional(alloc, fields, "license")?;
+    let name = required_member(alloc, fields, "name")?;
+    let version = required_member(alloc, fields, "version")?;
+    let authors = list_member(alloc, fields, "authors")?;
+    let id = required_member(alloc, fields, "id")?;
+    let source = optional_member(alloc, fields, "source")?;
+    let description = optional_member(alloc, fields, "description")?;
+    let dependencies = required_member(alloc, fields, "dependencies")?;
+    let license = optional_member(alloc, fields, "license")?;
     Ok(PackageHead {
         name,
         version,
@@ -74,7 +75,7 @@ pub(crate) fn read_head(alloc: Global, fields: &Map<String, Value>) -> Result<Pa
     Ok(of_head(alloc, rows))
 }
 
-#[tactic(auto, unfolding(crate::specs::Package::body_from, json_fields::specs::Fields::required, json_fields::specs::Fields::optional, json_fields::specs::Fields::defaulted))]
+#[tactic(auto, unfolding(crate::specs::Package::body_from, json_fields::specs::Fields::required_member, json_fields::specs::Fields::optional_member, json_fields::specs::Fields::default_member))]
 pub(crate) fn read_body(
     alloc: Global,
     fields: &Map<String, Value>,
@@ -82,14 +83,14 @@ pub(crate) fn read_body(
 ) -> Result<Package, ReadError>
     ensures exact { Gives result (body_from head (members_view fields.now.entries)) }
 {
-    let license_file = optional(alloc, fields, "license_file")?;
-    let targets = required(alloc, fields, "targets")?;
-    let features = required(alloc, fields, "features")?;
-    let manifest_path = required(alloc, fields, "manifest_path")?;
-    let categories = listed(alloc, fields, "categories")?;
-    let keywords = listed(alloc, fields, "keywords")?;
-    let readme = optional(alloc, fields, "readme")?;
-    let repository = optional(alloc, fields, "repository")?;
+    let license_file = optional_member(alloc, fields, "license_file")?;
+    let targets = required_member(alloc, fields, "targets")?;
+    let features = required_member(alloc, fields, "features")?;
+    let manifest_path = required_member(alloc, fields, "manifest_path")?;
+    let categories = list_member(alloc, fields, "categories")?;
+    let keywords = list_member(alloc, fields, "keywords")?;
+    let readme = optional_member(alloc, fields, "readme")?;
+    let repository = optional_member(alloc, fields, "repository")?;
     Ok(Package {
         license_file,
         targets,
@@ -103,7 +104,7 @@ pub(crate) fn read_body(
     })
 }
 
-#[tactic(auto, unfolding(crate::specs::Package::tail_from, json_fields::specs::Fields::required, json_fields::specs::Fields::optional, json_fields::specs::Fields::defaulted))]
+#[tactic(auto, unfolding(crate::specs::Package::tail_from, json_fields::specs::Fields::required_member, json_fields::specs::Fields::optional_member, json_fields::specs::Fields::default_member))]
 pub(crate) fn read_tail(
     alloc: Global,
     fields: &Map<String, Value>,
@@ -111,14 +112,14 @@ pub(crate) fn read_tail(
 ) -> Result<Package, ReadError>
     ensures exact { Gives result (tail_from body (members_view fields.now.entries)) }
 {
-    let homepage = optional(alloc, fields, "homepage")?;
-    let documentation = optional(alloc, fields, "documentation")?;
-    let edition = defaulted(alloc, fields, "edition", Edition::E2015)?;
-    let metadata = defaulted(alloc, fields, "metadata", AnyValue::null())?;
-    let links = optional(alloc, fields, "links")?;
-    let publish = optional(alloc, fields, "publish")?;
-    let default_run = optional(alloc, fields, "default_run")?;
-    let rust_version = optional(alloc, fields, "rust_version")?;
+    let homepage = optional_member(alloc, fields, "homepage")?;
+    let documentation = optional_member(alloc, fields, "documentation")?;
+    let edition = default_member(alloc, fields, "edition", Edition::E2015)?;
+    let metadata = default_member(alloc, fields, "metadata", AnyValue::null())?;
+    let links = optional_member(alloc, fields, "links")?;
+    let publish = optional_member(alloc, fields, "publish")?;
+    let default_run = optional_member(alloc, fields, "default_run")?;
+    let rust_version = optional_member(alloc, fields, "rust_version")?;
     Ok(Package {
         homepage,
         documentation,

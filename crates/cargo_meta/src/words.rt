@@ -83,13 +83,13 @@ pub(crate) fn push_features(
     if features.is_empty() {
         return Ok(());
     }
-    let names = joined(alloc, features, ",")?;
+    let names = join_texts(alloc, features, ",")?;
     push(alloc, words, "--features")?;
     push(alloc, words, names.as_str())
 }
 
 /// The texts, with one between each two.
-pub(crate) fn joined(alloc: Global, texts: &[Text], between: &str) -> Result<String, AllocError>
+pub(crate) fn join_texts(alloc: Global, texts: &[Text], between: &str) -> Result<String, AllocError>
     ensures { IfOk result (λ whole. string_bytes whole ≡ spec.joined_text between.now texts.now) }
 {
     let pieces: Vec<&str> = texts.iter().map(|text| text.as_str()).collect(alloc)?;

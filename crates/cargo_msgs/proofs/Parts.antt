@@ -1,7 +1,7 @@
 -- an artifact is read in two parts: its package and target, and then how it was built
 use Rattle.std.proofs.Common.{◌≡◌, ℕ, Bool, List, [], Option, Ok, Err, codes, refl}
 use Rattle.serde_json.specs.Data.{Members}
-use Rattle.json_fields.specs.Fields.{defaulted, flag_at, list_at, optional, required, text_at}
+use Rattle.json_fields.specs.Fields.{default_member, flag_at, list_at, optional_member, required_member, text_at}
 use Rattle.json_fields.specs.Outcome.{Reading, ◌>>=◌}
 use Rattle.cargo_values.specs.Names.{package_id_at}
 use Rattle.cargo_values.specs.Target.{target_at}
@@ -51,9 +51,9 @@ in_parts (Ok i) (Ok m) (Ok t) (Ok p) (Ok fs) (Ok ns) (Ok x) (Err e) = refl
 in_parts (Ok i) (Ok m) (Ok t) (Ok p) (Ok fs) (Ok ns) (Ok x) (Ok f) = refl
 
 pub artifact_in_parts : (ms : Members)
-    → artifact_from ms ≡ parts (required (codes "package_id") package_id_at ms) (defaulted (codes "manifest_path") [] text_at ms)
-    (required (codes "target") target_at ms) (build_from ms)
+    → artifact_from ms ≡ parts (required_member (codes "package_id") package_id_at ms) (default_member (codes "manifest_path") [] text_at ms)
+    (required_member (codes "target") target_at ms) (build_from ms)
 unfolding artifact_from build_from
-artifact_in_parts ms = in_parts (required (codes "package_id") package_id_at ms) (defaulted (codes "manifest_path") [] text_at ms)
-    (required (codes "target") target_at ms) (required (codes "profile") profile_at ms) (required (codes "features") (list_at text_at) ms)
-    (required (codes "filenames") (list_at text_at) ms) (optional (codes "executable") text_at ms) (required (codes "fresh") flag_at ms)
+artifact_in_parts ms = in_parts (required_member (codes "package_id") package_id_at ms) (default_member (codes "manifest_path") [] text_at ms)
+    (required_member (codes "target") target_at ms) (required_member (codes "profile") profile_at ms) (required_member (codes "features") (list_at text_at) ms)
+    (required_member (codes "filenames") (list_at text_at) ms) (optional_member (codes "executable") text_at ms) (required_member (codes "fresh") flag_at ms)

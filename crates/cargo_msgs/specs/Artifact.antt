@@ -1,7 +1,7 @@
 -- the tables of an artifact and of its profile, in the field order of `cargo`'s messages
 use Rattle.std.specs.Prelude.{[], codes, Ok}
 use Rattle.serde_json.specs.Data.{Data, Members, object, no_members, boolean, string}
-use Rattle.json_fields.specs.Fields.{defaulted, flag_at, list_at, members_at, optional, required, text_at}
+use Rattle.json_fields.specs.Fields.{default_member, flag_at, list_at, members_at, optional_member, required_member, text_at}
 use Rattle.json_fields.specs.Outcome.{Reading, ◌>>=◌}
 use Rattle.json_fields.specs.Written.{list_data, option_data, set_member}
 use Rattle.cargo_values.specs.Names.{package_id_at, package_id_data}
@@ -16,11 +16,11 @@ use Rattle.cargo_msgs.specs.declared.debuginfo.ArtifactDebuginfo.TheVariants as 
 unfoldable pub profile_at : Data → Reading ArtifactProfile
 profile_at d = do
   ms ← members_at d
-  opt_level ← required (codes "opt_level") text_at ms
-  info ← defaulted (codes "debuginfo") debuginfo.None debuginfo_at ms
-  debug_assertions ← required (codes "debug_assertions") flag_at ms
-  overflow_checks ← required (codes "overflow_checks") flag_at ms
-  test ← required (codes "test") flag_at ms
+  opt_level ← required_member (codes "opt_level") text_at ms
+  info ← default_member (codes "debuginfo") debuginfo.None debuginfo_at ms
+  debug_assertions ← required_member (codes "debug_assertions") flag_at ms
+  overflow_checks ← required_member (codes "overflow_checks") flag_at ms
+  test ← required_member (codes "test") flag_at ms
   Ok (record { opt_level = opt_level; debuginfo = info; debug_assertions = debug_assertions; overflow_checks = overflow_checks; test = test })
 
 -- the document of a profile
@@ -35,14 +35,14 @@ profile_data p =
 -- an artifact, by the members of its document
 unfoldable pub artifact_from : Members → Reading Artifact
 artifact_from ms = do
-  package_id ← required (codes "package_id") package_id_at ms
-  manifest_path ← defaulted (codes "manifest_path") [] text_at ms
-  target ← required (codes "target") target_at ms
-  profile ← required (codes "profile") profile_at ms
-  features ← required (codes "features") (list_at text_at) ms
-  filenames ← required (codes "filenames") (list_at text_at) ms
-  executable ← optional (codes "executable") text_at ms
-  fresh ← required (codes "fresh") flag_at ms
+  package_id ← required_member (codes "package_id") package_id_at ms
+  manifest_path ← default_member (codes "manifest_path") [] text_at ms
+  target ← required_member (codes "target") target_at ms
+  profile ← required_member (codes "profile") profile_at ms
+  features ← required_member (codes "features") (list_at text_at) ms
+  filenames ← required_member (codes "filenames") (list_at text_at) ms
+  executable ← optional_member (codes "executable") text_at ms
+  fresh ← required_member (codes "fresh") flag_at ms
   Ok (record {
     package_id = package_id;
     manifest_path = manifest_path;
@@ -57,11 +57,11 @@ artifact_from ms = do
 -- how an artifact was built, and its files, by the members of its document
 unfoldable pub build_from : Members → Reading ArtifactBuild
 build_from ms = do
-  profile ← required (codes "profile") profile_at ms
-  features ← required (codes "features") (list_at text_at) ms
-  filenames ← required (codes "filenames") (list_at text_at) ms
-  executable ← optional (codes "executable") text_at ms
-  fresh ← required (codes "fresh") flag_at ms
+  profile ← required_member (codes "profile") profile_at ms
+  features ← required_member (codes "features") (list_at text_at) ms
+  filenames ← required_member (codes "filenames") (list_at text_at) ms
+  executable ← optional_member (codes "executable") text_at ms
+  fresh ← required_member (codes "fresh") flag_at ms
   Ok (record { profile = profile; features = features; filenames = filenames; executable = executable; fresh = fresh })
 
 -- an artifact as its document gives it

@@ -1,7 +1,7 @@
 -- the tables of a build script and of a build's end, in the field order of `cargo`'s messages
 use Rattle.std.specs.Prelude.{[], codes, Ok}
 use Rattle.serde_json.specs.Data.{Data, Members, object, no_members, boolean, string}
-use Rattle.json_fields.specs.Fields.{defaulted, flag_at, list_at, members_at, required, text_at}
+use Rattle.json_fields.specs.Fields.{default_member, flag_at, list_at, members_at, required_member, text_at}
 use Rattle.json_fields.specs.Outcome.{Reading, ◌>>=◌}
 use Rattle.json_fields.specs.Pairs.{pair_at, pair_data}
 use Rattle.json_fields.specs.Written.{list_data, set_member}
@@ -12,12 +12,12 @@ use Rattle.cargo_msgs.specs.declared.build.BuildScript.{BuildScript}
 -- a build script, by the members of its document
 unfoldable pub build_script_from : Members → Reading BuildScript
 build_script_from ms = do
-  package_id ← required (codes "package_id") package_id_at ms
-  linked_libs ← required (codes "linked_libs") (list_at text_at) ms
-  linked_paths ← required (codes "linked_paths") (list_at text_at) ms
-  cfgs ← required (codes "cfgs") (list_at text_at) ms
-  env ← required (codes "env") (list_at (pair_at text_at text_at)) ms
-  out_dir ← defaulted (codes "out_dir") [] text_at ms
+  package_id ← required_member (codes "package_id") package_id_at ms
+  linked_libs ← required_member (codes "linked_libs") (list_at text_at) ms
+  linked_paths ← required_member (codes "linked_paths") (list_at text_at) ms
+  cfgs ← required_member (codes "cfgs") (list_at text_at) ms
+  env ← required_member (codes "env") (list_at (pair_at text_at text_at)) ms
+  out_dir ← default_member (codes "out_dir") [] text_at ms
   Ok (record {
     package_id = package_id;
     linked_libs = linked_libs;
@@ -44,7 +44,7 @@ build_script_data s =
 -- the end of a build, by the members of its document
 unfoldable pub build_finished_from : Members → Reading BuildFinished
 build_finished_from ms = do
-  success ← required (codes "success") flag_at ms
+  success ← required_member (codes "success") flag_at ms
   Ok (record { success = success })
 
 -- the end of a build as its document gives it

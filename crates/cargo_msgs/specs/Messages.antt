@@ -4,7 +4,7 @@ use Rattle.serde_json.specs.Data.{Data, Members, null, boolean, number, string, 
 use Rattle.serde_json.specs.Read.{max_depth, read}
 use Rattle.serde_json.specs.Written.{has_float}
 use Rattle.json_fields.specs.Document.{document}
-use Rattle.json_fields.specs.Fields.{members_at, required, text_at, under}
+use Rattle.json_fields.specs.Fields.{members_at, required_member, text_at, under}
 use Rattle.json_fields.specs.Outcome.{Reading, ◌>>=◌, below_key}
 use Rattle.json_fields.specs.Written.{set_member}
 use Rattle.cargo_values.specs.Names.{package_id_at, package_id_data}
@@ -19,9 +19,9 @@ use Rattle.cargo_msgs.specs.declared.messages.Message.TheVariants as message
 -- what the compiler said, by the members of its document
 unfoldable pub compiler_message_from : Members → Reading CompilerMessage
 compiler_message_from ms = do
-  package_id ← required (codes "package_id") package_id_at ms
-  target ← required (codes "target") target_at ms
-  diagnostic ← required (codes "message") diagnostic_at ms
+  package_id ← required_member (codes "package_id") package_id_at ms
+  target ← required_member (codes "target") target_at ms
+  diagnostic ← required_member (codes "message") diagnostic_at ms
   Ok (record { package_id = package_id; target = target; message = diagnostic })
 
 -- what the compiler said, as its document gives it
@@ -47,7 +47,7 @@ message_by reason ms =
 -- a message, by the members of its document
 unfoldable pub message_from : Members → Reading Message
 message_from ms = do
-  reason ← required (codes "reason") text_at ms
+  reason ← required_member (codes "reason") text_at ms
   message_by reason ms
 
 -- a message as its document gives it

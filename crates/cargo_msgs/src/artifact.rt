@@ -9,7 +9,9 @@ ghost use Rattle.cargo_msgs.specs.laws.Artifact.{artifact-round_trips, profile-r
 use crate::debuginfo::ArtifactDebuginfo;
 use base_text::{Items, Text, TryClone};
 use cargo_meta::{PackageId, Target};
-use json_fields::{Json, ReadError, ReadJson, defaulted, members, optional, required, set};
+use json_fields::{
+    Json, ReadError, ReadJson, default_member, members, optional_member, required_member, set,
+};
 use serde_json::{Map, Value};
 use std::alloc::{AllocError, Global};
 
@@ -66,18 +68,18 @@ impl TryClone for Artifact {
     }
 }
 
-#[tactic(auto, unfolding(crate::specs::Artifact::profile_at, json_fields::specs::Fields::required, json_fields::specs::Fields::defaulted))]
+#[tactic(auto, unfolding(crate::specs::Artifact::profile_at, json_fields::specs::Fields::required_member, json_fields::specs::Fields::default_member))]
 impl ReadJson for ArtifactProfile {
     ghost reads = { profile_at };
 
     fn read(alloc: Global, value: &Value) -> Result<ArtifactProfile, ReadError> {
         let fields = members(alloc, value)?;
         Ok(ArtifactProfile {
-            opt_level: required(alloc, fields, "opt_level")?,
-            debuginfo: defaulted(alloc, fields, "debuginfo", ArtifactDebuginfo::None)?,
-            debug_assertions: required(alloc, fields, "debug_assertions")?,
-            overflow_checks: required(alloc, fields, "overflow_checks")?,
-            test: required(alloc, fields, "test")?,
+            opt_level: required_member(alloc, fields, "opt_level")?,
+            debuginfo: default_member(alloc, fields, "debuginfo", ArtifactDebuginfo::None)?,
+            debug_assertions: required_member(alloc, fields, "debug_assertions")?,
+            overflow_checks: required_member(alloc, fields, "overflow_checks")?,
+            test: required_member(alloc, fields, "test")?,
         })
     }
 }
@@ -126,31 +128,31 @@ struct ArtifactBuild {
     fresh: bool,
 }
 
-#[tactic(auto, unfolding(crate::specs::Artifact::build_from, json_fields::specs::Fields::required, json_fields::specs::Fields::optional))]
+#[tactic(auto, unfolding(crate::specs::Artifact::build_from, json_fields::specs::Fields::required_member, json_fields::specs::Fields::optional_member))]
 fn read_build(alloc: Global, fields: &Map<String, Value>) -> Result<ArtifactBuild, ReadError>
     ensures exact { Gives result (build_from (members_view fields.now.entries)) }
 {
     Ok(ArtifactBuild {
-        profile: required(alloc, fields, "profile")?,
-        features: required(alloc, fields, "features")?,
-        filenames: required(alloc, fields, "filenames")?,
-        executable: optional(alloc, fields, "executable")?,
-        fresh: required(alloc, fields, "fresh")?,
+        profile: required_member(alloc, fields, "profile")?,
+        features: required_member(alloc, fields, "features")?,
+        filenames: required_member(alloc, fields, "filenames")?,
+        executable: optional_member(alloc, fields, "executable")?,
+        fresh: required_member(alloc, fields, "fresh")?,
     })
 }
 
 /// An artifact of an object's members.
-#[tactic(auto, using(crate::proofs::Parts::artifact_in_parts), unfolding(json_fields::specs::Fields::required, json_fields::specs::Fields::defaulted))]
+#[tactic(auto, using(crate::proofs::Parts::artifact_in_parts), unfolding(json_fields::specs::Fields::required_member, json_fields::specs::Fields::default_member))]
 pub(crate) fn read_artifact(
     alloc: Global,
     fields: &Map<String, Value>,
 ) -> Result<Artifact, ReadError>
     ensures exact { Gives result (artifact_from (members_view fields.now.entries)) }
 {
-    let package_id = required(alloc, fields, "package_id")?;
+    let package_id = required_member(alloc, fields, "package_id")?;
     let no_manifest = Text::new(String::new(alloc));
-    let manifest_path = defaulted(alloc, fields, "manifest_path", no_manifest)?;
-    let target = required(alloc, fields, "target")?;
+    let manifest_path = default_member(alloc, fields, "manifest_path", no_manifest)?;
+    let target = required_member(alloc, fields, "target")?;
     let build = read_build(alloc, fields)?;
     Ok(Artifact {
         package_id,

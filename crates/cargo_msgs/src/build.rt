@@ -8,7 +8,7 @@ ghost use Rattle.cargo_msgs.specs.laws.Build.{build_finished-round_trips, build_
 
 use base_text::{Items, Text, TryClone};
 use cargo_meta::PackageId;
-use json_fields::{Json, ReadError, ReadJson, defaulted, members, required, set};
+use json_fields::{Json, ReadError, ReadJson, default_member, members, required_member, set};
 use serde_json::{Map, Value};
 use std::alloc::{AllocError, Global};
 
@@ -63,7 +63,7 @@ impl ReadJson for BuildScript {
 }
 
 /// A build script of an object's members.
-#[tactic(auto, unfolding(crate::specs::Build::build_script_from, json_fields::specs::Fields::required, json_fields::specs::Fields::defaulted))]
+#[tactic(auto, unfolding(crate::specs::Build::build_script_from, json_fields::specs::Fields::required_member, json_fields::specs::Fields::default_member))]
 pub(crate) fn read_build_script(
     alloc: Global,
     fields: &Map<String, Value>,
@@ -71,12 +71,12 @@ pub(crate) fn read_build_script(
     ensures exact { Gives result (build_script_from (members_view fields.now.entries)) }
 {
     Ok(BuildScript {
-        package_id: required(alloc, fields, "package_id")?,
-        linked_libs: required(alloc, fields, "linked_libs")?,
-        linked_paths: required(alloc, fields, "linked_paths")?,
-        cfgs: required(alloc, fields, "cfgs")?,
-        env: required(alloc, fields, "env")?,
-        out_dir: defaulted(alloc, fields, "out_dir", Text::new(String::new(alloc)))?,
+        package_id: required_member(alloc, fields, "package_id")?,
+        linked_libs: required_member(alloc, fields, "linked_libs")?,
+        linked_paths: required_member(alloc, fields, "linked_paths")?,
+        cfgs: required_member(alloc, fields, "cfgs")?,
+        env: required_member(alloc, fields, "env")?,
+        out_dir: default_member(alloc, fields, "out_dir", Text::new(String::new(alloc)))?,
     })
 }
 
@@ -111,7 +111,7 @@ impl ReadJson for BuildFinished {
 }
 
 /// The end of a build, of an object's members.
-#[tactic(auto, unfolding(crate::specs::Build::build_finished_from, json_fields::specs::Fields::required))]
+#[tactic(auto, unfolding(crate::specs::Build::build_finished_from, json_fields::specs::Fields::required_member))]
 pub(crate) fn read_build_finished(
     alloc: Global,
     fields: &Map<String, Value>,
@@ -119,7 +119,7 @@ pub(crate) fn read_build_finished(
     ensures exact { Gives result (build_finished_from (members_view fields.now.entries)) }
 {
     Ok(BuildFinished {
-        success: required(alloc, fields, "success")?,
+        success: required_member(alloc, fields, "success")?,
     })
 }
 

@@ -7,7 +7,7 @@ ghost use Rattle.cargo_msgs.specs.Debuginfo.{debuginfo_at, debuginfo_data, debug
 ghost use Rattle.cargo_msgs.specs.laws.Debuginfo.{debuginfo-round_trips};
 
 use base_text::{Text, TryClone};
-use json_fields::{Json, ReadError, ReadJson, missed};
+use json_fields::{Json, ReadError, ReadJson, miss};
 use serde_json::Value;
 use std::alloc::{AllocError, Global};
 use std::fmt;
@@ -92,7 +92,7 @@ impl ReadJson for ArtifactDebuginfo {
             Value::Null => Ok(ArtifactDebuginfo::None),
             Value::Number(_) => Ok(ArtifactDebuginfo::of_number(i64::read(alloc, value)?)),
             Value::String(name) => Ok(ArtifactDebuginfo::of_name(alloc, name.as_str())?),
-            _ => missed(alloc),
+            _ => miss(alloc),
         }
     }
 }

@@ -12,7 +12,7 @@ use base_text::{Text, TryClone};
 use cargo_diagnostics::Diagnostic;
 use cargo_meta::{PackageId, Target};
 use json_fields::{
-    Json, ReadError, ReadJson, below, members, missed, of_text, required, set, set_value,
+    Json, ReadError, ReadJson, below, members, miss, of_text, required_member, set, set_value,
 };
 use serde_json::{Map, Value};
 use std::alloc::{AllocError, Global};
@@ -99,7 +99,7 @@ impl ReadJson for CompilerMessage {
     }
 }
 
-#[tactic(auto, unfolding(crate::specs::Messages::compiler_message_from, json_fields::specs::Fields::required))]
+#[tactic(auto, unfolding(crate::specs::Messages::compiler_message_from, json_fields::specs::Fields::required_member))]
 fn read_compiler_message(
     alloc: Global,
     fields: &Map<String, Value>,
@@ -107,9 +107,9 @@ fn read_compiler_message(
     ensures exact { Gives result (compiler_message_from (members_view fields.now.entries)) }
 {
     Ok(CompilerMessage {
-        package_id: required(alloc, fields, "package_id")?,
-        target: required(alloc, fields, "target")?,
-        message: required(alloc, fields, "message")?,
+        package_id: required_member(alloc, fields, "package_id")?,
+        target: required_member(alloc, fields, "target")?,
+        message: required_member(alloc, fields, "message")?,
     })
 }
 
@@ -136,7 +136,7 @@ impl ReadJson for Message {
 
     fn read(alloc: Global, value: &Value) -> Result<Message, ReadError> {
         let fields = members(alloc, value)?;
-        let reason: Text = required(alloc, fields, "reason")?;
+        let reason: Text = required_member(alloc, fields, "reason")?;
         read_by_reason(alloc, reason.as_str(), fields)
     }
 }
@@ -156,7 +156,7 @@ fn read_by_reason(
             Ok(Message::BuildScriptExecuted(read_build_script(alloc, fields)?))
         }
         "build-finished" => Ok(Message::BuildFinished(read_build_finished(alloc, fields)?)),
-        _ => below(alloc, "reason", missed(alloc)),
+        _ => below(alloc, "reason", miss(alloc)),
     }
 }
 

@@ -1,7 +1,7 @@
 -- the table of a dependency, in the field order of `cargo metadata`
 use Rattle.std.specs.Prelude.{◌≡◌, codes, false, refl, Ok}
 use Rattle.serde_json.specs.Data.{Data, object, no_members, boolean, string}
-use Rattle.json_fields.specs.Fields.{members_at, required, optional, text_at, flag_at, list_at}
+use Rattle.json_fields.specs.Fields.{members_at, required_member, optional_member, text_at, flag_at, list_at}
 use Rattle.json_fields.specs.Outcome.{Reading, ◌>>=◌}
 use Rattle.json_fields.specs.Versions.{requirement_at}
 use Rattle.json_fields.specs.Written.{is_null, list_data, option_data, set_member}
@@ -13,17 +13,17 @@ use Rattle.cargo_values.specs.declared.dependency.Dependency.{Dependency}
 unfoldable pub dependency_at : Data → Reading Dependency
 dependency_at d = do
   ms ← members_at d
-  name ← required (codes "name") text_at ms
-  source ← optional (codes "source") source_at ms
-  req ← required (codes "req") requirement_at ms
-  kind ← required (codes "kind") dependency_kind_at ms
-  is_optional ← required (codes "optional") flag_at ms
-  uses_default_features ← required (codes "uses_default_features") flag_at ms
-  features ← required (codes "features") (list_at text_at) ms
-  target ← optional (codes "target") text_at ms
-  rename ← optional (codes "rename") text_at ms
-  registry ← optional (codes "registry") text_at ms
-  path ← optional (codes "path") text_at ms
+  name ← required_member (codes "name") text_at ms
+  source ← optional_member (codes "source") source_at ms
+  req ← required_member (codes "req") requirement_at ms
+  kind ← required_member (codes "kind") dependency_kind_at ms
+  is_optional ← required_member (codes "optional") flag_at ms
+  uses_default_features ← required_member (codes "uses_default_features") flag_at ms
+  features ← required_member (codes "features") (list_at text_at) ms
+  target ← optional_member (codes "target") text_at ms
+  rename ← optional_member (codes "rename") text_at ms
+  registry ← optional_member (codes "registry") text_at ms
+  path ← optional_member (codes "path") text_at ms
   Ok (record {
     name = name;
     source = source;

@@ -2,7 +2,7 @@
 use Rattle.std.specs.Prelude.{◌≡◌, [], Bool, false, codes, find, nat_eq, refl, Option, Ok}
 use Rattle.std.specs.Cmp.Lexicographic.{pointwise}
 use Rattle.serde_json.specs.Data.{Data, object, no_members, string}
-use Rattle.json_fields.specs.Fields.{members_at, required, optional, defaulted, text_at, list_at}
+use Rattle.json_fields.specs.Fields.{members_at, required_member, optional_member, default_member, text_at, list_at}
 use Rattle.json_fields.specs.Outcome.{Reading, ◌>>=◌}
 use Rattle.json_fields.specs.Written.{is_null, list_data, option_data, set_member}
 use Rattle.cargo_values.specs.Kinds.{dependency_kind_at, dependency_kind_data}
@@ -17,8 +17,8 @@ use Rattle.cargo_values.specs.declared.resolve.Resolve.{Resolve}
 unfoldable pub dep_kind_at : Data → Reading DepKindInfo
 dep_kind_at d = do
   ms ← members_at d
-  kind ← required (codes "kind") dependency_kind_at ms
-  target ← optional (codes "target") text_at ms
+  kind ← required_member (codes "kind") dependency_kind_at ms
+  target ← optional_member (codes "target") text_at ms
   Ok (record { kind = kind; target = target })
 
 -- the kind of an edge, written
@@ -31,9 +31,9 @@ dep_kind_data k =
 unfoldable pub node_dep_at : Data → Reading NodeDep
 node_dep_at d = do
   ms ← members_at d
-  name ← required (codes "name") text_at ms
-  pkg ← required (codes "pkg") package_id_at ms
-  dep_kinds ← defaulted (codes "dep_kinds") [] (list_at dep_kind_at) ms
+  name ← required_member (codes "name") text_at ms
+  pkg ← required_member (codes "pkg") package_id_at ms
+  dep_kinds ← default_member (codes "dep_kinds") [] (list_at dep_kind_at) ms
   Ok (record { name = name; pkg = pkg; dep_kinds = dep_kinds })
 
 -- an edge of a node, written
@@ -47,10 +47,10 @@ node_dep_data d =
 unfoldable pub node_at : Data → Reading Node
 node_at d = do
   ms ← members_at d
-  id ← required (codes "id") package_id_at ms
-  deps ← defaulted (codes "deps") [] (list_at node_dep_at) ms
-  dependencies ← required (codes "dependencies") (list_at package_id_at) ms
-  features ← defaulted (codes "features") [] (list_at text_at) ms
+  id ← required_member (codes "id") package_id_at ms
+  deps ← default_member (codes "deps") [] (list_at node_dep_at) ms
+  dependencies ← required_member (codes "dependencies") (list_at package_id_at) ms
+  features ← default_member (codes "features") [] (list_at text_at) ms
   Ok (record { id = id; deps = deps; dependencies = dependencies; features = features })
 
 -- a node, written
@@ -65,8 +65,8 @@ node_data n =
 unfoldable pub resolve_at : Data → Reading Resolve
 resolve_at d = do
   ms ← members_at d
-  nodes ← required (codes "nodes") (list_at node_at) ms
-  root ← optional (codes "root") package_id_at ms
+  nodes ← required_member (codes "nodes") (list_at node_at) ms
+  root ← optional_member (codes "root") package_id_at ms
   Ok (record { nodes = nodes; root = root })
 
 -- a graph of packages, written

@@ -1,7 +1,7 @@
 -- the table of a target, in the field order of `cargo metadata`
 use Rattle.std.specs.Prelude.{◌≡◌, [], codes, true, false, refl, Ok}
 use Rattle.serde_json.specs.Data.{Data, object, no_members, boolean, string}
-use Rattle.json_fields.specs.Fields.{members_at, required, defaulted, text_at, flag_at, list_at}
+use Rattle.json_fields.specs.Fields.{members_at, required_member, default_member, text_at, flag_at, list_at}
 use Rattle.json_fields.specs.Outcome.{Reading, ◌>>=◌}
 use Rattle.json_fields.specs.Written.{is_null, list_data, set_member}
 use Rattle.cargo_values.specs.Kinds.{crate_type_at, crate_type_data, edition_at, edition_data, target_kind_at, target_kind_data}
@@ -12,15 +12,15 @@ use Rattle.cargo_values.specs.declared.target.Target.{Target}
 unfoldable pub target_at : Data → Reading Target
 target_at d = do
   ms ← members_at d
-  name ← required (codes "name") text_at ms
-  kind ← required (codes "kind") (list_at target_kind_at) ms
-  crate_types ← defaulted (codes "crate_types") [] (list_at crate_type_at) ms
-  required_features ← defaulted (codes "required-features") [] (list_at text_at) ms
-  src_path ← required (codes "src_path") text_at ms
-  edition ← defaulted (codes "edition") E2015 edition_at ms
-  doctest ← defaulted (codes "doctest") true flag_at ms
-  test ← defaulted (codes "test") true flag_at ms
-  doc ← defaulted (codes "doc") true flag_at ms
+  name ← required_member (codes "name") text_at ms
+  kind ← required_member (codes "kind") (list_at target_kind_at) ms
+  crate_types ← default_member (codes "crate_types") [] (list_at crate_type_at) ms
+  required_features ← default_member (codes "required-features") [] (list_at text_at) ms
+  src_path ← required_member (codes "src_path") text_at ms
+  edition ← default_member (codes "edition") E2015 edition_at ms
+  doctest ← default_member (codes "doctest") true flag_at ms
+  test ← default_member (codes "test") true flag_at ms
+  doc ← default_member (codes "doc") true flag_at ms
   Ok (record {
     name = name;
     kind = kind;

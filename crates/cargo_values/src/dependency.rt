@@ -4,7 +4,7 @@ use crate::kinds::DependencyKind;
 use crate::names::Source;
 use base_text::{Items, Text, TryClone};
 use json_fields::{
-    Json, Present, ReadError, ReadJson, Requirement, members, optional, required, set,
+    Json, Present, ReadError, ReadJson, Requirement, members, optional_member, required_member, set,
 };
 use serde_json::{Map, Value};
 use std::alloc::{AllocError, Global};
@@ -52,17 +52,17 @@ impl ReadJson for Dependency {
     fn read(alloc: Global, value: &Value) -> Result<Dependency, ReadError> {
         let fields = members(alloc, value)?;
         Ok(Dependency {
-            name: required(alloc, fields, "name")?,
-            source: optional(alloc, fields, "source")?,
-            req: required(alloc, fields, "req")?,
-            kind: required(alloc, fields, "kind")?,
-            optional: required(alloc, fields, "optional")?,
-            uses_default_features: required(alloc, fields, "uses_default_features")?,
-            features: required(alloc, fields, "features")?,
-            target: optional(alloc, fields, "target")?,
-            rename: optional(alloc, fields, "rename")?,
-            registry: optional(alloc, fields, "registry")?,
-            path: optional(alloc, fields, "path")?,
+            name: required_member(alloc, fields, "name")?,
+            source: optional_member(alloc, fields, "source")?,
+            req: required_member(alloc, fields, "req")?,
+            kind: required_member(alloc, fields, "kind")?,
+            optional: required_member(alloc, fields, "optional")?,
+            uses_default_features: required_member(alloc, fields, "uses_default_features")?,
+            features: required_member(alloc, fields, "features")?,
+            target: optional_member(alloc, fields, "target")?,
+            rename: optional_member(alloc, fields, "rename")?,
+            registry: optional_member(alloc, fields, "registry")?,
+            path: optional_member(alloc, fields, "path")?,
         })
     }
 }

@@ -5,7 +5,7 @@ ghost use Rattle.cargo_values.specs.Kinds.{crate_type_of, crate_type_text, depen
 ghost use Rattle.cargo_values.specs.laws.Kinds.{crate_type-again, dependency_kind-round_trips, edition-again, target_kind-again};
 
 use base_text::{Text, TryClone};
-use json_fields::{Json, ReadError, ReadJson, TextJson, missed};
+use json_fields::{Json, ReadError, ReadJson, TextJson, miss};
 use serde_json::Value;
 use std::alloc::{AllocError, Global};
 
@@ -261,7 +261,7 @@ impl ReadJson for DependencyKind {
         match value {
             Value::Null => Ok(DependencyKind::Normal),
             Value::String(text) => Ok(DependencyKind::from_text(text.as_str())),
-            _ => missed(alloc),
+            _ => miss(alloc),
         }
     }
 }
@@ -324,7 +324,7 @@ impl TextJson for Edition {
             "2024" => Ok(Edition::E2024),
             "2027" => Ok(Edition::_E2027),
             "2030" => Ok(Edition::_E2030),
-            _ => missed(alloc),
+            _ => miss(alloc),
         }
     }
 

@@ -6,7 +6,9 @@ ghost use Rattle.cargo_values.specs.Resolve.{node_of};
 use crate::kinds::DependencyKind;
 use crate::names::{FeatureName, PackageId};
 use base_text::{Items, Text, TryClone};
-use json_fields::{Json, Present, ReadError, ReadJson, listed, members, optional, required, set};
+use json_fields::{
+    Json, Present, ReadError, ReadJson, list_member, members, optional_member, required_member, set,
+};
 use serde_json::{Map, Value};
 use std::alloc::{AllocError, Global};
 use std::ops::Index;
@@ -108,7 +110,7 @@ impl TryClone for Resolve {
     }
 }
 
-#[tactic(auto, unfolding(crate::specs::Kinds::dependency_kind_of, crate::specs::Resolve::dep_kind_at, json_fields::specs::Fields::required, json_fields::specs::Fields::optional))]
+#[tactic(auto, unfolding(crate::specs::Kinds::dependency_kind_of, crate::specs::Resolve::dep_kind_at, json_fields::specs::Fields::required_member, json_fields::specs::Fields::optional_member))]
 impl ReadJson for DepKindInfo {
     ghost use Rattle.cargo_values.specs.Resolve.{dep_kind_at};
 
@@ -117,8 +119,8 @@ impl ReadJson for DepKindInfo {
     fn read(alloc: Global, value: &Value) -> Result<DepKindInfo, ReadError> {
         let fields = members(alloc, value)?;
         Ok(DepKindInfo {
-            kind: required(alloc, fields, "kind")?,
-            target: optional(alloc, fields, "target")?,
+            kind: required_member(alloc, fields, "kind")?,
+            target: optional_member(alloc, fields, "target")?,
         })
     }
 }
@@ -142,7 +144,7 @@ impl Json for DepKindInfo {
     ghost round_trips = { dep_kind-round_trips };
 }
 
-#[tactic(auto, unfolding(crate::specs::Resolve::node_dep_at, json_fields::specs::Fields::required, json_fields::specs::Fields::defaulted))]
+#[tactic(auto, unfolding(crate::specs::Resolve::node_dep_at, json_fields::specs::Fields::required_member, json_fields::specs::Fields::default_member))]
 impl ReadJson for NodeDep {
     ghost use Rattle.cargo_values.specs.Resolve.{node_dep_at};
 
@@ -151,9 +153,9 @@ impl ReadJson for NodeDep {
     fn read(alloc: Global, value: &Value) -> Result<NodeDep, ReadError> {
         let fields = members(alloc, value)?;
         Ok(NodeDep {
-            name: required(alloc, fields, "name")?,
-            pkg: required(alloc, fields, "pkg")?,
-            dep_kinds: listed(alloc, fields, "dep_kinds")?,
+            name: required_member(alloc, fields, "name")?,
+            pkg: required_member(alloc, fields, "pkg")?,
+            dep_kinds: list_member(alloc, fields, "dep_kinds")?,
         })
     }
 }
@@ -178,7 +180,7 @@ impl Json for NodeDep {
     ghost round_trips = { node_dep-round_trips };
 }
 
-#[tactic(auto, unfolding(crate::specs::Resolve::node_at, json_fields::specs::Fields::required, json_fields::specs::Fields::defaulted))]
+#[tactic(auto, unfolding(crate::specs::Resolve::node_at, json_fields::specs::Fields::required_member, json_fields::specs::Fields::default_member))]
 impl ReadJson for Node {
     ghost use Rattle.cargo_values.specs.Resolve.{node_at};
 
@@ -187,10 +189,10 @@ impl ReadJson for Node {
     fn read(alloc: Global, value: &Value) -> Result<Node, ReadError> {
         let fields = members(alloc, value)?;
         Ok(Node {
-            id: required(alloc, fields, "id")?,
-            deps: listed(alloc, fields, "deps")?,
-            dependencies: required(alloc, fields, "dependencies")?,
-            features: listed(alloc, fields, "features")?,
+            id: required_member(alloc, fields, "id")?,
+            deps: list_member(alloc, fields, "deps")?,
+            dependencies: required_member(alloc, fields, "dependencies")?,
+            features: list_member(alloc, fields, "features")?,
         })
     }
 }
@@ -216,7 +218,7 @@ impl Json for Node {
     ghost round_trips = { node-round_trips };
 }
 
-#[tactic(auto, unfolding(crate::specs::Resolve::resolve_at, json_fields::specs::Fields::required, json_fields::specs::Fields::optional))]
+#[tactic(auto, unfolding(crate::specs::Resolve::resolve_at, json_fields::specs::Fields::required_member, json_fields::specs::Fields::optional_member))]
 impl ReadJson for Resolve {
     ghost use Rattle.cargo_values.specs.Resolve.{resolve_at};
 
@@ -225,8 +227,8 @@ impl ReadJson for Resolve {
     fn read(alloc: Global, value: &Value) -> Result<Resolve, ReadError> {
         let fields = members(alloc, value)?;
         Ok(Resolve {
-            nodes: required(alloc, fields, "nodes")?,
-            root: optional(alloc, fields, "root")?,
+            nodes: required_member(alloc, fields, "nodes")?,
+            root: optional_member(alloc, fields, "root")?,
         })
     }
 }

@@ -12,7 +12,8 @@ use crate::errors::{Error, as_error};
 use crate::kinds::{CrateType, Edition, TargetKind};
 use base_text::{Items, Text, TryClone};
 use json_fields::{
-    Json, Present, ReadError, ReadJson, defaulted, listed, members, of_value, required, set,
+    Json, Present, ReadError, ReadJson, default_member, list_member, members, of_value,
+    required_member, set,
 };
 use serde_json::{Map, Value};
 use std::alloc::{AllocError, Global};
@@ -137,7 +138,7 @@ impl TryClone for Target {
     }
 }
 
-#[tactic(auto, unfolding(crate::specs::Kinds::edition_of, crate::specs::Target::target_at, json_fields::specs::Fields::required, json_fields::specs::Fields::optional, json_fields::specs::Fields::defaulted))]
+#[tactic(auto, unfolding(crate::specs::Kinds::edition_of, crate::specs::Target::target_at, json_fields::specs::Fields::required_member, json_fields::specs::Fields::optional_member, json_fields::specs::Fields::default_member))]
 impl ReadJson for Target {
     ghost use Rattle.cargo_values.specs.Target.{target_at};
 
@@ -146,15 +147,15 @@ impl ReadJson for Target {
     fn read(alloc: Global, value: &Value) -> Result<Target, ReadError> {
         let fields = members(alloc, value)?;
         Ok(Target {
-            name: required(alloc, fields, "name")?,
-            kind: required(alloc, fields, "kind")?,
-            crate_types: listed(alloc, fields, "crate_types")?,
-            required_features: listed(alloc, fields, "required-features")?,
-            src_path: required(alloc, fields, "src_path")?,
-            edition: defaulted(alloc, fields, "edition", Edition::E2015)?,
-            doctest: defaulted(alloc, fields, "doctest", true)?,
-            test: defaulted(alloc, fields, "test", true)?,
-            doc: defaulted(alloc, fields, "doc", true)?,
+            name: required_member(alloc, fields, "name")?,
+            kind: required_member(alloc, fields, "kind")?,
+            crate_types: list_member(alloc, fields, "crate_types")?,
+            required_features: list_member(alloc, fields, "required-features")?,
+            src_path: required_member(alloc, fields, "src_path")?,
+            edition: default_member(alloc, fields, "edition", Edition::E2015)?,
+            doctest: default_member(alloc, fields, "doctest", true)?,
+            test: default_member(alloc, fields, "test", true)?,
+            doc: default_member(alloc, fields, "doc", true)?,
         })
     }
 }

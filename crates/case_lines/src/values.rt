@@ -42,10 +42,10 @@ pub fn optional_text(
     case: Case<'_>,
     key: &'static str,
 ) -> Result<Option<Text>, Fault> {
-    copied(alloc, case.optional_text(key))
+    copy_text(alloc, case.optional_text(key))
 }
 
-fn copied(alloc: Global, text: Option<&str>) -> Result<Option<Text>, Fault> {
+fn copy_text(alloc: Global, text: Option<&str>) -> Result<Option<Text>, Fault> {
     match text {
         Some(text) => Ok(Some(Text::of_str(alloc, text)?)),
         None => Ok(None),
@@ -84,7 +84,7 @@ pub fn variable_of(value: &Value) -> Result<(&str, Option<&str>), Fault> {
 pub fn owned_variable(alloc: Global, value: &Value) -> Result<(Text, Option<Text>), Fault> {
     let (name, value) = variable_of(value)?;
     let name = Text::of_str(alloc, name)?;
-    Ok((name, copied(alloc, value)?))
+    Ok((name, copy_text(alloc, value)?))
 }
 
 /// Variables, each with its value, or removed where that is null.

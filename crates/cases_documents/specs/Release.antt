@@ -1,7 +1,7 @@
 -- the table of a release, with a row of each kind
 use Rattle.std.specs.Prelude.{[], codes, false, Ok}
 use Rattle.serde_json.specs.Data.{Data, object, no_members, null, boolean, number, string, unsigned}
-use Rattle.json_fields.specs.Fields.{any_at, defaulted, flag_at, list_at, map_at, members_at, number_at, optional, required, text_at}
+use Rattle.json_fields.specs.Fields.{any_at, default_member, flag_at, list_at, map_at, members_at, number_at, optional_member, required_member, text_at}
 use Rattle.json_fields.specs.Outcome.{Reading, ◌>>=◌}
 use Rattle.json_fields.specs.Versions.{bare_at, requirement_at, version_at, version_data}
 use Rattle.json_fields.specs.Written.{list_data, map_data, option_data, set_member}
@@ -11,15 +11,15 @@ use Rattle.cases_documents.specs.declared.release.Release.{Release}
 unfoldable pub release_at : Data → Reading Release
 release_at d = do
   ms ← members_at d
-  name ← required (codes "name") text_at ms
-  version ← required (codes "version") version_at ms
-  size ← required (codes "size") number_at ms
-  summary ← optional (codes "summary") text_at ms
-  rust_version ← optional (codes "rust-version") bare_at ms
-  yanked ← defaulted (codes "yanked") false flag_at ms
-  tags ← defaulted (codes "tags") [] (list_at text_at) ms
-  dependencies ← defaulted (codes "dependencies") [] (map_at requirement_at) ms
-  extra ← defaulted (codes "extra") null any_at ms
+  name ← required_member (codes "name") text_at ms
+  version ← required_member (codes "version") version_at ms
+  size ← required_member (codes "size") number_at ms
+  summary ← optional_member (codes "summary") text_at ms
+  rust_version ← optional_member (codes "rust-version") bare_at ms
+  yanked ← default_member (codes "yanked") false flag_at ms
+  tags ← default_member (codes "tags") [] (list_at text_at) ms
+  dependencies ← default_member (codes "dependencies") [] (map_at requirement_at) ms
+  extra ← default_member (codes "extra") null any_at ms
   Ok (record {
     name = name;
     version = version;

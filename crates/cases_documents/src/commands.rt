@@ -132,7 +132,7 @@ fn line_of_copy(alloc: Global, command: &MetadataCommand) -> Result<Value, Fault
 
 // What a command gives whose answer is recorded, if there is one: the workspace's root.
 fn exec(alloc: Global, command: &MetadataCommand, answer: Option<&Value>) -> Result<Value, Fault> {
-    let runner = recorded(alloc, command, answer)?;
+    let runner = record_answer(alloc, command, answer)?;
     let reading = Box::new(alloc, command.exec(alloc, &runner))?;
     match &*reading {
         Ok(metadata) => text_answer(alloc, metadata.workspace_root.as_str()),
@@ -140,7 +140,7 @@ fn exec(alloc: Global, command: &MetadataCommand, answer: Option<&Value>) -> Res
     }
 }
 
-fn recorded(
+fn record_answer(
     alloc: Global,
     command: &MetadataCommand,
     answer: Option<&Value>,

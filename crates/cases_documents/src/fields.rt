@@ -26,13 +26,13 @@ fn texts(alloc: Global, case: Case<'_>) -> Result<Value, Fault> {
     match case.optional_text("text") {
         Some(text) => round_trip::<Items<Text>>(alloc, text),
         None => {
-            let text = nested(alloc, case.number("lists")?)?;
+            let text = nested_lists(alloc, case.number("lists")?)?;
             round_trip::<Items<Text>>(alloc, text.as_str())
         }
     }
 }
 
-fn nested(alloc: Global, depth: u64) -> Result<String, AllocError> {
+fn nested_lists(alloc: Global, depth: u64) -> Result<String, AllocError> {
     let mut text = String::new(alloc);
     push_times(&mut text, "[", depth)?;
     push_times(&mut text, "]", depth)?;
@@ -49,13 +49,13 @@ fn push_times(text: &mut String, part: &str, times: u64) -> Result<(), AllocErro
 // What is written of the value that a text holds, once it is read from that again, equal.
 fn round_trip<T: Json + PartialEq>(alloc: Global, text: &str) -> Result<Value, Fault> {
     match of_text::<T>(alloc, text) {
-        Ok(value) => written(alloc, &value),
+        Ok(value) => write_value(alloc, &value),
         Err(ReadError::Missed(place)) => missed_answer(alloc, place.as_str()),
         Err(ReadError::OutOfMemory) => Err(Fault::OutOfMemory),
     }
 }
 
-fn written<T: Json + PartialEq>(alloc: Global, value: &T) -> Result<Value, Fault> {
+fn write_value<T: Json + PartialEq>(alloc: Global, value: &T) -> Result<Value, Fault> {
     let written = value.write(alloc)?;
     let text = written.to_string(alloc)?;
     if is_read_again(alloc, text.as_str(), value) {

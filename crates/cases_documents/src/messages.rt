@@ -1,6 +1,6 @@
 //! Lines as messages: the value of each, and what is printed of it.
 
-use crate::names::printed;
+use crate::names::print_value;
 use base_text::TryClone;
 use cargo_msgs::{ArtifactDebuginfo, Message};
 use cases::{Case, Fault, Object};
@@ -16,8 +16,8 @@ pub fn answer(alloc: Global, case: Case<'_>) -> Result<Value, Fault> {
 
 fn of_message(alloc: Global, call: &str, message: &Message) -> Result<Value, Fault> {
     match call {
-        "of_line" => written(alloc, message),
-        "copy" => copied(alloc, message),
+        "of_line" => write_message(alloc, message),
+        "copy" => copy_message(alloc, message),
         "printed" => compiler_message(alloc, message),
         "debuginfo" => debuginfo(alloc, message),
         _ => Err(Fault::Call),
@@ -25,7 +25,7 @@ fn of_message(alloc: Global, call: &str, message: &Message) -> Result<Value, Fau
 }
 
 /// The value of a message, or the text of a line that is no message.
-pub fn written(alloc: Global, message: &Message) -> Result<Value, Fault> {
+pub fn write_message(alloc: Global, message: &Message) -> Result<Value, Fault> {
     match message {
         Message::TextLine(_) => Object::new(alloc)
             .member("text", value_of(alloc, message))
@@ -39,15 +39,15 @@ fn value_of(alloc: Global, message: &Message) -> Result<Value, Fault> {
 }
 
 // The value of a message's copy.
-fn copied(alloc: Global, message: &Message) -> Result<Value, Fault> {
+fn copy_message(alloc: Global, message: &Message) -> Result<Value, Fault> {
     let copy = Box::new(alloc, message.try_clone(alloc)?)?;
-    written(alloc, &copy)
+    write_message(alloc, &copy)
 }
 
 // What is printed of what the compiler said.
 fn compiler_message(alloc: Global, message: &Message) -> Result<Value, Fault> {
     match message {
-        Message::CompilerMessage(message) => printed(alloc, message),
+        Message::CompilerMessage(message) => print_value(alloc, message),
         _ => Err(Fault::Member("line")),
     }
 }
@@ -59,7 +59,7 @@ fn debuginfo(alloc: Global, message: &Message) -> Result<Value, Fault> {
             let debuginfo = &artifact.profile.debuginfo;
             let is_default = *debuginfo == ArtifactDebuginfo::default();
             Object::new(alloc)
-                .member("printed", printed(alloc, debuginfo))
+                .member("printed", print_value(alloc, debuginfo))
                 .flag("default", is_default)
                 .answer()
         }

@@ -49,7 +49,7 @@ fn package_name(alloc: Global, text: &str, other: &str) -> Result<Value, Fault> 
     let name = PackageName::new(Text::of_str(alloc, text)?);
     let next = PackageName::new(Text::of_str(alloc, other)?);
     Object::new(alloc)
-        .member("printed", printed(alloc, &name))
+        .member("printed", print_value(alloc, &name))
         .member("copy", is_copied(alloc, &name))
         .flag("other", name.eq_str(other))
         .flag("before", name < next)
@@ -64,7 +64,7 @@ fn is_copied(alloc: Global, name: &PackageName) -> Result<Value, Fault> {
 fn feature_name(alloc: Global, text: &str, other: &str) -> Result<Value, Fault> {
     let name = FeatureName::new(Text::of_str(alloc, text)?);
     Object::new(alloc)
-        .member("printed", printed(alloc, &name))
+        .member("printed", print_value(alloc, &name))
         .flag("other", name.eq_str(other))
         .text("text", name.into_inner().as_str())
         .answer()
@@ -77,7 +77,7 @@ fn id(alloc: Global, text: &str, other: &str) -> Result<Value, Fault> {
     let repr = Text::of_str(alloc, other)?;
     let other = PackageId { repr };
     Object::new(alloc)
-        .member("printed", printed(alloc, &id))
+        .member("printed", print_value(alloc, &id))
         .flag("other", id == other)
         .flag("before", id < other)
         .answer()
@@ -87,7 +87,7 @@ fn source(alloc: Global, text: &str) -> Result<Value, Fault> {
     let repr = Text::of_str(alloc, text)?;
     let source = Source { repr };
     Object::new(alloc)
-        .member("printed", printed(alloc, &source))
+        .member("printed", print_value(alloc, &source))
         .flag("crates_io", source.is_crates_io())
         .answer()
 }
@@ -98,17 +98,17 @@ fn kind<T: ReadJson + Default + fmt::Display>(
     document: Option<&Value>,
 ) -> Result<Value, Fault> {
     let Some(document) = document else {
-        return printed(alloc, &T::default());
+        return print_value(alloc, &T::default());
     };
     match of_value::<T>(alloc, document) {
-        Ok(kind) => printed(alloc, &kind),
+        Ok(kind) => print_value(alloc, &kind),
         Err(ReadError::Missed(place)) => missed_answer(alloc, place.as_str()),
         Err(ReadError::OutOfMemory) => Err(Fault::OutOfMemory),
     }
 }
 
 /// What is printed of a value.
-pub fn printed<T: fmt::Display>(alloc: Global, value: &T) -> Result<Value, Fault> {
+pub fn print_value<T: fmt::Display>(alloc: Global, value: &T) -> Result<Value, Fault> {
     Ok(Value::String(format!(in alloc; "{value}")?))
 }
 
@@ -139,5 +139,5 @@ fn error(alloc: Global, name: &str, text: &str) -> Result<Value, Fault> {
 }
 
 fn printed_copy(alloc: Global, error: &Error) -> Result<Value, Fault> {
-    printed(alloc, &error.try_clone(alloc)?)
+    print_value(alloc, &error.try_clone(alloc)?)
 }

@@ -1,6 +1,6 @@
 //! Packages and targets of a document, and the texts of kinds.
 
-use crate::names::printed;
+use crate::names::print_value;
 use base_text::Text;
 use cargo_meta::{CrateType, Error, Package, PackageId, PackageName, Target, TargetKind};
 use case_lines::optional_text;
@@ -79,7 +79,7 @@ pub fn refusal(alloc: Global, error: &Error) -> Result<Value, Fault> {
     match error {
         Error::Json { field } => missed_answer(alloc, field.as_str()),
         _ => Object::new(alloc)
-            .member("error", printed(alloc, error))
+            .member("error", print_value(alloc, error))
             .answer(),
     }
 }

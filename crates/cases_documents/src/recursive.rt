@@ -19,13 +19,13 @@ pub fn answer(alloc: Global, case: Case<'_>) -> Result<Value, Fault> {
 // What is written of the value that a text holds, once the same is written of what is read of that.
 fn round_trip<T: Json>(alloc: Global, text: &str) -> Result<Value, Fault> {
     match of_text::<T>(alloc, text) {
-        Ok(value) => written(alloc, &value),
+        Ok(value) => write_value(alloc, &value),
         Err(ReadError::Missed(place)) => missed_answer(alloc, place.as_str()),
         Err(ReadError::OutOfMemory) => Err(Fault::OutOfMemory),
     }
 }
 
-fn written<T: Json>(alloc: Global, value: &T) -> Result<Value, Fault> {
+fn write_value<T: Json>(alloc: Global, value: &T) -> Result<Value, Fault> {
     let written = value.write(alloc)?;
     let text = written.to_string(alloc)?;
     if is_written_again::<T>(alloc, text.as_str(), &written) {

@@ -2,8 +2,8 @@
 
 use base_text::{ByText, Items, Text};
 use json_fields::{
-    AnyValue, BareVersion, Json, ReadError, ReadJson, Requirement, Version, defaulted, listed,
-    mapped, members, optional, required, set,
+    AnyValue, BareVersion, Json, ReadError, ReadJson, Requirement, Version, default_member,
+    list_member, map_member, members, optional_member, required_member, set,
 };
 use serde_json::{Map, Value};
 use std::alloc::{AllocError, Global};
@@ -21,7 +21,7 @@ pub struct Release {
     pub extra: AnyValue,
 }
 
-#[tactic(auto, unfolding(crate::specs::Release::release_at, json_fields::specs::Fields::required, json_fields::specs::Fields::optional, json_fields::specs::Fields::defaulted))]
+#[tactic(auto, unfolding(crate::specs::Release::release_at, json_fields::specs::Fields::required_member, json_fields::specs::Fields::optional_member, json_fields::specs::Fields::default_member))]
 impl ReadJson for Release {
     ghost use Rattle.cases_documents.specs.Release.{release_at};
 
@@ -30,15 +30,15 @@ impl ReadJson for Release {
     fn read(alloc: Global, value: &Value) -> Result<Release, ReadError> {
         let fields = members(alloc, value)?;
         Ok(Release {
-            name: required(alloc, fields, "name")?,
-            version: required(alloc, fields, "version")?,
-            size: required(alloc, fields, "size")?,
-            summary: optional(alloc, fields, "summary")?,
-            rust_version: optional(alloc, fields, "rust-version")?,
-            yanked: defaulted(alloc, fields, "yanked", false)?,
-            tags: listed(alloc, fields, "tags")?,
-            dependencies: mapped(alloc, fields, "dependencies")?,
-            extra: defaulted(alloc, fields, "extra", AnyValue::null())?,
+            name: required_member(alloc, fields, "name")?,
+            version: required_member(alloc, fields, "version")?,
+            size: required_member(alloc, fields, "size")?,
+            summary: optional_member(alloc, fields, "summary")?,
+            rust_version: optional_member(alloc, fields, "rust-version")?,
+            yanked: default_member(alloc, fields, "yanked", false)?,
+            tags: list_member(alloc, fields, "tags")?,
+            dependencies: map_member(alloc, fields, "dependencies")?,
+            extra: default_member(alloc, fields, "extra", AnyValue::null())?,
         })
     }
 }

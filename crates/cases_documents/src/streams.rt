@@ -1,6 +1,6 @@
 //! The messages of streams: of a text, or of bytes, that a source gives.
 
-use crate::messages::written;
+use crate::messages::write_message;
 use base_text::FaultSource;
 use cargo_msgs::{ItemFault, Message, MessageIter};
 use cases::{Case, Fault, List, Object, error_answer};
@@ -37,7 +37,7 @@ fn messages_of(alloc: Global, case: Case<'_>) -> Result<MessageIter<FaultSource>
 // The text so many times, or the bytes.
 fn stream_bytes(alloc: Global, case: Case<'_>) -> Result<Vec<u8>, Fault> {
     match case.optional_text("text") {
-        Some(text) => repeated(alloc, text, times_of(case)?),
+        Some(text) => repeat_text(alloc, text, times_of(case)?),
         None => bytes_of(alloc, case.list("bytes")?),
     }
 }
@@ -50,7 +50,7 @@ fn times_of(case: Case<'_>) -> Result<u64, Fault> {
     }
 }
 
-fn repeated(alloc: Global, text: &str, times: u64) -> Result<Vec<u8>, Fault> {
+fn repeat_text(alloc: Global, text: &str, times: u64) -> Result<Vec<u8>, Fault> {
     let mut bytes = Vec::new(alloc);
     for _ in 0..times {
         bytes.extend_from_slice(text.as_bytes())?;
@@ -117,7 +117,7 @@ fn item_answer(
     item: &Option<Result<Message, ItemFault>>,
 ) -> Result<Option<Value>, Fault> {
     match item {
-        Some(Ok(message)) => Ok(Some(written(alloc, message)?)),
+        Some(Ok(message)) => Ok(Some(write_message(alloc, message)?)),
         Some(Err(fault)) => Ok(Some(fault_answer(alloc, fault)?)),
         None => Ok(None),
     }

@@ -14,12 +14,12 @@ use std::collections::BTreeMap;
 pub fn answer(alloc: Global, case: Case<'_>) -> Result<Value, Fault> {
     match case.text("call")? {
         "ByText" => map(alloc, case),
-        "same_value" => same(case.member("document")?, case.member("other")?),
+        "same_value" => compare_documents(case.member("document")?, case.member("other")?),
         call => of_document(alloc, call, case.member("document")?),
     }
 }
 
-fn same(document: &Value, other: &Value) -> Result<Value, Fault> {
+fn compare_documents(document: &Value, other: &Value) -> Result<Value, Fault> {
     Ok(Value::from(same_value(document, other)))
 }
 
@@ -36,7 +36,7 @@ fn of_document(alloc: Global, call: &str, document: &Value) -> Result<Value, Fau
 }
 
 // What is written of the copy of a value, once the two are equal.
-fn written<T: Json + TryClone + PartialEq>(alloc: Global, value: &T) -> Result<Value, Fault> {
+fn write_value<T: Json + TryClone + PartialEq>(alloc: Global, value: &T) -> Result<Value, Fault> {
     let copy = value.try_clone(alloc)?;
     if copy == *value {
         Ok(copy.write(alloc)?)
@@ -51,7 +51,7 @@ fn version(alloc: Global, document: &Value) -> Result<Value, Fault> {
     };
     let copy = version.try_clone(alloc)?;
     let minor = version.as_version().minor;
-    let written = written(alloc, &version);
+    let written = write_value(alloc, &version);
     let is_same = Version::new(version.into_inner()) == copy;
     version_answer(alloc, minor, written, is_same)
 }
@@ -62,7 +62,7 @@ fn bare_version(alloc: Global, document: &Value) -> Result<Value, Fault> {
     };
     let copy = bare.try_clone(alloc)?;
     let minor = bare.as_version().as_version().minor;
-    let written = written(alloc, &bare);
+    let written = write_value(alloc, &bare);
     let is_same = BareVersion::new(bare.into_inner()) == copy;
     version_answer(alloc, minor, written, is_same)
 }
@@ -88,14 +88,14 @@ fn requirement(alloc: Global, document: &Value) -> Result<Value, Fault> {
     Object::new(alloc)
         .text("text", requirement.as_str())
         .number("comparators", parts)
-        .member("written", written(alloc, &requirement))
+        .member("written", write_value(alloc, &requirement))
         .answer()
 }
 
 // What is written of any value, and whether it is the value that was kept.
 fn any_value(alloc: Global, document: &Value) -> Result<Value, Fault> {
     let kept = AnyValue::new(document.clone()?);
-    let written = written(alloc, &kept)?;
+    let written = write_value(alloc, &kept)?;
     let is_kept = same_value(kept.as_value(), &written);
     let is_same = same_value(&kept.into_inner(), &written);
     Object::new(alloc)
@@ -120,7 +120,7 @@ fn map(alloc: Global, case: Case<'_>) -> Result<Value, Fault> {
     let answer = Object::new(alloc)
         .flag("empty", map.is_empty())
         .member("before", put_all(alloc, &mut map, entries))
-        .member("found", found(alloc, &map, keys))
+        .member("found", find_keys(alloc, &map, keys))
         .member("copy", is_copied(alloc, &map));
     let lengths = List::new(alloc)
         .number(map.as_map().len() as u64)
@@ -144,7 +144,7 @@ fn put(alloc: Global, map: &mut ByText<Text>, entry: &Value) -> Result<Value, Fa
     optional_answer(alloc, before.as_ref().map(|text| text.as_str()))
 }
 
-fn found(alloc: Global, map: &ByText<Text>, keys: &[Value]) -> Result<Value, Fault> {
+fn find_keys(alloc: Global, map: &ByText<Text>, keys: &[Value]) -> Result<Value, Fault> {
     let mut found = List::new(alloc);
     for key in keys {
         found = found.item(found_at(alloc, map, key));

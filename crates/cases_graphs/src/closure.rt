@@ -17,7 +17,7 @@ fn closure(edges: &Matrix) -> Matrix {
         reach = with_edge(reach, node, node);
     }
     for over in 0..4 {
-        reach = joined(&reach, over);
+        reach = join_paths(&reach, over);
     }
     reach
 }
@@ -34,7 +34,7 @@ fn with_edge(edges: Matrix, from: usize, to: usize) -> Matrix
 }
 
 // What is reached where paths may lead over a crate.
-fn joined(reach: &Matrix, over: usize) -> Matrix
+fn join_paths(reach: &Matrix, over: usize) -> Matrix
     requires { over < 4 }
 {
     let mut joined = *reach;

@@ -10,7 +10,7 @@ use std::alloc::{AllocError, Global};
 pub fn answer(alloc: Global, case: Case<'_>) -> Result<Value, Fault> {
     match case.text("call")? {
         "Env::insert" => insertions(alloc, case.list("set")?),
-        "Env" => joined(alloc, case),
+        "Env" => join_envs(alloc, case),
         _ => Err(Fault::Call),
     }
 }
@@ -53,7 +53,7 @@ fn env_of(alloc: Global, values: &[Value]) -> Result<Env, Fault> {
 }
 
 // An environment that is set, and extended by another: its pairs in order.
-fn joined(alloc: Global, case: Case<'_>) -> Result<Value, Fault> {
+fn join_envs(alloc: Global, case: Case<'_>) -> Result<Value, Fault> {
     let other = case.list("other")?;
     let mut env = env_of(alloc, case.list("set")?)?;
     extend(alloc, &mut env, other)?;

@@ -48,7 +48,7 @@ fn ask(
     graph: &mut CrateGraphBuilder,
 ) -> Result<Value, Fault> {
     match call {
-        "CrateGraphBuilder::transitive_deps" => reached(alloc, case, graph),
+        "CrateGraphBuilder::transitive_deps" => reachable_crates(alloc, case, graph),
         "CrateGraphBuilder::rank" => ranks(alloc, graph),
         "CrateGraphBuilder::iter" => numbers(alloc, graph),
         "CrateGraphBuilder::is_closed" => is_closed(alloc, case, graph),
@@ -105,7 +105,11 @@ fn compared_data(
     agreement_answer(alloc, &krate.basic, &graph[other].basic)
 }
 
-fn reached(alloc: Global, case: Case<'_>, graph: &CrateGraphBuilder) -> Result<Value, Fault> {
+fn reachable_crates(
+    alloc: Global,
+    case: Case<'_>,
+    graph: &CrateGraphBuilder,
+) -> Result<Value, Fault> {
     let of = id_of(case, "of")?;
     if !graph.contains(of) {
         return Err(Fault::Condition);
@@ -126,7 +130,7 @@ fn numbers(alloc: Global, graph: &CrateGraphBuilder) -> Result<Value, Fault> {
     numbers.answer()
 }
 
-fn kept(alloc: Global, case: Case<'_>) -> Result<Vec<CrateBuilderId>, Fault> {
+fn crates_to_keep(alloc: Global, case: Case<'_>) -> Result<Vec<CrateBuilderId>, Fault> {
     let values = case.list("keep")?;
     let mut ids = Vec::new(alloc);
     for value in values {
@@ -136,7 +140,7 @@ fn kept(alloc: Global, case: Case<'_>) -> Result<Vec<CrateBuilderId>, Fault> {
 }
 
 fn is_closed(alloc: Global, case: Case<'_>, graph: &CrateGraphBuilder) -> Result<Value, Fault> {
-    let kept = kept(alloc, case)?;
+    let kept = crates_to_keep(alloc, case)?;
     Ok(Value::from(graph.is_closed(kept.as_slice())))
 }
 
@@ -165,7 +169,7 @@ fn keep(
     case: Case<'_>,
     graph: &mut CrateGraphBuilder,
 ) -> Result<Vec<Option<CrateBuilderId>>, Fault> {
-    let kept = kept(alloc, case)?;
+    let kept = crates_to_keep(alloc, case)?;
     if !graph.is_closed(kept.as_slice()) {
         return Err(Fault::Condition);
     }

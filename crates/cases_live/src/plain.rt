@@ -1,6 +1,6 @@
 //! The plain account of sessions, and the errors of runs.
 
-use crate::runs::joined;
+use crate::runs::join_pages;
 use crate::values::{pages_of, script_of, words_of};
 use base_text::{Limit, Text};
 use cases::{Case, Fault, List, Object};
@@ -54,7 +54,7 @@ fn new_state(alloc: Global, case: Case<'_>) -> Result<PlainState, Fault> {
 
 // The pages, the number of lines and the refusal.
 fn outcome_answer(alloc: Global, outcome: &PlainOutcome) -> Result<Value, Fault> {
-    let pages = joined(alloc, outcome.pages())?;
+    let pages = join_pages(alloc, outcome.pages())?;
     Object::new(alloc)
         .member("pages", pages_of(alloc, pages.as_str().as_bytes()))
         .number("lines", outcome.lines())

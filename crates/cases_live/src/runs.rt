@@ -31,7 +31,7 @@ pub fn run(
     let mut out = FaultSink::new(alloc, writes);
     let mut err = MemorySink::new(alloc);
     let status = live_cli(alloc, words, &mut live, &mut input, &mut out, &mut err);
-    let ended = live.ended();
+    let ended = live.has_ended();
     Ok(Ran {
         status,
         ended,
@@ -49,12 +49,12 @@ pub fn is_plain(alloc: Global, words: &[String], script: &[u8], ran: &Ran) -> Re
 // The status and the pages of the plain account.
 fn account(alloc: Global, words: &[String], script: &[u8]) -> Result<(u8, String), AllocError> {
     let answer = plain_answer(alloc, words, script)?;
-    let pages = joined(alloc, answer.pages.as_slice())?;
+    let pages = join_pages(alloc, answer.pages.as_slice())?;
     Ok((answer.status, pages))
 }
 
 /// Pages as one text.
-pub fn joined(alloc: Global, pages: &[Text]) -> Result<String, AllocError> {
+pub fn join_pages(alloc: Global, pages: &[Text]) -> Result<String, AllocError> {
     let mut text = String::new(alloc);
     for page in pages {
         text.push_str(page.as_str())?;

@@ -45,7 +45,7 @@ fn script_answer(
 ) -> Result<Value, Fault> {
     let words = words_of(alloc, case)?;
     let ran = run_case(alloc, case, words.as_slice(), script)?;
-    compared(alloc, words.as_slice(), script, &ran, wanted)
+    compare_runs(alloc, words.as_slice(), script, &ran, wanted)
 }
 
 // Runs a script over streams of which the reads and writes fail that the case names.
@@ -56,7 +56,7 @@ fn run_case(alloc: Global, case: Case<'_>, words: &[String], script: &[u8]) -> R
 }
 
 // What a run leaves, beside the plain account and the pages that are wanted.
-fn compared(
+fn compare_runs(
     alloc: Global,
     words: &[String],
     script: &[u8],

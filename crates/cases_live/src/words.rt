@@ -14,7 +14,7 @@ pub fn answer(alloc: Global, case: Case<'_>) -> Result<Value, Fault> {
     match Command::of_words(alloc, words.as_slice()) {
         Ok(command) => {
             let command = Box::new(alloc, command)?;
-            copied(alloc, &command)
+            copy_command(alloc, &command)
         }
         Err(WordsError::Usage) => Ok(Value::Null),
         Err(WordsError::OutOfMemory) => Err(Fault::OutOfMemory),
@@ -22,14 +22,14 @@ pub fn answer(alloc: Global, case: Case<'_>) -> Result<Value, Fault> {
 }
 
 // The configuration of a copy.
-fn copied(alloc: Global, command: &Command) -> Result<Value, Fault> {
+fn copy_command(alloc: Global, command: &Command) -> Result<Value, Fault> {
     let config = command.try_clone(alloc)?.into_config();
     let config = Box::new(alloc, config)?;
-    compared(alloc, &config)
+    compare_copy(alloc, &config)
 }
 
 // A configuration, and whether it is that of no words.
-fn compared(alloc: Global, config: &LiveConfig) -> Result<Value, Fault> {
+fn compare_copy(alloc: Global, config: &LiveConfig) -> Result<Value, Fault> {
     let first = Box::new(alloc, LiveConfig::new(alloc)?)?;
     Object::new(alloc)
         .member("config", config_answer(alloc, config))

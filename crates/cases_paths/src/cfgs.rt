@@ -117,8 +117,8 @@ fn diff(alloc: Global, case: Case<'_>) -> Result<CfgDiff, Fault> {
 fn parts(alloc: Global, case: Case<'_>) -> Result<Value, Fault> {
     let diff = diff(alloc, case)?;
     Object::new(alloc)
-        .member("enabled", atoms_answer(alloc, diff.enabled()))
-        .member("disabled", atoms_answer(alloc, diff.disabled()))
+        .member("enabled", atoms_answer(alloc, diff.enabled_atoms()))
+        .member("disabled", atoms_answer(alloc, diff.disabled_atoms()))
         .number("len", diff.len() as u64)
         .answer()
 }

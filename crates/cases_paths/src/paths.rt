@@ -19,20 +19,20 @@ pub fn answer(alloc: Global, case: Case<'_>) -> Result<Value, Fault> {
 
 fn of_buf(alloc: Global, case: Case<'_>, call: &str, path: AbsPathBuf) -> Result<Value, Fault> {
     match call {
-        "AbsPathBuf::pop" => popped(alloc, path),
-        "AbsPathBuf::try_clone" => copied(alloc, &path),
+        "AbsPathBuf::pop" => pop_path(alloc, path),
+        "AbsPathBuf::try_clone" => copy_path(alloc, &path),
         _ => of_path(alloc, case, call, path.as_path()),
     }
 }
 
 // Whether a component was taken away, and the path that is left.
-fn popped(alloc: Global, mut path: AbsPathBuf) -> Result<Value, Fault> {
+fn pop_path(alloc: Global, mut path: AbsPathBuf) -> Result<Value, Fault> {
     let popped = path.pop();
     List::new(alloc).flag(popped).text(path.as_str()).answer()
 }
 
 // Whether a copy equals the path, owned and lent, whether the two are hashed alike, and what is printed of both.
-fn copied(alloc: Global, path: &AbsPathBuf) -> Result<Value, Fault> {
+fn copy_path(alloc: Global, path: &AbsPathBuf) -> Result<Value, Fault> {
     let copy = path.as_path().to_path_buf(alloc)?.try_clone(alloc)?;
     let printed = format!(in alloc; "{path} {}", copy.as_path())?;
     Object::new(alloc)

@@ -15,7 +15,7 @@ pub fn answer(alloc: Global, case: Case<'_>) -> Result<Value, Fault> {
     let cargo = cargo_of(alloc, case)?;
     let cargo = cargo.as_deref();
     match case.text("call")? {
-        "lower_detached" => lowered(alloc, case, cargo),
+        "lower_detached" => lower_case(alloc, case, cargo),
         "detached_roots" => roots(alloc, case, cargo),
         _ => Err(Fault::Call),
     }
@@ -29,7 +29,11 @@ fn cargo_of(alloc: Global, case: Case<'_>) -> Result<Option<Box<CargoWorkspace>>
     Ok(Some(workspace_of(alloc, case)?))
 }
 
-fn lowered(alloc: Global, case: Case<'_>, cargo: Option<&CargoWorkspace>) -> Result<Value, Fault> {
+fn lower_case(
+    alloc: Global,
+    case: Case<'_>,
+    cargo: Option<&CargoWorkspace>,
+) -> Result<Value, Fault> {
     let limits = limits_of(case)?;
     let file = manifest_of(alloc, case.text("manifest")?)?;
     let mut loader = live_loader(alloc, case.list("live")?)?;

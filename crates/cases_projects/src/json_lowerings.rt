@@ -14,13 +14,13 @@ use std::alloc::Global;
 /// What a case asks of the graph of its project, or the roots of that.
 pub fn answer(alloc: Global, case: Case<'_>) -> Result<Value, Fault> {
     match case.text("call")? {
-        "lower_json" => lowered(alloc, case),
+        "lower_json" => lower_case(alloc, case),
         "json_roots" => roots(alloc, case),
         _ => Err(Fault::Call),
     }
 }
 
-fn lowered(alloc: Global, case: Case<'_>) -> Result<Value, Fault> {
+fn lower_case(alloc: Global, case: Case<'_>) -> Result<Value, Fault> {
     let limits = limits_of(case)?;
     let project = project_of(alloc, case)?;
     let mut loader = live_loader(alloc, case.list("live")?)?;

@@ -1,7 +1,7 @@
 //! Builds of projects: what they give each of some projects, and what is asked of a project after builds.
 
 use crate::given::{Given, configure};
-use crate::projects::{asked, cargo_of, load_project, project_manifest_of};
+use crate::projects::{answer_question, cargo_of, load_project, project_manifest_of};
 use crate::values::path_of;
 use crate::workspace_builds::build_config::command_of;
 use crate::workspace_builds::outputs::{refusal_answer, result_answer};
@@ -165,7 +165,7 @@ fn after_builds(
     }
     match case.text("ask")? {
         "equal" => Ok(Value::Bool(project.eq_ignore_build_data(&before))),
-        question => asked(alloc, question, project),
+        question => answer_question(alloc, question, project),
     }
 }
 

@@ -112,13 +112,17 @@ fn of_project(
     match case.optional_text("ask") {
         Some("graph") => graphs::answer(alloc, case, &given.limits, ask, project),
         Some("progress") if lines.is_whole => Ok(Value::Array(lines.kept)),
-        Some(question) => asked(alloc, question, project),
+        Some(question) => answer_question(alloc, question, project),
         None => Err(Fault::Member("ask")),
     }
 }
 
 /// What a case asks of the project that was loaded.
-pub fn asked(alloc: Global, question: &str, project: &ProjectWorkspace) -> Result<Value, Fault> {
+pub fn answer_question(
+    alloc: Global,
+    question: &str,
+    project: &ProjectWorkspace,
+) -> Result<Value, Fault> {
     match question {
         "summary" => summary(alloc, project),
         "names" => names(alloc, project),

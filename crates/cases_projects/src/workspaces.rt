@@ -18,13 +18,17 @@ pub fn answer(alloc: Global, case: Case<'_>) -> Result<Value, Fault> {
         return Err(Fault::Call);
     }
     match &read(alloc, case, case.member("document")?)? {
-        Ok(workspace) => asked(alloc, case, workspace),
+        Ok(workspace) => answer_question(alloc, case, workspace),
         Err(error) => refusal(alloc, error),
     }
 }
 
 // What a case asks of the workspace that was read.
-fn asked(alloc: Global, case: Case<'_>, workspace: &CargoWorkspace) -> Result<Value, Fault> {
+fn answer_question(
+    alloc: Global,
+    case: Case<'_>,
+    workspace: &CargoWorkspace,
+) -> Result<Value, Fault> {
     let question = case.text("ask")?;
     match question {
         "refusal" => Ok(Value::Null),

@@ -46,10 +46,10 @@ fn fetch_of(
     let dir = absolute(alloc, dir, "dir")?;
     let dir = dir.as_path();
     let fetch = FetchMetadata::new(alloc, &manifest, dir, &config, &root, no_deps, runner);
-    boxed(alloc, fetch)
+    fetch_boxed(alloc, fetch)
 }
 
-fn boxed(
+fn fetch_boxed(
     alloc: Global,
     fetch: Result<FetchMetadata, AllocError>,
 ) -> Result<Box<FetchMetadata>, Fault> {
@@ -65,9 +65,9 @@ fn exec(
 ) -> Result<Value, Fault> {
     let locked = case.flag("locked");
     let copy = Box::new(alloc, fetch.try_clone(alloc)?)?;
-    let quietly = fetched(alloc, copy, locked, runner, &mut Quiet)?;
+    let quietly = fetch_with(alloc, copy, locked, runner, &mut Quiet)?;
     let mut lines = Lines::new(alloc);
-    let fetched = fetched(alloc, fetch, locked, runner, &mut lines);
+    let fetched = fetch_with(alloc, fetch, locked, runner, &mut lines);
     Object::new(alloc)
         .member("fetched", equal_to(fetched, &quietly))
         .member("lines", lines_answer(lines))
@@ -93,7 +93,7 @@ fn lines_answer(lines: Lines) -> Result<Value, Fault> {
     }
 }
 
-fn fetched<P: Progress>(
+fn fetch_with<P: Progress>(
     alloc: Global,
     fetch: Box<FetchMetadata>,
     locked: bool,

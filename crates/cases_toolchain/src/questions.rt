@@ -23,7 +23,7 @@ fn of_given(alloc: Global, case: Case<'_>, given: &Given) -> Result<Value, Fault
         "Sysroot::question" => question(alloc, case, given),
         "Sysroot::tool_path" => tool_path(alloc, case, given),
         "Sysroot::tool_path_question" => tool_path_question(alloc, case, given),
-        "serving_answer" => serving(alloc, case, given),
+        "serving_answer" => answer_serving(alloc, case, given),
         "config_question" => question_of_config(alloc, case, given),
         "CargoConfigFile::load" => load(alloc, case, given),
         _ => Err(Fault::Call),
@@ -87,7 +87,7 @@ fn tool_path_question(alloc: Global, case: Case<'_>, given: &Given) -> Result<Va
     question_answer(alloc, line)
 }
 
-fn serving(alloc: Global, case: Case<'_>, given: &Given) -> Result<Value, Fault> {
+fn answer_serving(alloc: Global, case: Case<'_>, given: &Given) -> Result<Value, Fault> {
     let line = line_of(alloc, case)?;
     match serving_answer(alloc, given.ask().runner, &line) {
         Ok(answer) => optional_answer(alloc, answer.as_ref().map(Text::as_str)),

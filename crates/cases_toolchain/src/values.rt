@@ -35,13 +35,13 @@ fn value_answer(
     value: Result<Option<toml::Value>, AllocError>,
 ) -> Result<Value, Fault> {
     match value? {
-        Some(value) => shown(alloc, &value),
+        Some(value) => show_value(alloc, &value),
         None => Ok(Value::Null),
     }
 }
 
 // A text or a flag as it is, and the number of a list's items or of a table's keys.
-fn shown(alloc: Global, value: &toml::Value) -> Result<Value, Fault> {
+fn show_value(alloc: Global, value: &toml::Value) -> Result<Value, Fault> {
     match value {
         toml::Value::String(text) => text_answer(alloc, text.as_str()),
         toml::Value::Boolean(flag) => Ok(Value::from(*flag)),

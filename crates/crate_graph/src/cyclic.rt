@@ -42,7 +42,7 @@ impl CyclicDependenciesError {
     {
         let mut steps = Vec::new(alloc);
         for id in path {
-            let name = shown(alloc, crates, *id)?;
+            let name = names_of(alloc, crates, *id)?;
             steps.push((CrateBuilderId::from_raw(*id), name))?;
         }
         Ok(CyclicDependenciesError {
@@ -59,7 +59,7 @@ impl CyclicDependenciesError {
 }
 
 // The names that the crate of a number is shown under.
-fn shown(
+fn names_of(
     alloc: Global,
     crates: &[CrateBuilder],
     id: u32,

@@ -46,7 +46,7 @@ impl CrateName {
     pub fn normalize_dashes(alloc: Global, name: &str) -> Result<Self, AllocError>
         ensures { IfOk result (λ made. made ≡ with_underscores name.now) }
     {
-        let text = underscored(alloc, name)?;
+        let text = underscore(alloc, name)?;
         Ok(CrateName {
             name: Symbol::new(text),
         })
@@ -67,7 +67,7 @@ fn holds_dash(text: &str) -> bool
 }
 
 // The text with an underscore for each dash.
-fn underscored(alloc: Global, name: &str) -> Result<String, AllocError>
+fn underscore(alloc: Global, name: &str) -> Result<String, AllocError>
     ensures value { IfOk result (λ text. string_bytes text ≡ with_underscores name.now) }
     ensures no_dash { IfOk result (λ text. has_dash (string_bytes text) ≡ false) }
 {

@@ -21,7 +21,7 @@ fn no_labels(alloc: Global, count: usize) -> Result<Vec<u64>, AllocError>
 
 // The labels of nodes that are listed from the lowest rank up, with room between any two, and the node
 // of each label.
-fn spaced(alloc: Global, nodes: &[u32]) -> Result<(Vec<u64>, BTreeMap<u64, u32>), AllocError>
+fn space_out(alloc: Global, nodes: &[u32]) -> Result<(Vec<u64>, BTreeMap<u64, u32>), AllocError>
     requires short { length nodes.now < 2 ^ 32 }
     requires once { HasEachOnce nodes.now }
     ensures { IfOk result (λ made. AreSpaced nodes.now (length nodes.now) made.0.items made.1) }
@@ -37,7 +37,7 @@ fn spaced(alloc: Global, nodes: &[u32]) -> Result<(Vec<u64>, BTreeMap<u64, u32>)
 }
 
 // The nodes by their labels, from the lowest up.
-fn listed(alloc: Global, index: &BTreeMap<u64, u32>) -> Result<Vec<u32>, AllocError>
+fn list_nodes(alloc: Global, index: &BTreeMap<u64, u32>) -> Result<Vec<u32>, AllocError>
     ensures { IfOk result (λ nodes. nodes.items ≡ tree.values index.now) }
 {
     let mut nodes = Vec::with_capacity(alloc, index.len())?;
@@ -57,8 +57,8 @@ pub(crate) fn spread(
     ensures same { ranking labels.new.items index.new ≡ ranking labels.old.items index.old }
 {
     let alloc = *labels.allocator();
-    let nodes = listed(alloc, index)?;
-    let (new_labels, new_index) = spaced(alloc, &nodes)?;
+    let nodes = list_nodes(alloc, index)?;
+    let (new_labels, new_index) = space_out(alloc, &nodes)?;
     *labels = new_labels;
     *index = new_index;
     Ok(())
@@ -70,7 +70,7 @@ impl Order {
         ensures nodes { IfOk result (λ nodes. nodes.items ≡ self.now.nodes) }
         ensures order { IsOrder self.now }
     {
-        listed(alloc, &self.index)
+        list_nodes(alloc, &self.index)
     }
 
     // The order of nodes that are listed from the lowest rank up.
@@ -80,7 +80,7 @@ impl Order {
         ensures nodes { IfOk result (λ order. order.nodes ≡ nodes.now) }
         ensures order { IfOk result IsOrder }
     {
-        let (labels, index) = spaced(alloc, nodes)?;
+        let (labels, index) = space_out(alloc, nodes)?;
         Ok(Order {
             labels,
             index,

@@ -45,7 +45,7 @@ fn new_numbers(alloc: Global, keep: &[u32], count: usize) -> Result<Vec<Option<u
 }
 
 // The new numbers of nodes, without those that have none.
-fn numbered(alloc: Global, numbers: &[Option<u32>], nodes: &[u32]) -> Result<Vec<u32>, AllocError>
+fn renumber(alloc: Global, numbers: &[Option<u32>], nodes: &[u32]) -> Result<Vec<u32>, AllocError>
     requires { All (λ node. node < length numbers.now) nodes.now }
     ensures { IfOk result (λ kept. kept.items
         ≡ filter_map (λ node. slice_index_or numbers.now node None) nodes.now) }
@@ -71,7 +71,7 @@ impl Order {
     {
         let nodes = self.nodes(alloc)?;
         let numbers = new_numbers(alloc, keep, nodes.len())?;
-        let kept = numbered(alloc, &numbers, &nodes)?;
+        let kept = renumber(alloc, &numbers, &nodes)?;
         Order::of_nodes(alloc, &kept, 0)
     }
 }

@@ -43,7 +43,7 @@ pub fn set_in_db<D: SourceDatabase>(
     let order = graph_base::finish_order(alloc, &graph)?;
     let finished = finish_all(alloc, &graph, &order, db)?;
     let ids = ids_of_numbers(alloc, finished.numbers())?;
-    let given = finished.given(alloc)?;
+    let given = finished.given_crates(alloc)?;
     store_list(db, given);
     Ok(ids)
 }

@@ -4,7 +4,7 @@ use Rattle.std.specs.Str.{is_utf8}
 use Rattle.serde_json.specs.Data.{Data}
 use Rattle.serde_json.specs.Read.{read}
 use Rattle.serde_json.specs.Written.{has_float}
-use Rattle.json_fields.specs.Fields.{found}
+use Rattle.json_fields.specs.Fields.{read_or}
 use Rattle.json_fields.specs.Outcome.{Reading, whole_place_of}
 
 -- the first miss by its whole place
@@ -18,7 +18,7 @@ whole reads d = if has_float d then Err (codes "float") else by_whole_place (rea
 
 -- a document's text
 unfoldable pub document : {T : Type 0} → (Data → Reading T) → List ℕ → Reading T
-document reads text = found (Err (codes "syntax")) (whole reads) (read text)
+document reads text = read_or (Err (codes "syntax")) (whole reads) (read text)
 
 -- a document's bytes, which are no JSON unless they are UTF-8
 unfoldable pub bytes_document : {T : Type 0} → (Data → Reading T) → List ℕ → Reading T

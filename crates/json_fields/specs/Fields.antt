@@ -88,18 +88,18 @@ abbrev pub map_at : {T : Type 0} → (Data → Reading T) → Data → Reading (
 map_at reads d = members_at d >>= members_from reads
 
 -- what stands at a key, or the given reading where nothing does
-abbrev pub found : {T : Type 0} → Reading T → (Data → Reading T) → Option Data → Reading T
-found missing reads None = missing
-found missing reads (Some d) = reads d
+abbrev pub read_or : {T : Type 0} → Reading T → (Data → Reading T) → Option Data → Reading T
+read_or missing reads None = missing
+read_or missing reads (Some d) = reads d
 
 -- a member that must be there
-unfoldable pub required : {T : Type 0} → List ℕ → (Data → Reading T) → Members → Reading T
-required key reads ms = below_key key (found (Err []) reads (get_member key ms))
+unfoldable pub required_member : {T : Type 0} → List ℕ → (Data → Reading T) → Members → Reading T
+required_member key reads ms = below_key key (read_or (Err []) reads (get_member key ms))
 
 -- a member that may be missing or null
-unfoldable pub optional : {T : Type 0} → List ℕ → (Data → Reading T) → Members → Reading (Option T)
-optional key reads ms = below_key key (found (Ok None) (option_at reads) (get_member key ms))
+unfoldable pub optional_member : {T : Type 0} → List ℕ → (Data → Reading T) → Members → Reading (Option T)
+optional_member key reads ms = below_key key (read_or (Ok None) (option_at reads) (get_member key ms))
 
 -- a member that may be missing, and is then the default
-unfoldable pub defaulted : {T : Type 0} → List ℕ → T → (Data → Reading T) → Members → Reading T
-defaulted key default reads ms = below_key key (found (Ok default) reads (get_member key ms))
+unfoldable pub default_member : {T : Type 0} → List ℕ → T → (Data → Reading T) → Members → Reading T
+default_member key default reads ms = below_key key (read_or (Ok default) reads (get_member key ms))

@@ -7,7 +7,7 @@ ghost use Rattle.json_fields.specs.Versions.{GivesBare, bare_of, bare_parts, fir
 ghost use Rattle.json_fields.specs.Laws.ReadAgain.{bare_of-again};
 
 use crate::place::ReadError;
-use crate::reading::missed;
+use crate::reading::miss;
 use crate::text_json::TextJson;
 use base_text::{TryClone, Version};
 use std::alloc::{AllocError, Global};
@@ -146,7 +146,7 @@ impl TextJson for BareVersion {
         match bare_version(alloc, text) {
             Ok(version) => Ok(BareVersion { version }),
             Err(BareError::OutOfMemory) => Err(ReadError::OutOfMemory),
-            Err(_) => missed(alloc),
+            Err(_) => miss(alloc),
         }
     }
 

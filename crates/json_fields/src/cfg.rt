@@ -5,7 +5,7 @@ ghost use Rattle.json_fields.specs.Cfg.{cfg_of};
 ghost use Rattle.json_fields.specs.Laws.Cfgs.{cfg_of-again};
 
 use crate::place::ReadError;
-use crate::reading::missed;
+use crate::reading::miss;
 use crate::text_json::TextJson;
 use base_text::{CfgAtom, CfgError, parse_cfg, write_cfg};
 use std::alloc::{AllocError, Global};
@@ -19,7 +19,7 @@ impl TextJson for CfgAtom {
     fn read_text(alloc: Global, text: &str) -> Result<CfgAtom, ReadError> {
         match parse_cfg(alloc, text) {
             Ok(atom) => Ok(atom),
-            Err(CfgError::BadCfg) => missed(alloc),
+            Err(CfgError::BadCfg) => miss(alloc),
             Err(CfgError::OutOfMemory) => Err(ReadError::OutOfMemory),
         }
     }

@@ -24,10 +24,11 @@ pub use base_text::Version;
 pub use document::{normal_text, of_bytes, of_text, of_value, to_text};
 pub use equal::same_value;
 pub use floats::holds_float;
-pub use nested::{MAX_LEVELS, boxed, inner_levels, optional_by, present, required_by};
+pub use nested::{MAX_LEVELS, in_box, inner_levels, optional_by, present, required_by};
 pub use place::{ReadError, below, below_item};
 pub use reading::{
-    Json, Present, ReadJson, defaulted, listed, mapped, member, members, missed, optional, required,
+    Json, Present, ReadJson, default_member, list_member, map_member, member, members, miss,
+    optional_member, required_member,
 };
 pub use text_json::TextJson;
 pub use versions::Requirement;

@@ -4,12 +4,12 @@ ghost use Rattle.std.specs.Prelude.{◌≡◌, suc, IfOk, IfSome, Ok, None, Some
 ghost use Rattle.serde_json.specs.Data.{Data, Members};
 ghost use Rattle.serde_json.specs.Find.{get_member};
 ghost use Rattle.serde_json.specs.View.{view, members_view};
-ghost use Rattle.json_fields.specs.Fields.{optional, required, under};
+ghost use Rattle.json_fields.specs.Fields.{optional_member, required_member, under};
 ghost use Rattle.json_fields.specs.Nested.{GivesAt, not_null, present_member};
 ghost use Rattle.json_fields.specs.Outcome.{Gives, Reading};
 
 use crate::place::{ReadError, below};
-use crate::reading::{member, missed};
+use crate::reading::{member, miss};
 use base_text::Boxed;
 use serde_json::{Map, Value};
 use std::alloc::Global;
@@ -46,23 +46,23 @@ fn unless_null(value: &Value) -> Option<&Value>
 }
 
 /// A member that must be there, from what its reader returned where it is there.
-#[tactic(auto, unfolding(crate::specs::Fields::required))]
+#[tactic(auto, unfolding(crate::specs::Fields::required_member))]
 pub fn required_by<T>(
     alloc: Global,
     key: &str,
     answer: Option<Result<T, ReadError>>,
 ) -> Result<T, ReadError>
     ensures exact { (reads : Data → Reading T) (ms : Members)
-        → GivesAt reads (get_member key.now ms) answer → Gives result (required key.now reads ms) }
+        → GivesAt reads (get_member key.now ms) answer → Gives result (required_member key.now reads ms) }
 {
     match answer {
         Some(answer) => below(alloc, key, answer),
-        None => below(alloc, key, missed(alloc)),
+        None => below(alloc, key, miss(alloc)),
     }
 }
 
 /// A member that may be missing or null, from what its reader returned where it is neither.
-#[tactic(auto, unfolding(crate::specs::Fields::optional))]
+#[tactic(auto, unfolding(crate::specs::Fields::optional_member))]
 pub fn optional_by<T>(
     alloc: Global,
     key: &str,
@@ -70,7 +70,7 @@ pub fn optional_by<T>(
 ) -> Result<Option<T>, ReadError>
     ensures exact { (reads : Data → Reading T) (ms : Members)
         → GivesAt reads (present_member key.now ms) answer
-        → Gives result (optional key.now reads ms) }
+        → Gives result (optional_member key.now reads ms) }
 {
     match answer {
         Some(answer) => some(below(alloc, key, answer)),
@@ -89,7 +89,7 @@ fn some<T>(answer: Result<T, ReadError>) -> Result<Option<T>, ReadError>
 }
 
 /// What was read, in a box.
-pub fn boxed<T: Drop>(alloc: Global, answer: Result<T, ReadError>) -> Result<Boxed<T>, ReadError>
+pub fn in_box<T: Drop>(alloc: Global, answer: Result<T, ReadError>) -> Result<Boxed<T>, ReadError>
     ensures exact { (reading : Reading T) → Gives answer reading → Gives result reading }
     ensures same { IfOk result (λ x. answer ≡ Ok x) }
 {

@@ -6,7 +6,7 @@ ghost use Rattle.json_fields.specs.Numbers.{i64_at, i64_data, u32_at};
 ghost use Rattle.json_fields.specs.Laws.Numbers.{i64-present, i64-round_trips, u32-round_trips};
 
 use crate::place::ReadError;
-use crate::reading::{Json, Present, ReadJson, missed};
+use crate::reading::{Json, Present, ReadJson, miss};
 use serde_json::Value;
 use std::alloc::{AllocError, Global};
 
@@ -16,7 +16,7 @@ impl ReadJson for u32 {
     fn read(alloc: Global, value: &Value) -> Result<u32, ReadError> {
         match value.as_u64() {
             Some(n) if n <= u32::MAX as u64 => Ok(n as u32),
-            _ => missed(alloc),
+            _ => miss(alloc),
         }
     }
 }
@@ -43,7 +43,7 @@ impl ReadJson for i64 {
     fn read(alloc: Global, value: &Value) -> Result<i64, ReadError> {
         match value.as_i64() {
             Some(n) => Ok(n),
-            None => missed(alloc),
+            None => miss(alloc),
         }
     }
 }

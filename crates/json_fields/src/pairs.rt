@@ -6,7 +6,7 @@ ghost use Rattle.json_fields.specs.Laws.Pairs.{pair-round_trips};
 ghost use Rattle.json_fields.specs.RoundTrip.{outer_height};
 
 use crate::place::{ReadError, below_item};
-use crate::reading::{Json, Present, ReadJson, missed};
+use crate::reading::{Json, Present, ReadJson, miss};
 use serde_json::Value;
 use std::alloc::{AllocError, Global};
 
@@ -15,10 +15,10 @@ impl<A: ReadJson, B: ReadJson> ReadJson for (A, B) {
 
     fn read(alloc: Global, value: &Value) -> Result<(A, B), ReadError> {
         let Some(values) = value.as_array() else {
-            return missed(alloc);
+            return miss(alloc);
         };
         let [first, second] = values.as_slice() else {
-            return missed(alloc);
+            return miss(alloc);
         };
         let first = below_item(alloc, 0, A::read(alloc, first))?;
         let second = below_item(alloc, 1, B::read(alloc, second))?;

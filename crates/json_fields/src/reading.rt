@@ -46,7 +46,7 @@ pub trait Present: Json {
 }
 
 /// A miss of this very place.
-pub fn missed<T>(alloc: Global) -> Result<T, ReadError>
+pub fn miss<T>(alloc: Global) -> Result<T, ReadError>
     ensures { Gives result (Err []) }
 {
     Err(ReadError::Missed(Text::new(String::new(alloc))))
@@ -71,31 +71,31 @@ pub fn member<'v>(fields: &'v Map<String, Value>, key: &str) -> Option<&'v Value
 }
 
 /// A member that must be there.
-#[tactic(auto, unfolding(crate::specs::Fields::required))]
-pub fn required<T: ReadJson>(
+#[tactic(auto, unfolding(crate::specs::Fields::required_member))]
+pub fn required_member<T: ReadJson>(
     alloc: Global,
     members: &Map<String, Value>,
     key: &str,
 ) -> Result<T, ReadError>
     ensures exact { Gives result
-        (fields.required key.now T.reads (members_view members.now.entries)) }
+        (fields.required_member key.now T.reads (members_view members.now.entries)) }
 {
     let answer = match member(members, key) {
         Some(value) => T::read(alloc, value),
-        None => missed(alloc),
+        None => miss(alloc),
     };
     below(alloc, key, answer)
 }
 
 /// A member that may be missing or null.
-#[tactic(auto, unfolding(crate::specs::Fields::optional))]
-pub fn optional<T: ReadJson>(
+#[tactic(auto, unfolding(crate::specs::Fields::optional_member))]
+pub fn optional_member<T: ReadJson>(
     alloc: Global,
     members: &Map<String, Value>,
     key: &str,
 ) -> Result<Option<T>, ReadError>
     ensures exact { Gives result
-        (fields.optional key.now T.reads (members_view members.now.entries)) }
+        (fields.optional_member key.now T.reads (members_view members.now.entries)) }
 {
     let answer = match member(members, key) {
         Some(value) => Option::read(alloc, value),
@@ -105,15 +105,15 @@ pub fn optional<T: ReadJson>(
 }
 
 /// A member that may be missing, and is then the default.
-#[tactic(auto, unfolding(crate::specs::Fields::defaulted))]
-pub fn defaulted<T: ReadJson>(
+#[tactic(auto, unfolding(crate::specs::Fields::default_member))]
+pub fn default_member<T: ReadJson>(
     alloc: Global,
     members: &Map<String, Value>,
     key: &str,
     default: T,
 ) -> Result<T, ReadError>
     ensures exact { Gives result
-        (fields.defaulted key.now default T.reads (members_view members.now.entries)) }
+        (fields.default_member key.now default T.reads (members_view members.now.entries)) }
 {
     let answer = match member(members, key) {
         Some(value) => T::read(alloc, value),
@@ -123,27 +123,27 @@ pub fn defaulted<T: ReadJson>(
 }
 
 /// A list that may be missing, and is then empty.
-#[tactic(auto, unfolding(crate::specs::Fields::defaulted))]
-pub fn listed<T: ReadJson>(
+#[tactic(auto, unfolding(crate::specs::Fields::default_member))]
+pub fn list_member<T: ReadJson>(
     alloc: Global,
     members: &Map<String, Value>,
     key: &str,
 ) -> Result<Items<T>, ReadError>
     ensures exact { Gives result
-        (fields.defaulted key.now [] (list_at T.reads) (members_view members.now.entries)) }
+        (fields.default_member key.now [] (list_at T.reads) (members_view members.now.entries)) }
 {
-    defaulted(alloc, members, key, Items::empty(alloc))
+    default_member(alloc, members, key, Items::empty(alloc))
 }
 
 /// A map that may be missing, and is then empty.
-#[tactic(auto, unfolding(crate::specs::Fields::defaulted))]
-pub fn mapped<T: ReadJson>(
+#[tactic(auto, unfolding(crate::specs::Fields::default_member))]
+pub fn map_member<T: ReadJson>(
     alloc: Global,
     members: &Map<String, Value>,
     key: &str,
 ) -> Result<ByText<T>, ReadError>
     ensures exact { Gives result
-        (fields.defaulted key.now [] (map_at T.reads) (members_view members.now.entries)) }
+        (fields.default_member key.now [] (map_at T.reads) (members_view members.now.entries)) }
 {
-    defaulted(alloc, members, key, ByText::empty(alloc))
+    default_member(alloc, members, key, ByText::empty(alloc))
 }

@@ -6,7 +6,7 @@ ghost use Rattle.json_fields.specs.TextJson.{text_form_at, text_form_data};
 ghost use Rattle.json_fields.specs.Laws.TextForms.{text_form-round_trips};
 
 use crate::place::ReadError;
-use crate::reading::{Json, Present, ReadJson, missed};
+use crate::reading::{Json, Present, ReadJson, miss};
 use serde_json::Value;
 use std::alloc::{AllocError, Global};
 
@@ -33,7 +33,7 @@ impl<T: TextJson> ReadJson for T {
     fn read(alloc: Global, value: &Value) -> Result<T, ReadError> {
         match value.as_str() {
             Some(text) => T::read_text(alloc, text),
-            None => missed(alloc),
+            None => miss(alloc),
         }
     }
 }

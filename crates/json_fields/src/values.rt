@@ -10,7 +10,7 @@ ghost use Rattle.json_fields.specs.Written.{list_data, option_data};
 ghost use Rattle.json_fields.specs.Laws.RoundTrips.{flag-round_trips, list-round_trips, number-round_trips, option-round_trips, text-round_trips};
 
 use crate::place::{ReadError, below_item};
-use crate::reading::{Json, Present, ReadJson, missed};
+use crate::reading::{Json, Present, ReadJson, miss};
 use base_text::{Items, Name, Text};
 use serde_json::Value;
 use std::alloc::{AllocError, Global};
@@ -25,7 +25,7 @@ impl ReadJson for Text {
     fn read(alloc: Global, value: &Value) -> Result<Text, ReadError> {
         match value.as_str() {
             Some(text) => Ok(Text::of_str(alloc, text)?),
-            None => missed(alloc),
+            None => miss(alloc),
         }
     }
 }
@@ -76,7 +76,7 @@ impl ReadJson for bool {
     fn read(alloc: Global, value: &Value) -> Result<bool, ReadError> {
         match value {
             Value::Bool(flag) => Ok(*flag),
-            _ => missed(alloc),
+            _ => miss(alloc),
         }
     }
 }
@@ -103,7 +103,7 @@ impl ReadJson for u64 {
     fn read(alloc: Global, value: &Value) -> Result<u64, ReadError> {
         match value.as_u64() {
             Some(n) => Ok(n),
-            None => missed(alloc),
+            None => miss(alloc),
         }
     }
 }
@@ -156,7 +156,7 @@ impl<T: ReadJson> ReadJson for Items<T> {
     fn read(alloc: Global, value: &Value) -> Result<Items<T>, ReadError> {
         match value.as_array() {
             Some(values) => read_items(alloc, values.as_slice()),
-            None => missed(alloc),
+            None => miss(alloc),
         }
     }
 }

@@ -8,7 +8,7 @@ ghost use Rattle.json_fields.specs.Versions.{requirement_of, version_of, version
 ghost use Rattle.json_fields.specs.Laws.ReadAgain.{requirement_of-again, version_of-again};
 
 use crate::place::ReadError;
-use crate::reading::missed;
+use crate::reading::miss;
 use crate::text_json::TextJson;
 use base_text::{Text, TryClone, Version};
 use semver::VersionReq;
@@ -28,7 +28,7 @@ impl TextJson for Version {
                 if error == semver::Error::from(AllocError) {
                     return Err(ReadError::OutOfMemory);
                 }
-                missed(alloc)
+                miss(alloc)
             }
         }
     }
@@ -75,7 +75,7 @@ impl Requirement {
                 if error == semver::Error::from(AllocError) {
                     return Err(ReadError::OutOfMemory);
                 }
-                missed(alloc)
+                miss(alloc)
             }
         }
     }

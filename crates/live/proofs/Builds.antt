@@ -17,7 +17,7 @@ use Rattle.live.specs.declared.fault.LiveError.TheVariants.{NoCargoProject, OutO
 use Rattle.live.specs.declared.session.Live.{Live}
 use Rattle.live.specs.Fault.{IsOneOf, of_build_error, status_of, turn_statuses}
 use Rattle.live.specs.Marked.{BuildsProject, FailsBuild}
-use Rattle.live.specs.Session.{State, build_turn, built, of_building, project_after_build, state_after_failure, turn}
+use Rattle.live.specs.Session.{State, build_turn, built_turn, of_building, project_after_build, state_after_failure, turn}
 use Rattle.live.specs.Turn.{EndsTurn, Holds, LeavesAsWas, TakesTurn}
 use Rattle.live.specs.Written.{HasWriteCause}
 use Rattle.live.proofs.Loads.{Holds-project, memory_cause, memory_ends, others_leave}
@@ -72,8 +72,8 @@ no-limit error (inr of) is = no-build_limit of.0 (sym of.1 ∙ is)
 
 -- what the session has of a build is the turn of the state
 build-is : (live : Live) (s : State) → Holds live s → (output : Output) (outcome : Result ProjectContent LiveError)
-    → project_after_build live.project output ≡ outcome → build_turn s output ≡ built s outcome
-build-is live s h output outcome is = ap (built s) (ap (λ p. project_after_build p output) (sym h.project) ∙ is)
+    → project_after_build live.project output ≡ outcome → build_turn s output ≡ built_turn s outcome
+build-is live s h output outcome is = ap (built_turn s) (ap (λ p. project_after_build p output) (sym h.project) ∙ is)
 
 -- a build that is taken
 pub takes_build : (live live' : Live) (output : Output) (result : Result (Unit {0}) LiveError) (held : Option (List ℕ)) (event : Event) → event ≡ Build output

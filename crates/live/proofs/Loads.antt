@@ -21,7 +21,7 @@ use Rattle.live.specs.declared.fault.LiveError.TheVariants.{OutOfMemory, TooMany
 use Rattle.live.specs.declared.session.Live.{Live}
 use Rattle.live.specs.Fault.{IsOneOf, IsRefusal, of_load_error, of_project_error, status_of, turn_statuses}
 use Rattle.live.specs.Marked.{AddsAnswer, FailsLoad, IsLoadRefusal, LoadsProject, TakesProject, sources_kept}
-use Rattle.live.specs.Session.{State, load_turn, loaded, sources_of, state_after_failure, turn}
+use Rattle.live.specs.Session.{State, load_turn, loaded_turn, sources_of, state_after_failure, turn}
 use Rattle.live.specs.Turn.{EndsTurn, Holds, LeavesAsWas, TakesTurn}
 use Rattle.live.specs.Written.{HasWriteCause}
 use Rattle.live.proofs.Kept.{kept_tree}
@@ -81,12 +81,12 @@ module _ (live live' : Live) (s : State) (h : Holds live s) where
 
 -- what was read is the turn of the load
 load-read : (s : State) (path : List ℕ) (workspace : ProjectWorkspace) → read_sources (sources_of s path) ≡ Ok workspace
-    → load_turn s path ≡ loaded s (sources_of s path) (Ok workspace)
-load-read s path workspace read = ap (loaded s (sources_of s path)) read
+    → load_turn s path ≡ loaded_turn s (sources_of s path) (Ok workspace)
+load-read s path workspace read = ap (loaded_turn s (sources_of s path)) read
 
 load-refused : (s : State) (path : List ℕ) (refusal : ProjectError) → read_sources (sources_of s path) ≡ Err refusal
-    → load_turn s path ≡ loaded s (sources_of s path) (Err refusal)
-load-refused s path refusal read = ap (loaded s (sources_of s path)) read
+    → load_turn s path ≡ loaded_turn s (sources_of s path) (Err refusal)
+load-refused s path refusal read = ap (loaded_turn s (sources_of s path)) read
 
 -- an answer that is recorded
 pub takes_answer : (live live' : Live) (line : CommandLine) (output : Output) (result : Result (Unit {0}) LiveError) (held : Option (List ℕ)) (event : Event) → event ≡ Answer line output

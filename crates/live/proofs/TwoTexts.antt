@@ -13,7 +13,7 @@ use Rattle.live.specs.declared.fault.LiveError.TheVariants.{NoCargoProject}
 use Rattle.live_input.specs.Event.{event}
 use Rattle.live.specs.Laws.{IsJoined, SessionsJoin, counted_on}
 use Rattle.bounded_lines.specs.Lines.{final, front, last_line, lines_of, newline, partial_line, pieces, whole_lines}
-use Rattle.live.specs.Session.{Outcome, State, built, flush_of, flushed_turn, has_room, loaded, mark_turn, of_building, project_after_build, session, sources_of, start, take_line, take_line_after, turn, turn_of, turns}
+use Rattle.live.specs.Session.{Outcome, State, built_turn, flush_of, flushed_turn, has_room, loaded_turn, mark_turn, of_building, project_after_build, session, sources_of, start, take_line, take_line_after, turn, turn_of, turns}
 use Rattle.bounded_lines.proofs.Cuts.{parts_of}
 use Rattle.live.proofs.Deciding.{session-within}
 use Rattle.std.specs.Prelude.{Result, Ok, Err}
@@ -113,26 +113,26 @@ refusal-counted lines (load.TooMany limit) = refl
 refusal-counted lines load.OutOfMemory = refl
 
 load-counted : (s : State) (sources : Sources) (lines : ℕ) (reading : Result ProjectWorkspace ProjectError)
-    → option_map (counted_on lines) (loaded s sources reading).refusal ≡ (loaded s sources reading).refusal
+    → option_map (counted_on lines) (loaded_turn s sources reading).refusal ≡ (loaded_turn s sources reading).refusal
 load-counted s sources lines (Ok workspace) = refl
 load-counted s sources lines (Err (project.BadManifest path)) = refl
 load-counted s sources lines (Err (project.Refused error)) = ap Some (refusal-counted lines error)
 load-counted s sources lines (Err project.OutOfMemory) = refl
 
 built-counted : (s : State) (lines : ℕ) (reading : Reading ProjectContent)
-    → option_map (counted_on lines) (built s (of_building reading)).refusal ≡ (built s (of_building reading)).refusal
+    → option_map (counted_on lines) (built_turn s (of_building reading)).refusal ≡ (built_turn s (of_building reading)).refusal
 built-counted s lines (Ok project) = refl
 built-counted s lines (Err (build.Io line)) = refl
 built-counted s lines (Err (build.NotAbsolute text)) = refl
 built-counted s lines (Err build.OutOfMemory) = refl
 
 build-counted : (s : State) (lines : ℕ) (project : Option ProjectContent) (output : Output)
-    → option_map (counted_on lines) (built s (project_after_build project output)).refusal ≡ (built s (project_after_build project output)).refusal
+    → option_map (counted_on lines) (built_turn s (project_after_build project output)).refusal ≡ (built_turn s (project_after_build project output)).refusal
 build-counted s lines None output = refl
 build-counted s lines (Some project) output = by (has_cargo_workspace project.workspace.kind)
   where
-    by : (has : Bool) → option_map (counted_on lines) (built s (cond has (of_building (built_project project output)) (Err NoCargoProject))).refusal
-        ≡ (built s (cond has (of_building (built_project project output)) (Err NoCargoProject))).refusal
+    by : (has : Bool) → option_map (counted_on lines) (built_turn s (cond has (of_building (built_project project output)) (Err NoCargoProject))).refusal
+        ≡ (built_turn s (cond has (of_building (built_project project output)) (Err NoCargoProject))).refusal
     by true = built-counted s lines (built_project project output)
     by false = refl
 
@@ -204,11 +204,11 @@ mark_turn-config : (s : State) (path : PathContent) (kind : MarkKind) (room : Bo
 mark_turn-config s path kind true e = rw e refl
 mark_turn-config s path kind false e = rw e refl
 
-load-config : (s : State) (sources : Sources) (reading : Result ProjectWorkspace ProjectError) → (loaded s sources reading).state.config ≡ s.config
+load-config : (s : State) (sources : Sources) (reading : Result ProjectWorkspace ProjectError) → (loaded_turn s sources reading).state.config ≡ s.config
 load-config s sources (Ok workspace) = refl
 load-config s sources (Err error) = refl
 
-build-config : (s : State) (outcome : Result ProjectContent LiveError) → (built s outcome).state.config ≡ s.config
+build-config : (s : State) (outcome : Result ProjectContent LiveError) → (built_turn s outcome).state.config ≡ s.config
 build-config s (Ok project) = refl
 build-config s (Err error) = refl
 

@@ -9,7 +9,7 @@ use Rattle.crate_values.specs.declared.crate_data.Dependency.{Dependency}
 use Rattle.input_db.specs.Database.{Database}
 use Rattle.input_db.specs.Identity.{Table, crate_edges, input_in, named_in}
 use Rattle.input_db.specs.declared.crate_input.CrateInput.{CrateInput}
-use Rattle.live_project.specs.Crates.{lowered, wanted}
+use Rattle.live_project.specs.Crates.{project_crates, project_edges}
 use Rattle.live_project.specs.Project.{ProjectContent}
 use Rattle.pm_rows.specs.Lowering.{Crate}
 use Rattle.pm_rows.specs.WantedEdges.{Dep, Edge}
@@ -73,10 +73,10 @@ LacksCyclesIn edges db numbers = (e : Edge) → Contains edges e
 -- a database shows the crates that a project has by these files
 pub record ShowsProject (db : Database) (p : ProjectContent) (files : List (ℕ × PathContent)) : Type 0 where
   pub crates : List Crate
-  pub lowers : lowered p files ≡ Ok crates
+  pub lowers : project_crates p files ≡ Ok crates
   pub numbers : List ℕ
   pub are : AreListed db numbers crates
-  pub missing : LacksCyclesIn (wanted p files) db numbers
+  pub missing : LacksCyclesIn (project_edges p files) db numbers
 
 -- and none where no project was loaded
 abbrev pub ShowsCrates : Database → Option ProjectContent → List (ℕ × PathContent) → Type 0

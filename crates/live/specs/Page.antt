@@ -5,7 +5,7 @@ use Rattle.std.specs.Map.{lookup}
 use Rattle.std.specs.Option.{option_map}
 use Rattle.live_flush.specs.Page as placed
 use Rattle.live_flush.specs.declared.file_root.FileRoot.{FileRoot}
-use Rattle.live_project.specs.Crates.{lowered}
+use Rattle.live_project.specs.Crates.{project_crates}
 use Rattle.live_project.specs.Project.{ProjectContent}
 use Rattle.live_project.specs.Roots.{roots_of_project}
 use Rattle.pages.specs.Entries.{Node, Paths, entries_of}
@@ -49,7 +49,7 @@ roots_by (Some p) = roots_of_project p.workspace
 -- the crates by the files that live, or why there are none; no project has none
 abbrev pub crates_by : Option ProjectContent → List (ℕ × PathContent) → Result (List Crate) LowerError
 crates_by None files = Ok []
-crates_by (Some p) files = lowered p files
+crates_by (Some p) files = project_crates p files
 
 -- the crates of a flush, or why it is refused
 abbrev pub crates_of_flush : Flush → Result (List Crate) LowerError

@@ -12,7 +12,7 @@ use Rattle.pm_rows.specs.Refusal.{Refuses}
 use Rattle.pm_rows.specs.declared.lower_error.LowerError.{LowerError}
 use Rattle.live_flush.specs.FileRoots.{root_lists}
 use Rattle.live_flush.specs.Refresh.{GivesCrates, Refreshes}
-use Rattle.live_project.specs.Crates.{BeginIn, lowered, wanted}
+use Rattle.live_project.specs.Crates.{BeginIn, project_crates, project_edges}
 use Rattle.live_project.specs.Project.{ProjectContent}
 use Rattle.live.specs.declared.fault.LiveError.{LiveError}
 use Rattle.live.specs.declared.fault.LiveError.TheVariants.{OutOfMemory}
@@ -26,9 +26,9 @@ use Rattle.live.specs.Page.{crates_by, roots_by}
 -- a graph has the crates of a project by these files, each begins in one of them, and a wanted edge is a dependency exactly where its
 -- target does not reach its source
 pub record IsGraphOf (p : ProjectContent) (files : List (ℕ × PathContent)) (graph : Graph) : Type 0 where
-  pub crates : lowered p files ≡ Ok (map crate_seen graph.crates)
+  pub crates : project_crates p files ≡ Ok (map crate_seen graph.crates)
   pub begins : BeginIn files graph.crates
-  pub missing : LacksCyclesAlone (wanted p files) graph.crates
+  pub missing : LacksCyclesAlone (project_edges p files) graph.crates
 
 -- the graph of a project, and none where there is no project
 abbrev pub IsGraphBy : Option ProjectContent → List (ℕ × PathContent) → Option Graph → Type 0

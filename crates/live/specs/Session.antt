@@ -86,13 +86,13 @@ abbrev pub sources_of : State → List ℕ → Sources
 sources_of s path = record { config = s.config; answers = s.answers; files = kept_files (live_files s.marks); path = path }
 
 -- a load of what was read, or of its refusal, which leaves the state as it was
-abbrev pub loaded : State → Sources → Result ProjectWorkspace ProjectError → Turn
-loaded s sources (Ok workspace) = takes (record s { project = Some (record { sources = sources; workspace = workspace }) }) []
-loaded s sources (Err error) = refuses s (of_project_error error)
+abbrev pub loaded_turn : State → Sources → Result ProjectWorkspace ProjectError → Turn
+loaded_turn s sources (Ok workspace) = takes (record s { project = Some (record { sources = sources; workspace = workspace }) }) []
+loaded_turn s sources (Err error) = refuses s (of_project_error error)
 
 -- a load is judged by what it keeps alone
 abbrev pub load_turn : State → List ℕ → Turn
-load_turn s path = loaded s (sources_of s path) (read_sources (sources_of s path))
+load_turn s path = loaded_turn s (sources_of s path) (read_sources (sources_of s path))
 
 -- ---- builds
 
@@ -108,13 +108,13 @@ project_after_build (Some project) output =
     if has_cargo_workspace project.workspace.kind then of_building (built_project project output) else Err NoCargoProject
 
 -- a build that gives this project, or its refusal, which leaves the state as it was
-abbrev pub built : State → Result ProjectContent LiveError → Turn
-built s (Ok project) = takes (record s { project = Some project }) []
-built s (Err error) = refuses s error
+abbrev pub built_turn : State → Result ProjectContent LiveError → Turn
+built_turn s (Ok project) = takes (record s { project = Some project }) []
+built_turn s (Err error) = refuses s error
 
 -- a build
 abbrev pub build_turn : State → Output → Turn
-build_turn s output = built s (project_after_build s.project output)
+build_turn s output = built_turn s (project_after_build s.project output)
 
 -- ---- flushes
 

@@ -102,7 +102,7 @@ impl Live {
     }
 
     /// Whether an earlier flush was refused. No event is taken any more then.
-    pub fn ended(&self) -> bool
+    pub fn has_ended(&self) -> bool
         ensures { IsTrue result ↔ HasEnded self.now }
     {
         self.ended
@@ -140,7 +140,7 @@ impl Live {
     }
 
     /// What the last flush brought into the database, if there was one.
-    pub fn flushed(&self) -> Option<&LastFlush>
+    pub fn last_flush(&self) -> Option<&LastFlush>
         ensures { option_copied result ≡ self.now.flushed }
     {
         self.flushed.as_ref()

@@ -6,7 +6,7 @@ use Rattle.serde_json.specs.Data.{Data, Members}
 use Rattle.base_text.specs.Paths.{normal, path_text}
 use Rattle.outside.specs.declared.command.Output.{Output}
 use Rattle.json_fields.specs.Document.{bytes_document}
-use Rattle.json_fields.specs.Fields.{defaulted, flag_at, list_at, members_at, optional, required, text_at}
+use Rattle.json_fields.specs.Fields.{default_member, flag_at, list_at, members_at, optional_member, required_member, text_at}
 use Rattle.json_fields.specs.Outcome.{◌>>=◌, Reading}
 use Rattle.vfs_core.specs.VfsPath.{PathContent}
 use Rattle.live_input.specs.declared.event.Event.{Event}
@@ -22,14 +22,14 @@ real_path text =
 -- the real path under the key `path`
 unfoldable pub path_under : Members → Reading PathContent
 path_under ms = do
-  text ← required (codes "path") text_at ms
+  text ← required_member (codes "path") text_at ms
   real_path text
 
 -- a file gets a text, or is deleted where there is none
 unfoldable pub file_at : Members → Reading Event
 file_at ms = do
   path ← path_under ms
-  text ← optional (codes "text") text_at ms
+  text ← optional_member (codes "text") text_at ms
   Ok (File path text)
 
 -- a file is left out, for good
@@ -41,24 +41,24 @@ exclude_at ms = do
 -- whether a command succeeded, and what it wrote: a missing text is empty
 unfoldable pub output_at : Members → Reading Output
 output_at ms = do
-  ok ← required (codes "ok") flag_at ms
-  out ← defaulted (codes "out") [] text_at ms
-  err ← defaulted (codes "err") [] text_at ms
+  ok ← required_member (codes "ok") flag_at ms
+  out ← default_member (codes "out") [] text_at ms
+  err ← default_member (codes "err") [] text_at ms
   Ok (record { ok = ok; out = out; err = err })
 
 -- the result of a command is recorded; its variables play no part
 unfoldable pub answer_at : Members → Reading Event
 answer_at ms = do
-  program ← required (codes "program") text_at ms
-  words ← required (codes "words") (list_at text_at) ms
-  dir ← required (codes "dir") text_at ms
+  program ← required_member (codes "program") text_at ms
+  words ← required_member (codes "words") (list_at text_at) ms
+  dir ← required_member (codes "dir") text_at ms
   output ← output_at ms
   Ok (Answer (record { program = program; words = words; dir = dir; env = [] }) output)
 
 -- a project is loaded: its path is kept as it is written
 unfoldable pub load_at : Members → Reading Event
 load_at ms = do
-  path ← required (codes "path") text_at ms
+  path ← required_member (codes "path") text_at ms
   Ok (Load path)
 
 -- the project was built: the result of the command that builds it
@@ -82,7 +82,7 @@ event_named name ms =
 unfoldable pub event_at : Data → Reading Event
 event_at d = do
   ms ← members_at d
-  name ← required (codes "event") text_at ms
+  name ← required_member (codes "event") text_at ms
   event_named name ms
 
 -- the value that was read, if nothing was missed

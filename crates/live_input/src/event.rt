@@ -5,7 +5,9 @@ ghost use Rattle.serde_json.specs.View.{members_view};
 ghost use Rattle.live_input.specs.Event.{Answers, answer_at, build_at, event, exclude_at, file_at, load_at, output_at, path_under, real_path};
 
 use base_text::{CommandLine, Items, Output, PathError, Text, TryClone};
-use json_fields::{ReadError, ReadJson, defaulted, members, missed, of_bytes, optional, required};
+use json_fields::{
+    ReadError, ReadJson, default_member, members, miss, of_bytes, optional_member, required_member,
+};
 use serde_json::{Map, Value};
 use std::alloc::{AllocError, Global};
 use thiserror::Error;
@@ -96,7 +98,7 @@ impl ReadJson for Event {
 
     fn read(alloc: Global, value: &Value) -> Result<Self, ReadError> {
         let fields = members(alloc, value)?;
-        let name: Text = required(alloc, fields, "event")?;
+        let name: Text = required_member(alloc, fields, "event")?;
         match name.as_str() {
             "file" => file_of(alloc, fields),
             "exclude" => exclude_of(alloc, fields),
@@ -104,7 +106,7 @@ impl ReadJson for Event {
             "load" => load_of(alloc, fields),
             "build" => build_of(alloc, fields),
             "flush" => Ok(Event::Flush),
-            _ => missed(alloc),
+            _ => miss(alloc),
         }
     }
 }
@@ -115,7 +117,7 @@ fn file_of(alloc: Global, fields: &Map<String, Value>) -> Result<Event, ReadErro
     ensures { Gives result (file_at (members_view fields.now.entries)) }
 {
     let path = path_of(alloc, fields)?;
-    let text = optional(alloc, fields, "text")?;
+    let text = optional_member(alloc, fields, "text")?;
     Ok(Event::File { path, text })
 }
 
@@ -133,9 +135,9 @@ fn exclude_of(alloc: Global, fields: &Map<String, Value>) -> Result<Event, ReadE
 fn answer_of(alloc: Global, fields: &Map<String, Value>) -> Result<Event, ReadError>
     ensures { Gives result (answer_at (members_view fields.now.entries)) }
 {
-    let program = required(alloc, fields, "program")?;
-    let words = required(alloc, fields, "words")?;
-    let dir = required(alloc, fields, "dir")?;
+    let program = required_member(alloc, fields, "program")?;
+    let words = required_member(alloc, fields, "words")?;
+    let dir = required_member(alloc, fields, "dir")?;
     let output = output_of(alloc, fields)?;
     let env = Items::empty(alloc);
     let line = CommandLine {
@@ -152,9 +154,9 @@ fn answer_of(alloc: Global, fields: &Map<String, Value>) -> Result<Event, ReadEr
 fn output_of(alloc: Global, fields: &Map<String, Value>) -> Result<Output, ReadError>
     ensures { Gives result (output_at (members_view fields.now.entries)) }
 {
-    let ok = required(alloc, fields, "ok")?;
-    let out = defaulted(alloc, fields, "out", Text::of_str(alloc, "")?)?;
-    let err = defaulted(alloc, fields, "err", Text::of_str(alloc, "")?)?;
+    let ok = required_member(alloc, fields, "ok")?;
+    let out = default_member(alloc, fields, "out", Text::of_str(alloc, "")?)?;
+    let err = default_member(alloc, fields, "err", Text::of_str(alloc, "")?)?;
     Ok(Output { ok, out, err })
 }
 
@@ -163,7 +165,7 @@ fn output_of(alloc: Global, fields: &Map<String, Value>) -> Result<Output, ReadE
 fn load_of(alloc: Global, fields: &Map<String, Value>) -> Result<Event, ReadError>
     ensures { Gives result (load_at (members_view fields.now.entries)) }
 {
-    let path = required(alloc, fields, "path")?;
+    let path = required_member(alloc, fields, "path")?;
     Ok(Event::Load { path })
 }
 
@@ -181,7 +183,7 @@ fn build_of(alloc: Global, fields: &Map<String, Value>) -> Result<Event, ReadErr
 fn path_of(alloc: Global, fields: &Map<String, Value>) -> Result<VfsPath, ReadError>
     ensures { Gives result (path_under (members_view fields.now.entries)) }
 {
-    let text: Text = required(alloc, fields, "path")?;
+    let text: Text = required_member(alloc, fields, "path")?;
     real_path(alloc, text.as_str())
 }
 
@@ -191,7 +193,7 @@ fn real_path(alloc: Global, text: &str) -> Result<VfsPath, ReadError>
 {
     match VfsPath::new_real_path(alloc, text) {
         Ok(path) => Ok(path),
-        Err(PathError::NotAbsolute) => missed(alloc),
+        Err(PathError::NotAbsolute) => miss(alloc),
         Err(PathError::OutOfMemory) => Err(ReadError::OutOfMemory),
     }
 }

@@ -100,7 +100,7 @@ impl Lines {
     }
 
     /// Whether a call was refused.
-    pub fn ended(&self) -> bool
+    pub fn has_ended(&self) -> bool
         ensures { result ≡ self.now.has_ended }
     {
         self.has_ended

@@ -51,7 +51,7 @@ impl OptionRow {
         }
     }
 
-    fn valued(option: LiveOption) -> Self
+    fn with_value(option: LiveOption) -> Self
         ensures { result ≡ valued_row option }
     {
         OptionRow {
@@ -67,19 +67,19 @@ fn row_of(word: &str) -> Option<OptionRow>
     ensures { result ≡ row_of word.now }
 {
     match word {
-        "--target" => Some(OptionRow::valued(LiveOption::Target)),
-        "--features" => Some(OptionRow::valued(LiveOption::Features)),
+        "--target" => Some(OptionRow::with_value(LiveOption::Target)),
+        "--features" => Some(OptionRow::with_value(LiveOption::Features)),
         "--no-default-features" => Some(OptionRow::flag(LiveOption::NoDefaultFeatures)),
         "--all-features" => Some(OptionRow::flag(LiveOption::AllFeatures)),
         "--no-deps" => Some(OptionRow::flag(LiveOption::NoDeps)),
-        "--extra-include" => Some(OptionRow::valued(LiveOption::ExtraInclude)),
-        "--env" => Some(OptionRow::valued(LiveOption::Env)),
-        "--process-env" => Some(OptionRow::valued(LiveOption::ProcessEnv)),
-        "--limit-bytes" => Some(OptionRow::valued(LiveOption::Limit(Limit::Bytes))),
-        "--limit-paths" => Some(OptionRow::valued(LiveOption::Limit(Limit::Paths))),
-        "--limit-packages" => Some(OptionRow::valued(LiveOption::Limit(Limit::Packages))),
-        "--limit-targets" => Some(OptionRow::valued(LiveOption::Limit(Limit::Targets))),
-        "--limit-crates" => Some(OptionRow::valued(LiveOption::Limit(Limit::Crates))),
+        "--extra-include" => Some(OptionRow::with_value(LiveOption::ExtraInclude)),
+        "--env" => Some(OptionRow::with_value(LiveOption::Env)),
+        "--process-env" => Some(OptionRow::with_value(LiveOption::ProcessEnv)),
+        "--limit-bytes" => Some(OptionRow::with_value(LiveOption::Limit(Limit::Bytes))),
+        "--limit-paths" => Some(OptionRow::with_value(LiveOption::Limit(Limit::Paths))),
+        "--limit-packages" => Some(OptionRow::with_value(LiveOption::Limit(Limit::Packages))),
+        "--limit-targets" => Some(OptionRow::with_value(LiveOption::Limit(Limit::Targets))),
+        "--limit-crates" => Some(OptionRow::with_value(LiveOption::Limit(Limit::Crates))),
         _ => None,
     }
 }

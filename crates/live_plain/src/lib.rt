@@ -209,7 +209,7 @@ pub fn plain_session(
         turn::turns(alloc, state, lines::lines(pieces.as_slice()))
     } else {
         let pieces = lines::pieces(alloc, &bytes[..limit as usize])?;
-        let outcome = turn::turns(alloc, state, lines::whole(pieces.as_slice()))?;
+        let outcome = turn::turns(alloc, state, lines::all_but_last(pieces.as_slice()))?;
         Ok(outcome.refused_by(LiveError::TooMany(Limit::Bytes)))
     }
 }

@@ -13,7 +13,7 @@ pub(crate) fn pieces<'a>(alloc: Global, bytes: &'a [u8]) -> Result<Vec<&'a [u8]>
 }
 
 /// All pieces but the last, which has no newline behind it.
-pub(crate) fn whole<'a, 'b>(pieces: &'a [&'b [u8]]) -> &'a [&'b [u8]]
+pub(crate) fn all_but_last<'a, 'b>(pieces: &'a [&'b [u8]]) -> &'a [&'b [u8]]
     ensures { map (λ p. p.now) result.now ≡ front (map (λ p. p.now) pieces.now) }
 {
     match pieces {

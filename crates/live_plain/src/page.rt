@@ -4,7 +4,7 @@ ghost use Rattle.std.specs.Prelude.{◌≡◌, IfOk, map};
 ghost use Rattle.live.specs.Page.{crates_of_flush, paths_of_flush, roots_by};
 ghost use Rattle.live_flush.specs.Page as placed;
 ghost use Rattle.live_plain.specs.Account.{HasPage, Lowers, LowersFlush, crates_in, paths_in};
-ghost use Rattle.live_project.specs.Crates.{lowered};
+ghost use Rattle.live_project.specs.Crates.{project_crates};
 ghost use Rattle.pages.specs.Entries.{entries_of, node_of};
 
 use crate::PlainFlush;
@@ -77,7 +77,7 @@ fn graph_of(
     project: &Project,
     files: &[PlainFile],
 ) -> Result<CrateGraphBuilder, LowerError>
-    ensures { Lowers result (lowered project.now (map (λ f. (f.number, f.path)) files.now)) }
+    ensures { Lowers result (project_crates project.now (map (λ f. (f.number, f.path)) files.now)) }
 {
     let mut loader = files_by_path(alloc, files)?;
     project.crate_graph_by(alloc, &mut loader)

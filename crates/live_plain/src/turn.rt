@@ -236,7 +236,7 @@ fn with_flush(mut state: PlainState, flush: PlainFlush) -> PlainState
 }
 
 // The state after it has ended.
-fn ended(mut state: PlainState) -> PlainState
+fn end_state(mut state: PlainState) -> PlainState
     ensures { result ≡ ended_state state }
 {
     state.ended = true;
@@ -252,10 +252,10 @@ fn flush_turn(alloc: Global, state: PlainState) -> Result<PlainTurn, AllocError>
         Ok(page) => takes_page(alloc, with_flush(state, flush), page),
         Err(LowerError::OutOfMemory) => Err(AllocError),
         Err(LowerError::BadCrateName(name)) => {
-            Ok(refuses(alloc, ended(state), LiveError::BadCrateName(name)))
+            Ok(refuses(alloc, end_state(state), LiveError::BadCrateName(name)))
         }
         Err(LowerError::TooMany(limit)) => {
-            Ok(refuses(alloc, ended(state), LiveError::TooMany(limit)))
+            Ok(refuses(alloc, end_state(state), LiveError::TooMany(limit)))
         }
     }
 }

@@ -61,7 +61,7 @@ module _ (P : ℕ → Type 0) where
   with_live_file-all : (files : by_path.Files) (file : ℕ × PathContent) → P file.0 → AllFiles files → AllFiles (with_live_file files file)
   with_live_file-all files file p all =
       cond_both file.1.is_virtual files (by_path.with_file files file.1.text file.0) AllFiles
-      (λ virtual. all) (λ real. insert-all files (by_path.normalized file.1.text) file.0 p all)
+      (λ virtual. all) (λ real. insert-all files (by_path.path_key file.1.text) file.0 p all)
 
   -- files that are put in one after the other
   put-all : (before : by_path.Files) (files : List (ℕ × PathContent)) → AllFiles before → All (λ file. P file.0) files → AllFiles (fold with_live_file before files)
@@ -76,7 +76,7 @@ module _ (P : ℕ → Type 0) where
     unfolding root_file
     root-of of target =
         cond_both (may_be_row w of target) (by_path.file_of files target.root) None (λ o. IfSome o P)
-        (λ may. All-lookup P (path_eq (by_path.normalized target.root)) files all) (λ other. tt)
+        (λ may. All-lookup P (path_eq (by_path.path_key target.root)) files all) (λ other. tt)
 
     with-target : (target : TargetData) (file : Option ℕ) → IfSome file P → IfSome {T = TargetData × ℕ} (option_map (λ f. (target, f)) file) (λ t. P t.1)
     with-target target None none = tt
@@ -141,7 +141,7 @@ module _ (P : ℕ → Type 0) where
   module _ (files : by_path.Files) (all : AllFiles files) where
     json-row : (n : ℕ) (krate : document.Crate) → All (λ (row : json_rows.Row). P row.file) (option_to_list (json_rows.row_of files n krate))
     unfolding Rattle.pm_json_rows.specs.Rows.row_of
-    json-row n krate = by (by_path.file_of files krate.root_module) (All-lookup P (path_eq (by_path.normalized krate.root_module)) files all)
+    json-row n krate = by (by_path.file_of files krate.root_module) (All-lookup P (path_eq (by_path.path_key krate.root_module)) files all)
       where
         by : (file : Option ℕ) → IfSome file P → All (λ (row : json_rows.Row). P row.file) (option_to_list (option_map (json_rows.row_in n krate) file))
         by None none = All-nil (λ (row : json_rows.Row). P row.file)
@@ -169,11 +169,11 @@ module _ (P : ℕ → Type 0) where
 
     detached-begins : (file : List ℕ) (cargo : Option Workspace) (shared : CrateWorkspaceData) (limit : ℕ)
         → IfOk (detached.lowering files file cargo shared limit) (λ crates. All (λ krate. P krate.root) crates)
-    unfolding Rattle.pm_detached.specs.Lowering.limited
+    unfolding Rattle.pm_detached.specs.Lowering.within_limit
     detached-begins file None shared limit =
         let crates = detached.crates_of file shared (by_path.file_of files file) in
         cond_both (nat_lt limit (length crates)) _ (Ok crates) (λ (r : Result (List Crate) LowerError). IfOk r (λ crates. All (λ (krate : Crate). P krate.root) crates))
-        (λ more. tt) (λ few. alone-begins file shared (by_path.file_of files file) (All-lookup P (path_eq (by_path.normalized file)) files all))
+        (λ more. tt) (λ few. alone-begins file shared (by_path.file_of files file) (All-lookup P (path_eq (by_path.path_key file)) files all))
     detached-begins file (Some w) shared limit = lowering-begins files all w shared limit
 
   kind-begins : (files : by_path.Files) → AllFiles files → (kind : ProjectWorkspaceKind) (shared : CrateWorkspaceData) (limit : ℕ)

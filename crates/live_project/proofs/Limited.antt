@@ -19,7 +19,7 @@ use Rattle.pm_rows.specs.Rows.{Part, parts, rows_of_parts}
 use Rattle.pm_rows.specs.WantedEdges.{bad_names}
 use Rattle.pm_rows.specs.declared.lower_error.LowerError.TheVariants.{TooMany}
 use Rattle.vfs_core.specs.VfsPath.{PathContent}
-use Rattle.live_project.specs.Crates.{files_by_path, lowered}
+use Rattle.live_project.specs.Crates.{files_by_path, project_crates}
 use Rattle.live_project.specs.Project.{ProjectContent}
 
 -- a name names no limit
@@ -49,7 +49,7 @@ json-limit files project shared most limit is =
 
 detached-limit : (files : by_path.Files) (file : List ℕ) (cargo : Option Workspace) (shared : CrateWorkspaceData) (most : ℕ) (limit : Limit)
     → detached.lowering files file cargo shared most ≡ Err (TooMany limit) → limit ≡ Crates
-unfolding Rattle.pm_detached.specs.Lowering.limited
+unfolding Rattle.pm_detached.specs.Lowering.within_limit
 detached-limit files file None shared most limit is =
     let crates = detached.crates_of file shared (by_path.file_of files file) in
     counted-limit (nat_lt most (length crates)) crates limit is
@@ -60,5 +60,5 @@ kind-limit files (Cargo cargo error scripts rustc) shared most limit is = worksp
 kind-limit files (Json project) shared most limit is = json-limit files project shared most limit is
 kind-limit files (DetachedFile file script) shared most limit is = detached-limit files file (script_workspace script) shared most limit is
 
-pub lowered_limit : (p : ProjectContent) (files : List (ℕ × PathContent)) (limit : Limit) → lowered p files ≡ Err (TooMany limit) → limit ≡ Crates
+pub lowered_limit : (p : ProjectContent) (files : List (ℕ × PathContent)) (limit : Limit) → project_crates p files ≡ Err (TooMany limit) → limit ≡ Crates
 lowered_limit p files limit is = kind-limit (files_by_path files) p.workspace.kind (shared_of p.workspace) p.sources.config.limits.crates limit is

@@ -14,7 +14,7 @@ use Rattle.pm_config.specs.declared.config.CargoConfig.{CargoConfig}
 use Rattle.pm_load.specs.Compiler.{compiler_answers}
 use Rattle.pm_load.specs.Loading.{Loading, ◌>>=◌, of_document, of_fetch, of_json_reading, of_reading}
 use Rattle.pm_load.specs.Located.{located_manifest, located_root, manifest_or_located}
-use Rattle.pm_load.specs.Metadata.{environment, fetched}
+use Rattle.pm_load.specs.Metadata.{environment, metadata_answer}
 use Rattle.pm_load.specs.ToolAnswers.{tool_answers}
 use Rattle.pm_lower.specs.Project.{cargo_project, kind_of, kind_with, located_project, project_of, project_with}
 use Rattle.pm_lower.specs.ReadProject.{read_project}
@@ -124,7 +124,7 @@ module _ (sysroot : Toolchain) (config : CargoConfig) (limits : Limits) (means :
   unfolding located_project
   names_fetched manifest =
       let answers = tool_answers sysroot manifest FirstTarget config means in
-      names_bind (of_fetch (fetched sysroot manifest config answers means)) _ (names_fetch (fetched sysroot manifest config answers means))
+      names_bind (of_fetch (metadata_answer sysroot manifest config answers means)) _ (names_fetch (metadata_answer sysroot manifest config answers means))
       (λ metadata. names_project manifest answers metadata)
 
   names_cargo : (manifest : List ℕ) → Names (cargo_project sysroot manifest config limits means)
@@ -155,7 +155,7 @@ module _ (sysroot : Toolchain) (config : CargoConfig) (limits : Limits) (means :
   unfolding detached_project detached_with
   names_detached file =
       let answers = tool_answers sysroot file NoTarget config means in
-      let metadata = metadata_or_none (fetched sysroot file config answers means) in
+      let metadata = metadata_or_none (metadata_answer sysroot file config answers means) in
       names_bind (script_with file answers.config_file limits means metadata) _ (names_script file answers.config_file metadata) (λ script. names_ok _)
 
 -- a load that a limit refuses is refused by that of packages, of targets or of crates
@@ -240,7 +240,7 @@ module _ (sysroot : Toolchain) (config : CargoConfig) (limits : Limits) (means :
   unfolding located_project
   small_located manifest =
       let answers = tool_answers sysroot manifest FirstTarget config means in
-      keeps_bind (IsSmall limits) (of_fetch (fetched sysroot manifest config answers means)) _ (λ metadata is. small_with manifest answers metadata)
+      keeps_bind (IsSmall limits) (of_fetch (metadata_answer sysroot manifest config answers means)) _ (λ metadata is. small_with manifest answers metadata)
 
   small_cargo : (manifest : List ℕ) → Keeps (IsSmall limits) (cargo_project sysroot manifest config limits means)
   unfolding cargo_project
@@ -291,7 +291,7 @@ module _ (sysroot : Toolchain) (config : CargoConfig) (limits : Limits) (means :
   unfolding detached_project detached_with
   small_detached file =
       let answers = tool_answers sysroot file NoTarget config means in
-      let metadata = metadata_or_none (fetched sysroot file config answers means) in
+      let metadata = metadata_or_none (metadata_answer sysroot file config answers means) in
       keeps_bind (IsSmall limits) (script_with file answers.config_file limits means metadata) _ (λ script is.
       keeps_ok (IsSmall limits) _ (small_of sysroot answers (DetachedFile file script) tt (few_read file answers.config_file metadata script is)))
 

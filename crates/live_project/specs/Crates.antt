@@ -29,12 +29,12 @@ abbrev pub wanted_by : ProjectContent → Files → List Edge
 wanted_by p files = kind_wants files p.workspace.kind
 
 -- the crates that the project has by these files, or why it has none
-abbrev pub lowered : ProjectContent → List (ℕ × PathContent) → Result (List Crate) LowerError
-lowered p files = lowered_by p (files_by_path files)
+abbrev pub project_crates : ProjectContent → List (ℕ × PathContent) → Result (List Crate) LowerError
+project_crates p files = lowered_by p (files_by_path files)
 
 -- the edges that it wants between them
-abbrev pub wanted : ProjectContent → List (ℕ × PathContent) → List Edge
-wanted p files = wanted_by p (files_by_path files)
+abbrev pub project_edges : ProjectContent → List (ℕ × PathContent) → List Edge
+project_edges p files = wanted_by p (files_by_path files)
 
 -- each crate of a graph begins in one of these files
 abbrev pub BeginIn : List (ℕ × PathContent) → List CrateBuilder → Type 0

@@ -10,7 +10,7 @@ ghost use Rattle.pm_lower.specs.ProjectWorkspace.{has_cargo_workspace};
 ghost use Rattle.pm_lower.specs.ReadProject.{read_project};
 ghost use Rattle.pm_rows.specs.Lowering.{IsLowered, LacksCyclesAlone};
 ghost use Rattle.live_project.specs.Build.{built_project, with_build};
-ghost use Rattle.live_project.specs.Crates.{BeginIn, lowered, lowered_by, wanted, wanted_by};
+ghost use Rattle.live_project.specs.Crates.{BeginIn, project_crates, lowered_by, project_edges, wanted_by};
 ghost use Rattle.live_project.specs.Project.{Loads, NamesLoadLimit, manifest_named, read_named, read_sources};
 ghost use Rattle.live_project.specs.Roots.{roots_of_project};
 ghost use Rattle.live_project.specs.Sources.{means_of_sources};
@@ -194,9 +194,9 @@ impl Project {
     /// The graph of the crates whose root files exist. Each begins in one of these files.
     pub fn crate_graph(&self, alloc: Global, files: &Vfs) -> Result<CrateGraphBuilder, LowerError>
         ensures lowers { IsLowered self.now.sources.config.limits.crates result
-            (lowered self.now (existing_files files.now)) }
+            (project_crates self.now (existing_files files.now)) }
         ensures missing { IfOk result (λ graph. LacksCyclesAlone
-            (wanted self.now (existing_files files.now)) graph.crates) }
+            (project_edges self.now (existing_files files.now)) graph.crates) }
         ensures begins { IfOk result (λ graph. BeginIn (existing_files files.now) graph.crates) }
     {
         let mut loader = files_by_path(alloc, files)?;

@@ -2,5 +2,5 @@
 use Rattle.std.specs.Prelude.{ℕ, ◌==◌, ◌-◌, ◌^◌, if◌then◌else◌, Option, Some, None}
 
 -- what a source gives whose next number is n: none where that is the greatest u64
-abbrev pub given : ℕ → Option ℕ
-given n = if n == 2 ^ 64 - 1 then None else Some n
+abbrev pub nonce_of : ℕ → Option ℕ
+nonce_of n = if n == 2 ^ 64 - 1 then None else Some n

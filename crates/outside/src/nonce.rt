@@ -2,7 +2,7 @@
 
 ghost use Rattle.std.specs.Prelude.{◌≡◌, ℕ};
 ghost use Rattle.outside.specs.Causes.{next_count};
-ghost use Rattle.outside.specs.Nonce.{given};
+ghost use Rattle.outside.specs.Nonce.{nonce_of};
 
 use base_values::TryClone;
 use std::alloc::{AllocError, Global};
@@ -16,7 +16,7 @@ pub trait NonceSource {
     /// Gives the number that comes next, and adds one. None where that number is the greatest u64,
     /// which is never given.
     fn next(&mut self) -> Option<u64>
-        ensures gives { result ≡ given (upcoming self.old) }
+        ensures gives { result ≡ nonce_of (upcoming self.old) }
         ensures adds { upcoming self.new ≡ next_count (upcoming self.old) };
 }
 
@@ -54,7 +54,7 @@ impl NonceSource for Numbers {
     ghost upcoming = { λ n. n };
 
     fn next(&mut self) -> Option<u64>
-        ensures gives { result ≡ given self.old }
+        ensures gives { result ≡ nonce_of self.old }
         ensures adds { self.new ≡ next_count self.old }
     {
         let number = self.upcoming;

@@ -5,7 +5,7 @@ ghost use Rattle.std.specs.Io.{ReadsAtMost};
 ghost use Rattle.std.specs.Io.KnownBytes.{ReadConsumes};
 ghost use Rattle.outside.specs.Causes.{HasCause};
 ghost use Rattle.outside.specs.Faulty.{Faulty, after_fault, after_service, fails_next};
-ghost use Rattle.outside.specs.Source.{read_count, left_after, filled};
+ghost use Rattle.outside.specs.Source.{read_count, left_after, buffer_after};
 
 use crate::faults::Faults;
 use std::marker::Model;
@@ -68,7 +68,7 @@ impl ByteSource for MemorySource {
         ensures cause { HasCause 0 0 result }
         ensures count { result ≡ Ok (read_count self.old buf.old) }
         ensures rest { self.new ≡ left_after self.old buf.old }
-        ensures buffer { buf.new ≡ filled self.old buf.old }
+        ensures buffer { buf.new ≡ buffer_after self.old buf.old }
     {
         let count = fill(&self.bytes[self.taken..], buf);
         self.taken += count;
@@ -133,7 +133,7 @@ impl ByteSource for FaultSource {
         ensures next { self.new ≡ (if fails_next self.old then after_fault self.old
             else after_service self.old (left_after self.old.bytes buf.old)) }
         ensures buffer { buf.new ≡ (if fails_next self.old then buf.old
-            else filled self.old.bytes buf.old) }
+            else buffer_after self.old.bytes buf.old) }
     {
         if self.faults.next_fails() {
             return Err(Failed);
@@ -151,7 +151,7 @@ impl ByteSource for FaultSource {
 // Copies the front of `left` to the front of the buffer, as much as it holds.
 fn fill(left: &[u8], buf: &mut [u8]) -> usize
     ensures count { result ≡ read_count left.now buf.old }
-    ensures buffer { buf.new ≡ filled left.now buf.old }
+    ensures buffer { buf.new ≡ buffer_after left.now buf.old }
 {
     let count = left.len().min(buf.len());
     buf[..count].copy_from_slice(&left[..count]);

@@ -71,7 +71,7 @@ fn sets_of(alloc: Global, db: &InputDb) -> Result<Vec<Value>, AllocError>
     ensures { IfOk result (λ sets. map view sets.items ≡ map set_shown (roots_listed db.now)) }
 {
     let mut sets = Vec::new(alloc);
-    for id in listed(alloc, db)? {
+    for id in listed_roots(alloc, db)? {
         if db.files().has_root(id) {
             sets.push(set_of(alloc, &db.source_root(id).source_root)?)?;
         }
@@ -80,7 +80,7 @@ fn sets_of(alloc: Global, db: &InputDb) -> Result<Vec<Value>, AllocError>
 }
 
 // The numbers of the source roots that the lists name, in order.
-fn listed(alloc: Global, db: &InputDb) -> Result<Vec<SourceRootId>, AllocError>
+fn listed_roots(alloc: Global, db: &InputDb) -> Result<Vec<SourceRootId>, AllocError>
     ensures { IfOk result (λ ids. ids.items ≡ numbers_listed db.now) }
 {
     let mut ids = Vec::new(alloc);

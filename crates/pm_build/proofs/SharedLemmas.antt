@@ -6,7 +6,7 @@ use Rattle.std.proofs.lemmas.List.Sums.{fold-append}
 use Rattle.std.specs.Borrow.{Bor}
 use Rattle.std.specs.FinMap.{empty}
 use Rattle.std.specs.List.{enumerate_from, range_with_len}
-use Rattle.base_text.specs.Arena.{numbered}
+use Rattle.base_text.specs.Arena.{with_numbers}
 use Rattle.outside.specs.declared.command.Output.{Output}
 use Rattle.pm_cargo.specs.Workspace.{Workspace}
 use Rattle.pm_packages.specs.declared.package.PackageData.{PackageData}
@@ -57,7 +57,7 @@ pushed-more before packages now next k n p within here count is pushed =
 
 -- the outputs that the first so many packages are given
 abbrev pub given_first : List PackageData → Outputs → List PackageData → ℕ → Outputs
-given_first all outputs packages count = fold (λ given p. with_output given p.0 (output_of_id all outputs p.1.id.repr)) empty (take count (numbered packages))
+given_first all outputs packages count = fold (λ given p. with_output given p.0 (output_of_id all outputs p.1.id.repr)) empty (take count (with_numbers packages))
 
 -- one more package is given its output, if it has one
 pub given-more : (all : List PackageData) (outputs : Outputs) (packages : List PackageData) (given next : Outputs) (k n : ℕ) (p : PackageData) (o : Option BuildScriptOutput)
@@ -75,7 +75,7 @@ pub given-all : (all : List PackageData) (outputs : Outputs) (packages : List Pa
     → given ≡ given_first all outputs packages n → given ≡ outputs_by_id all outputs packages
 given-all all outputs packages given n within is =
     is ∙ ap (λ (ps : List (ℕ × PackageData)). fold (λ (g : Outputs) (q : ℕ × PackageData). with_output g q.0 (output_of_id all outputs q.1.id.repr)) empty ps)
-    (take_all n (numbered packages) (omega (arith, within, length-enumerate_from 0 packages)))
+    (take_all n (with_numbers packages) (omega (arith, within, length-enumerate_from 0 packages)))
 
 -- the packages of a build, with what it gives
 abbrev pub shared : List PackageData → BuildScripts → SharedBuild

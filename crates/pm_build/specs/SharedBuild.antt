@@ -3,7 +3,7 @@ use Rattle.std.specs.Prelude.{ℕ, refl, List, fold, Option, Some, None, Ok, Err
 use Rattle.std.specs.Coded.{Coded, code_by, coded×, coded_list}
 use Rattle.std.specs.FinMap.{empty, get, insert}
 use Rattle.std.specs.Option.{option_and_then}
-use Rattle.base_text.specs.Arena.{numbered}
+use Rattle.base_text.specs.Arena.{with_numbers}
 use Rattle.outside.specs.Runner.{answer_of}
 use Rattle.outside.specs.declared.command.CommandLine.{CommandLine}
 use Rattle.outside.specs.declared.command.Output.{Output}
@@ -30,7 +30,7 @@ with_output outputs number (Some output) = insert outputs number output
 
 -- the outputs of packages by their ids, each under the number of its package
 abbrev pub outputs_by_id : List PackageData → Outputs → List PackageData → Outputs
-outputs_by_id all outputs packages = fold (λ given p. with_output given p.0 (output_of_id all outputs p.1.id.repr)) empty (numbered packages)
+outputs_by_id all outputs packages = fold (λ given p. with_output given p.0 (output_of_id all outputs p.1.id.repr)) empty (with_numbers packages)
 
 -- one build of several workspaces: the packages of all of them, and what the build gives these
 pub record SharedBuild : Type 0 where

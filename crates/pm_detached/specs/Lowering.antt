@@ -50,14 +50,14 @@ unfoldable pub crates_of : List ℕ → CrateWorkspaceData → Option ℕ → Li
 crates_of file shared number = map (crate_of file shared) (option_to_list number)
 
 -- crates, unless there are more than the limit
-unfoldable pub limited : ℕ → List cargo.Crate → Result (List cargo.Crate) LowerError
-limited limit crates = if nat_lt limit (length crates) then Err (TooMany Crates) else Ok crates
+unfoldable pub within_limit : ℕ → List cargo.Crate → Result (List cargo.Crate) LowerError
+within_limit limit crates = if nat_lt limit (length crates) then Err (TooMany Crates) else Ok crates
 
 -- ---- with the project that Cargo reads it as
 
 -- the lowering of a file: that of its Cargo project alone, where it has one
 abbrev pub lowering : Files → List ℕ → Option Workspace → CrateWorkspaceData → ℕ → Result (List cargo.Crate) LowerError
-lowering files file None shared limit = limited limit (crates_of file shared (file_of files file))
+lowering files file None shared limit = within_limit limit (crates_of file shared (file_of files file))
 lowering files file (Some w) shared limit = cargo.lowering files w shared limit
 
 -- the edges that its rows want: a file alone wants none

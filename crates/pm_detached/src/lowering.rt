@@ -3,7 +3,7 @@
 ghost use Rattle.std.specs.Prelude.{◌≡◌, IfErr, IfOk, OnOk, length, map, ◌++◌, ◌∷◌, []};
 ghost use Rattle.std.specs.Option.{option_copied, option_map};
 ghost use Rattle.crate_values.specs.Names.{shown_as};
-ghost use Rattle.pm_detached.specs.Lowering.{crate_of, crates_of, limited, lowering, name_of, wanted_edges};
+ghost use Rattle.pm_detached.specs.Lowering.{crate_of, crates_of, within_limit, lowering, name_of, wanted_edges};
 ghost use Rattle.pm_rows.specs.Lowering.{IsLowered, LacksCyclesAlone, crate_seen};
 ghost use Rattle.pm_rows.specs.Refusal.{IfTooMany};
 
@@ -51,7 +51,7 @@ fn graph_of(
     shared: &Rc<CrateWorkspaceData>,
     limits: &Limits,
 ) -> Result<CrateGraphBuilder, LowerError>
-    ensures lowers { IsLowered limits.now.crates result (limited limits.now.crates
+    ensures lowers { IsLowered limits.now.crates result (within_limit limits.now.crates
         (crates_of file.now shared.now.value number)) }
     ensures missing { IfOk result (λ graph. LacksCyclesAlone [] graph.crates) }
 {

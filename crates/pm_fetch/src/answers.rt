@@ -11,7 +11,9 @@ use pm_config::Progress;
 use std::alloc::{AllocError, Global};
 
 /// Metadata with no error beside it.
-pub(crate) fn alone(metadata: Result<Metadata, Error>) -> Result<(Metadata, Option<Error>), Error>
+pub(crate) fn without_error(
+    metadata: Result<Metadata, Error>,
+) -> Result<(Metadata, Option<Error>), Error>
     ensures { result ≡ spec.without_error metadata }
 {
     metadata.map(|metadata| (metadata, None))
@@ -26,7 +28,7 @@ pub(crate) fn of_output(
     ensures { Answers result (spec.of_output light output) }
 {
     if output.ok {
-        return alone(document_of(alloc, output.out.as_str()));
+        return without_error(document_of(alloc, output.out.as_str()));
     }
     let error = Error::CargoMetadata { stderr: output.err };
     match light {

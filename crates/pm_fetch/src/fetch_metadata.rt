@@ -9,7 +9,7 @@ ghost use Rattle.pm_fetch.specs.Fetch.{Answers, HasOutput, fetch_answer, fetch_b
 ghost use Rattle.pm_fetch.specs.Options.{full_options};
 ghost use Rattle.pm_fetch.specs.Questions.{locked_question};
 
-use crate::answers::{alone, of_output, report};
+use crate::answers::{of_output, report, without_error};
 use crate::options::{metadata_options, with_unstable};
 use crate::question::metadata_command;
 use crate::words::{line_text, push_flag};
@@ -86,7 +86,7 @@ impl FetchMetadata {
             light,
         } = self;
         if no_deps {
-            return alone(light);
+            return without_error(light);
         }
         let output = full_output(alloc, full, locked, runner, progress)?;
         of_output(alloc, light, output)

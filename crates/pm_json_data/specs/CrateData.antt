@@ -2,7 +2,7 @@
 use Rattle.std.specs.Prelude.{◌≡◌, [], codes, false, refl, Ok}
 use Rattle.serde_json.specs.Data.{Data, boolean, object, string, Members, no_members}
 use Rattle.json_fields.specs.Cfg.{cfg_at, cfg_data}
-use Rattle.json_fields.specs.Fields.{defaulted, flag_at, list_at, map_at, members_at, optional, required, text_at}
+use Rattle.json_fields.specs.Fields.{default_member, flag_at, list_at, map_at, members_at, optional_member, required_member, text_at}
 use Rattle.json_fields.specs.Outcome.{Reading, ◌>>=◌}
 use Rattle.json_fields.specs.Versions.{version_at, version_data}
 use Rattle.json_fields.specs.Written.{is_null, list_data, map_data, option_data, set_member}
@@ -16,14 +16,14 @@ use Rattle.pm_json_data.specs.declared.crate_rows.CrateTail.{CrateTail}
 -- the first eight rows
 unfoldable pub head_from : Members → Reading CrateHead
 head_from ms = do
-  display_name ← optional (codes "display_name") text_at ms
-  root_module ← required (codes "root_module") text_at ms
-  edition ← required (codes "edition") edition_at ms
-  version ← optional (codes "version") version_at ms
-  deps ← required (codes "deps") (list_at dep_at) ms
-  cfg_groups ← defaulted (codes "cfg_groups") [] (list_at text_at) ms
-  cfg ← defaulted (codes "cfg") [] (list_at cfg_at) ms
-  target ← optional (codes "target") text_at ms
+  display_name ← optional_member (codes "display_name") text_at ms
+  root_module ← required_member (codes "root_module") text_at ms
+  edition ← required_member (codes "edition") edition_at ms
+  version ← optional_member (codes "version") version_at ms
+  deps ← required_member (codes "deps") (list_at dep_at) ms
+  cfg_groups ← default_member (codes "cfg_groups") [] (list_at text_at) ms
+  cfg ← default_member (codes "cfg") [] (list_at cfg_at) ms
+  target ← optional_member (codes "target") text_at ms
   Ok (record {
     display_name = display_name;
     root_module = root_module;
@@ -38,15 +38,15 @@ head_from ms = do
 -- the nine rows after them
 unfoldable pub tail_from : Members → Reading CrateTail
 tail_from ms = do
-  env ← defaulted (codes "env") [] (map_at text_at) ms
-  crate_attrs ← defaulted (codes "crate_attrs") [] (list_at text_at) ms
-  proc_macro_dylib_path ← optional (codes "proc_macro_dylib_path") text_at ms
-  is_workspace_member ← optional (codes "is_workspace_member") flag_at ms
-  source ← optional (codes "source") source_at ms
-  is_proc_macro ← defaulted (codes "is_proc_macro") false flag_at ms
-  repository ← optional (codes "repository") text_at ms
-  build ← optional (codes "build") build_at ms
-  proc_macro_cwd ← optional (codes "proc_macro_cwd") text_at ms
+  env ← default_member (codes "env") [] (map_at text_at) ms
+  crate_attrs ← default_member (codes "crate_attrs") [] (list_at text_at) ms
+  proc_macro_dylib_path ← optional_member (codes "proc_macro_dylib_path") text_at ms
+  is_workspace_member ← optional_member (codes "is_workspace_member") flag_at ms
+  source ← optional_member (codes "source") source_at ms
+  is_proc_macro ← default_member (codes "is_proc_macro") false flag_at ms
+  repository ← optional_member (codes "repository") text_at ms
+  build ← optional_member (codes "build") build_at ms
+  proc_macro_cwd ← optional_member (codes "proc_macro_cwd") text_at ms
   Ok (record {
     env = env;
     crate_attrs = crate_attrs;

@@ -2,7 +2,7 @@
 use Rattle.std.specs.Prelude.{◌≡◌, if◌then◌else◌, ℕ, List, [], codes, false, refl, Ok, Err}
 use Rattle.serde_json.specs.Data.{Data, number, unsigned, object, string, no_members}
 use Rattle.crate_values.specs.Names.{has_dash}
-use Rattle.json_fields.specs.Fields.{members_at, number_at, required}
+use Rattle.json_fields.specs.Fields.{members_at, number_at, required_member}
 use Rattle.json_fields.specs.Outcome.{Reading, ◌>>=◌}
 use Rattle.json_fields.specs.TextJson.{text_form_at}
 use Rattle.json_fields.specs.Written.{is_null, set_member}
@@ -25,8 +25,8 @@ crate_idx n = record { 0 = n }
 unfoldable pub dep_at : Data → Reading Dep
 dep_at d = do
   ms ← members_at d
-  krate ← required (codes "crate") number_at ms
-  name ← required (codes "name") crate_name_at ms
+  krate ← required_member (codes "crate") number_at ms
+  name ← required_member (codes "name") crate_name_at ms
   Ok (record { krate = crate_idx krate; name = name })
 
 -- the document of a dependency

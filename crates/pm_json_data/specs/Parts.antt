@@ -1,7 +1,7 @@
 -- the tables of what a build system knows of a crate, of a crate's sources, and of a runnable
 use Rattle.std.specs.Prelude.{◌≡◌, codes, false, refl, Ok}
 use Rattle.serde_json.specs.Data.{Data, object, string, no_members}
-use Rattle.json_fields.specs.Fields.{list_at, members_at, required, text_at}
+use Rattle.json_fields.specs.Fields.{list_at, members_at, required_member, text_at}
 use Rattle.json_fields.specs.Outcome.{Reading, ◌>>=◌}
 use Rattle.json_fields.specs.Written.{is_null, list_data, set_member}
 use Rattle.pm_json_data.specs.Kinds.{runnable_kind_at, runnable_kind_data, target_kind_at, target_kind_data}
@@ -13,9 +13,9 @@ use Rattle.pm_json_data.specs.declared.parts.Runnable.{Runnable}
 unfoldable pub build_at : Data → Reading BuildData
 build_at d = do
   ms ← members_at d
-  label ← required (codes "label") text_at ms
-  build_file ← required (codes "build_file") text_at ms
-  target_kind ← required (codes "target_kind") target_kind_at ms
+  label ← required_member (codes "label") text_at ms
+  build_file ← required_member (codes "build_file") text_at ms
+  target_kind ← required_member (codes "target_kind") target_kind_at ms
   Ok (record { label = label; build_file = build_file; target_kind = target_kind })
 
 -- its document
@@ -34,8 +34,8 @@ build_data-present b = refl
 unfoldable pub source_at : Data → Reading CrateSource
 source_at d = do
   ms ← members_at d
-  include_dirs ← required (codes "include_dirs") (list_at text_at) ms
-  exclude_dirs ← required (codes "exclude_dirs") (list_at text_at) ms
+  include_dirs ← required_member (codes "include_dirs") (list_at text_at) ms
+  exclude_dirs ← required_member (codes "exclude_dirs") (list_at text_at) ms
   Ok (record { include_dirs = include_dirs; exclude_dirs = exclude_dirs })
 
 -- their document
@@ -51,10 +51,10 @@ source_data-present s = refl
 unfoldable pub runnable_at : Data → Reading Runnable
 runnable_at d = do
   ms ← members_at d
-  program ← required (codes "program") text_at ms
-  args ← required (codes "args") (list_at text_at) ms
-  cwd ← required (codes "cwd") text_at ms
-  kind ← required (codes "kind") runnable_kind_at ms
+  program ← required_member (codes "program") text_at ms
+  args ← required_member (codes "args") (list_at text_at) ms
+  cwd ← required_member (codes "cwd") text_at ms
+  kind ← required_member (codes "kind") runnable_kind_at ms
   Ok (record { program = program; args = args; cwd = cwd; kind = kind })
 
 -- the document of a runnable

@@ -3,8 +3,8 @@ use Rattle.std.specs.Prelude.{ℕ, [], codes, Ok}
 use Rattle.serde_json.specs.Data.{Data, object, string, no_members}
 use Rattle.serde_json.specs.Read.{max_depth}
 use Rattle.json_fields.specs.Cfg.{cfg_at, cfg_data}
-use Rattle.json_fields.specs.Fields.{defaulted, list_at, map_at, members_at, optional, required, text_at}
-use Rattle.json_fields.specs.Nested.{nested, or_null}
+use Rattle.json_fields.specs.Fields.{default_member, list_at, map_at, members_at, optional_member, required_member, text_at}
+use Rattle.json_fields.specs.Nested.{within_levels, or_null}
 use Rattle.json_fields.specs.Outcome.{Reading, ◌>>=◌}
 use Rattle.json_fields.specs.Written.{list_data, map_data, option_data, set_member}
 use Rattle.pm_json_data.specs.CrateData.{crate_at, crate_data}
@@ -18,12 +18,12 @@ use Rattle.pm_json_data.specs.declared.project_json_data.ProjectJsonData.TheView
 unfoldable pub project_row : (Data → Reading ProjectJsonData) → Data → Reading ProjectJsonData
 project_row inner d = do
   ms ← members_at d
-  sysroot ← optional (codes "sysroot") text_at ms
-  sysroot_src ← optional (codes "sysroot_src") text_at ms
-  sysroot_project ← optional (codes "sysroot_project") inner ms
-  cfg_groups ← defaulted (codes "cfg_groups") [] (map_at (list_at cfg_at)) ms
-  crates ← required (codes "crates") (list_at crate_at) ms
-  runnables ← defaulted (codes "runnables") [] (list_at runnable_at) ms
+  sysroot ← optional_member (codes "sysroot") text_at ms
+  sysroot_src ← optional_member (codes "sysroot_src") text_at ms
+  sysroot_project ← optional_member (codes "sysroot_project") inner ms
+  cfg_groups ← default_member (codes "cfg_groups") [] (map_at (list_at cfg_at)) ms
+  crates ← required_member (codes "crates") (list_at crate_at) ms
+  runnables ← default_member (codes "runnables") [] (list_at runnable_at) ms
   Ok (roll-ProjectJsonData (record {
     sysroot = sysroot;
     sysroot_src = sysroot_src;
@@ -35,7 +35,7 @@ project_row inner d = do
 
 -- a project of at most n levels
 abbrev pub project_within : ℕ → Data → Reading ProjectJsonData
-project_within = nested project_row
+project_within = within_levels project_row
 
 -- a project, of as many levels as a document may have
 unfoldable pub project_at : Data → Reading ProjectJsonData

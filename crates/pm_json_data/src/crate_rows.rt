@@ -10,7 +10,9 @@ use crate::dep::Dep;
 use crate::kinds::EditionData;
 use crate::parts::{BuildData, CrateSource};
 use base_text::{ByText, CfgAtom, Items, Text, TryClone, Version};
-use json_fields::{ReadError, defaulted, listed, mapped, optional, required, set};
+use json_fields::{
+    ReadError, default_member, list_member, map_member, optional_member, required_member, set,
+};
 use serde_json::{Map, Value};
 use std::alloc::{AllocError, Global};
 
@@ -99,18 +101,18 @@ pub(crate) fn copy_tail(alloc: Global, from: &CrateData) -> Result<CrateTail, Al
     })
 }
 
-#[tactic(auto, unfolding(crate::specs::CrateData::head_from, json_fields::specs::Fields::required, json_fields::specs::Fields::optional, json_fields::specs::Fields::defaulted))]
+#[tactic(auto, unfolding(crate::specs::CrateData::head_from, json_fields::specs::Fields::required_member, json_fields::specs::Fields::optional_member, json_fields::specs::Fields::default_member))]
 pub(crate) fn read_head(alloc: Global, fields: &Map<String, Value>) -> Result<CrateHead, ReadError>
     ensures exact { Gives result (head_from (members_view fields.now.entries)) }
 {
-    let display_name = optional(alloc, fields, "display_name")?;
-    let root_module = required(alloc, fields, "root_module")?;
-    let edition = required(alloc, fields, "edition")?;
-    let version = optional(alloc, fields, "version")?;
-    let deps = required(alloc, fields, "deps")?;
-    let cfg_groups = listed(alloc, fields, "cfg_groups")?;
-    let cfg = listed(alloc, fields, "cfg")?;
-    let target = optional(alloc, fields, "target")?;
+    let display_name = optional_member(alloc, fields, "display_name")?;
+    let root_module = required_member(alloc, fields, "root_module")?;
+    let edition = required_member(alloc, fields, "edition")?;
+    let version = optional_member(alloc, fields, "version")?;
+    let deps = required_member(alloc, fields, "deps")?;
+    let cfg_groups = list_member(alloc, fields, "cfg_groups")?;
+    let cfg = list_member(alloc, fields, "cfg")?;
+    let target = optional_member(alloc, fields, "target")?;
     Ok(CrateHead {
         display_name,
         root_module,
@@ -123,19 +125,19 @@ pub(crate) fn read_head(alloc: Global, fields: &Map<String, Value>) -> Result<Cr
     })
 }
 
-#[tactic(auto, unfolding(crate::specs::CrateData::tail_from, json_fields::specs::Fields::required, json_fields::specs::Fields::optional, json_fields::specs::Fields::defaulted))]
+#[tactic(auto, unfolding(crate::specs::CrateData::tail_from, json_fields::specs::Fields::required_member, json_fields::specs::Fields::optional_member, json_fields::specs::Fields::default_member))]
 pub(crate) fn read_tail(alloc: Global, fields: &Map<String, Value>) -> Result<CrateTail, ReadError>
     ensures exact { Gives result (tail_from (members_view fields.now.entries)) }
 {
-    let env = mapped(alloc, fields, "env")?;
-    let crate_attrs = listed(alloc, fields, "crate_attrs")?;
-    let proc_macro_dylib_path = optional(alloc, fields, "proc_macro_dylib_path")?;
-    let is_workspace_member = optional(alloc, fields, "is_workspace_member")?;
-    let source = optional(alloc, fields, "source")?;
-    let is_proc_macro = defaulted(alloc, fields, "is_proc_macro", false)?;
-    let repository = optional(alloc, fields, "repository")?;
-    let build = optional(alloc, fields, "build")?;
-    let proc_macro_cwd = optional(alloc, fields, "proc_macro_cwd")?;
+    let env = map_member(alloc, fields, "env")?;
+    let crate_attrs = list_member(alloc, fields, "crate_attrs")?;
+    let proc_macro_dylib_path = optional_member(alloc, fields, "proc_macro_dylib_path")?;
+    let is_workspace_member = optional_member(alloc, fields, "is_workspace_member")?;
+    let source = optional_member(alloc, fields, "source")?;
+    let is_proc_macro = default_member(alloc, fields, "is_proc_macro", false)?;
+    let repository = optional_member(alloc, fields, "repository")?;
+    let build = optional_member(alloc, fields, "build")?;
+    let proc_macro_cwd = optional_member(alloc, fields, "proc_macro_cwd")?;
     Ok(CrateTail {
         env,
         crate_attrs,

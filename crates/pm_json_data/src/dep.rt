@@ -8,7 +8,7 @@ ghost use Rattle.pm_json_data.specs.laws.Dep.{crate_name-again, dep-round_trips}
 use base_text::TryClone;
 use crate_graph::CrateName;
 use json_fields::{
-    Json, Present, ReadError, ReadJson, TextJson, members, missed, required, set, set_value,
+    Json, Present, ReadError, ReadJson, TextJson, members, miss, required_member, set, set_value,
 };
 use serde_json::{Map, Value};
 use std::alloc::{AllocError, Global};
@@ -73,7 +73,7 @@ impl TextJson for CrateNameData {
     fn read_text(alloc: Global, text: &str) -> Result<CrateNameData, ReadError> {
         match CrateName::new(String::from_str(alloc, text)?) {
             Ok(name) => Ok(CrateNameData { name }),
-            Err(_) => missed(alloc),
+            Err(_) => miss(alloc),
         }
     }
 
@@ -84,14 +84,14 @@ impl TextJson for CrateNameData {
     ghost again = { crate_name-again };
 }
 
-#[tactic(auto, unfolding(crate::specs::Dep::dep_at, json_fields::specs::Fields::required))]
+#[tactic(auto, unfolding(crate::specs::Dep::dep_at, json_fields::specs::Fields::required_member))]
 impl ReadJson for Dep {
     ghost reads = { dep_at };
 
     fn read(alloc: Global, value: &Value) -> Result<Dep, ReadError> {
         let fields = members(alloc, value)?;
-        let krate: u64 = required(alloc, fields, "crate")?;
-        let name: CrateNameData = required(alloc, fields, "name")?;
+        let krate: u64 = required_member(alloc, fields, "crate")?;
+        let name: CrateNameData = required_member(alloc, fields, "name")?;
         Ok(Dep {
             krate: CrateArrayIdx(krate as usize),
             name: name.into_inner(),

@@ -7,7 +7,7 @@ ghost use Rattle.pm_json_data.specs.laws.Kinds.{edition-again, runnable_kind-aga
 
 use base_text::{Edition, TryClone};
 use crate_graph::TargetKind;
-use json_fields::{ReadError, TextJson, missed};
+use json_fields::{ReadError, TextJson, miss};
 use std::alloc::{AllocError, Global};
 
 /// The edition of a crate.
@@ -148,7 +148,7 @@ impl TextJson for EditionData {
             "2018" => Ok(EditionData::Edition2018),
             "2021" => Ok(EditionData::Edition2021),
             "2024" => Ok(EditionData::Edition2024),
-            _ => missed(alloc),
+            _ => miss(alloc),
         }
     }
 
@@ -170,7 +170,7 @@ impl TextJson for TargetKindData {
             "bin" => Ok(TargetKindData::Bin),
             "lib" => Ok(TargetKindData::Lib),
             "test" => Ok(TargetKindData::Test),
-            _ => missed(alloc),
+            _ => miss(alloc),
         }
     }
 

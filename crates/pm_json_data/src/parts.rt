@@ -7,7 +7,7 @@ ghost use Rattle.pm_json_data.specs.laws.Parts.{build-round_trips, runnable-roun
 
 use crate::kinds::{RunnableKind, TargetKindData};
 use base_text::{Items, Text, TryClone};
-use json_fields::{Json, Present, ReadError, ReadJson, members, required, set};
+use json_fields::{Json, Present, ReadError, ReadJson, members, required_member, set};
 use serde_json::{Map, Value};
 use std::alloc::{AllocError, Global};
 
@@ -68,16 +68,16 @@ impl TryClone for Runnable {
     }
 }
 
-#[tactic(auto, unfolding(crate::specs::Parts::build_at, json_fields::specs::Fields::required))]
+#[tactic(auto, unfolding(crate::specs::Parts::build_at, json_fields::specs::Fields::required_member))]
 impl ReadJson for BuildData {
     ghost reads = { build_at };
 
     fn read(alloc: Global, value: &Value) -> Result<BuildData, ReadError> {
         let fields = members(alloc, value)?;
         Ok(BuildData {
-            label: required(alloc, fields, "label")?,
-            build_file: required(alloc, fields, "build_file")?,
-            target_kind: required(alloc, fields, "target_kind")?,
+            label: required_member(alloc, fields, "label")?,
+            build_file: required_member(alloc, fields, "build_file")?,
+            target_kind: required_member(alloc, fields, "target_kind")?,
         })
     }
 }
@@ -103,15 +103,15 @@ impl Present for BuildData {
     ghost present = { build_data-present };
 }
 
-#[tactic(auto, unfolding(crate::specs::Parts::source_at, json_fields::specs::Fields::required))]
+#[tactic(auto, unfolding(crate::specs::Parts::source_at, json_fields::specs::Fields::required_member))]
 impl ReadJson for CrateSource {
     ghost reads = { source_at };
 
     fn read(alloc: Global, value: &Value) -> Result<CrateSource, ReadError> {
         let fields = members(alloc, value)?;
         Ok(CrateSource {
-            include_dirs: required(alloc, fields, "include_dirs")?,
-            exclude_dirs: required(alloc, fields, "exclude_dirs")?,
+            include_dirs: required_member(alloc, fields, "include_dirs")?,
+            exclude_dirs: required_member(alloc, fields, "exclude_dirs")?,
         })
     }
 }
@@ -136,17 +136,17 @@ impl Present for CrateSource {
     ghost present = { source_data-present };
 }
 
-#[tactic(auto, unfolding(crate::specs::Parts::runnable_at, json_fields::specs::Fields::required))]
+#[tactic(auto, unfolding(crate::specs::Parts::runnable_at, json_fields::specs::Fields::required_member))]
 impl ReadJson for Runnable {
     ghost reads = { runnable_at };
 
     fn read(alloc: Global, value: &Value) -> Result<Runnable, ReadError> {
         let fields = members(alloc, value)?;
         Ok(Runnable {
-            program: required(alloc, fields, "program")?,
-            args: required(alloc, fields, "args")?,
-            cwd: required(alloc, fields, "cwd")?,
-            kind: required(alloc, fields, "kind")?,
+            program: required_member(alloc, fields, "program")?,
+            args: required_member(alloc, fields, "args")?,
+            cwd: required_member(alloc, fields, "cwd")?,
+            kind: required_member(alloc, fields, "kind")?,
         })
     }
 }

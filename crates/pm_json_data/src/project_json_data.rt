@@ -16,8 +16,8 @@ use crate::parts::Runnable;
 use base_text::{Boxed, ByText, CfgAtom, Items, Text, TryClone};
 use cargo_meta::Error;
 use json_fields::{
-    Json, MAX_LEVELS, ReadError, ReadJson, boxed, inner_levels, listed, mapped, members, missed,
-    of_value, optional, optional_by, present, required, set, set_value,
+    Json, MAX_LEVELS, ReadError, ReadJson, in_box, inner_levels, list_member, map_member, members,
+    miss, of_value, optional_by, optional_member, present, required_member, set, set_value,
 };
 use serde_json::{Map, Value};
 use std::alloc::{AllocError, Global};
@@ -92,13 +92,13 @@ impl Json for ProjectJsonData {
 }
 
 #[cycle(project)]
-#[tactic(auto, unfolding(json_fields::specs::Nested::nested))]
+#[tactic(auto, unfolding(json_fields::specs::Nested::within_levels))]
 fn read_project(alloc: Global, left: usize, value: &Value) -> Result<ProjectJsonData, ReadError>
     ensures exact { Gives result (project_within left (view value.now)) }
 {
     match inner_levels(left) {
         Some(inner) => read_level(alloc, inner, value),
-        None => missed(alloc),
+        None => miss(alloc),
     }
 }
 
@@ -109,16 +109,16 @@ fn read_level(alloc: Global, inner: usize, value: &Value) -> Result<ProjectJsonD
 {
     let fields = members(alloc, value)?;
     Ok(ProjectJsonData {
-        sysroot: optional(alloc, fields, "sysroot")?,
-        sysroot_src: optional(alloc, fields, "sysroot_src")?,
+        sysroot: optional_member(alloc, fields, "sysroot")?,
+        sysroot_src: optional_member(alloc, fields, "sysroot_src")?,
         sysroot_project: optional_by(
             alloc,
             "sysroot_project",
             project_found(alloc, inner, present(fields, "sysroot_project")),
         )?,
-        cfg_groups: mapped(alloc, fields, "cfg_groups")?,
-        crates: required(alloc, fields, "crates")?,
-        runnables: listed(alloc, fields, "runnables")?,
+        cfg_groups: map_member(alloc, fields, "cfg_groups")?,
+        crates: required_member(alloc, fields, "crates")?,
+        runnables: list_member(alloc, fields, "runnables")?,
     })
 }
 
@@ -132,7 +132,7 @@ fn project_found(
         (option_map (λ v. view v.now) value.entry) result }
 {
     match value {
-        Some(value) => Some(boxed(alloc, read_project(alloc, left, value))),
+        Some(value) => Some(in_box(alloc, read_project(alloc, left, value))),
         None => None,
     }
 }

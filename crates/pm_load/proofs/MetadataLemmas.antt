@@ -9,7 +9,7 @@ use Rattle.pm_config.specs.declared.config.CargoConfig.{CargoConfig}
 use Rattle.pm_config.specs.declared.metadata_config.CargoMetadataConfig.{CargoMetadataConfig}
 use Rattle.pm_config.specs.declared.tool_root.ToolRoot.{ToolRoot}
 use Rattle.pm_fetch.specs.Fetch.{Fetch, fetch_answer, fetch_of}
-use Rattle.pm_load.specs.Metadata.{fetched, fetched_as, metadata_config}
+use Rattle.pm_load.specs.Metadata.{metadata_answer, fetched_as, metadata_config}
 use Rattle.pm_load.specs.declared.tool_answers.ToolAnswers.{ToolAnswers}
 use Rattle.pm_roots.specs.Roots.{directory_of}
 use Rattle.pm_sysroot.specs.Ask.{Means}
@@ -27,8 +27,8 @@ fetched_as-is manifest dir asked root no_deps answers fetch is_dir is_fetch =
     ap (λ (f : Fetch). fetch_answer f false answers) (is_fetch ∙ (λ i. fetch_of manifest (above manifest dir is_dir i) asked root no_deps answers))
 
 -- what is fetched; the kind of metadata has no effect
-pub fetched-is : (sysroot : Toolchain) (manifest : List ℕ) (config : CargoConfig) (answers : ToolAnswers) (means : Means) (kind : Bor (List ℕ))
+pub metadata_answer-is : (sysroot : Toolchain) (manifest : List ℕ) (config : CargoConfig) (answers : ToolAnswers) (means : Means) (kind : Bor (List ℕ))
     (asked : CargoMetadataConfig) (root : ToolRoot) → asked ≡ record (metadata_config config answers) { kind = kind } → root ≡ tool_root sysroot means
-    → fetched_as manifest asked root config.no_deps means.answers ≡ fetched sysroot manifest config answers means
-unfolding fetched
-fetched-is sysroot manifest config answers means kind asked root is_asked is_root = λ i. fetched_as manifest (is_asked i) (is_root i) config.no_deps means.answers
+    → fetched_as manifest asked root config.no_deps means.answers ≡ metadata_answer sysroot manifest config answers means
+unfolding metadata_answer
+metadata_answer-is sysroot manifest config answers means kind asked root is_asked is_root = λ i. fetched_as manifest (is_asked i) (is_root i) config.no_deps means.answers

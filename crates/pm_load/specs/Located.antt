@@ -3,7 +3,7 @@ use Rattle.std.specs.Prelude.{ℕ, List, [], ◌∷◌, codes, Option, Some, Non
 use Rattle.std.specs.Option.{option_and_then}
 use Rattle.serde_json.specs.Data.{Data}
 use Rattle.json_fields.specs.Document.{document}
-use Rattle.json_fields.specs.Fields.{members_at, required, text_at}
+use Rattle.json_fields.specs.Fields.{members_at, required_member, text_at}
 use Rattle.json_fields.specs.Outcome.{Reading, ◌>>=◌}
 use Rattle.outside.specs.declared.command.CommandLine.{CommandLine}
 use Rattle.pm_config.specs.declared.tool.Tool.TheVariants.{Cargo}
@@ -20,7 +20,7 @@ use Rattle.pm_sysroot.specs.Toolchain.{Toolchain}
 unfoldable pub located_root_at : Data → Reading LocatedRoot
 located_root_at d = do
   ms ← members_at d
-  root ← required (codes "root") text_at ms
+  root ← required_member (codes "root") text_at ms
   Ok (record { root = root })
 
 -- what was read, where the answer fits the table

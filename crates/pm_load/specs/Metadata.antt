@@ -32,8 +32,8 @@ abbrev pub fetched_as : List ℕ → CargoMetadataConfig → ToolRoot → Bool �
 fetched_as manifest asked root no_deps answers = fetch_answer (fetch_of manifest (directory_of manifest) asked root no_deps answers) false answers
 
 -- the metadata of the manifest's workspace
-unfoldable pub fetched : Toolchain → List ℕ → CargoConfig → ToolAnswers → Means → FetchAnswer
-fetched sysroot manifest config answers means = fetched_as manifest (metadata_config config answers) (tool_root sysroot means) config.no_deps means.answers
+unfoldable pub metadata_answer : Toolchain → List ℕ → CargoConfig → ToolAnswers → Means → FetchAnswer
+metadata_answer sysroot manifest config answers means = fetched_as manifest (metadata_config config answers) (tool_root sysroot means) config.no_deps means.answers
 
 -- the environment of the workspace: that of the printed configuration, and then what is configured
 unfoldable pub environment : Option (List ℕ) → CargoConfig → Means → Environment

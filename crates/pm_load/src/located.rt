@@ -9,7 +9,7 @@ ghost use Rattle.pm_sysroot.specs.Ask.{means_of};
 
 use crate::load_error::LoadError;
 use base_text::{Runner, Text, TryClone};
-use json_fields::{ReadError, ReadJson, members, of_text, required};
+use json_fields::{ReadError, ReadJson, members, of_text, required_member};
 use pm_cargo::ManifestPath;
 use pm_config::Tool;
 use pm_fetch::words::push_word;
@@ -32,7 +32,7 @@ impl ReadJson for LocatedRoot {
     fn read(alloc: Global, value: &Value) -> Result<LocatedRoot, ReadError> {
         let fields = members(alloc, value)?;
         Ok(LocatedRoot {
-            root: required(alloc, fields, "root")?,
+            root: required_member(alloc, fields, "root")?,
         })
     }
 }

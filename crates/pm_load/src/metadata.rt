@@ -5,7 +5,7 @@ ghost use Rattle.std.specs.Option.{option_map};
 ghost use Rattle.cargo_values.specs.Errors.{error_text};
 ghost use Rattle.pm_load.specs.Loading.{Gives, of_fetch};
 ghost use Rattle.pm_load.specs.Metadata as spec;
-ghost use Rattle.pm_load.specs.Metadata.{fetched, fetched_as};
+ghost use Rattle.pm_load.specs.Metadata.{metadata_answer, fetched_as};
 ghost use Rattle.pm_sysroot.specs.Ask.{means_of};
 
 use crate::load_error::LoadError;
@@ -62,7 +62,7 @@ fn fetch_as<R: Runner, P: Progress>(
 
 /// The metadata of the workspace of a manifest, and beside it the error of the full question where the
 /// light answer stands in for it.
-#[tactic(auto, unfolding(crate::specs::Metadata::fetched))]
+#[tactic(auto, unfolding(crate::specs::Metadata::metadata_answer))]
 pub fn fetch<R: Runner, T: Tree, P: Progress>(
     alloc: Global,
     sysroot: &Sysroot,
@@ -72,7 +72,7 @@ pub fn fetch<R: Runner, T: Tree, P: Progress>(
     ask: &Ask<'_, R, T>,
     progress: &mut P,
 ) -> Result<(Metadata, Option<MetadataError>), LoadError>
-    ensures { Gives result (of_fetch (fetched sysroot.now manifest.now config.now answers.now
+    ensures { Gives result (of_fetch (metadata_answer sysroot.now manifest.now config.now answers.now
         (means_of R.answers T.files ask.now))) }
 {
     let asked = metadata_config(alloc, config, answers)?;
@@ -104,7 +104,7 @@ fn environment<R: Runner, T: Tree>(
 }
 
 /// The printed error, if there is one.
-pub fn printed(alloc: Global, error: Option<MetadataError>) -> Result<Option<Text>, AllocError>
+pub fn error_text(alloc: Global, error: Option<MetadataError>) -> Result<Option<Text>, AllocError>
     ensures { IfOk result (λ text. text ≡ option_map error_text error) }
 {
     match error {
@@ -125,6 +125,6 @@ pub fn beside_metadata<R: Runner, T: Tree>(
         config.now (means_of R.answers T.files ask.now)) }
     ensures error { IfOk result (λ made. made.1 ≡ option_map error_text error) }
 {
-    let error = printed(alloc, error)?;
+    let error = error_text(alloc, error)?;
     Ok((environment(alloc, file, config, ask)?, error))
 }

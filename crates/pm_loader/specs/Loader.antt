@@ -10,13 +10,13 @@ abbrev pub Files : Type 0
 Files = List (List ℕ × ℕ)
 
 -- a path with each `..` resolved
-abbrev pub normalized : List ℕ → List ℕ
-normalized path = path_text (normal path)
+abbrev pub path_key : List ℕ → List ℕ
+path_key path = path_text (normal path)
 
 -- the number of the file at a path, which is looked up once it is normalized
 abbrev pub file_of : Files → List ℕ → Option ℕ
-file_of files path = lookup (path_eq (normalized path)) files
+file_of files path = lookup (path_eq (path_key path)) files
 
 -- the files with one more, in place of an earlier one of the same path
 abbrev pub with_file : Files → List ℕ → ℕ → Files
-with_file files path file = insert_entry path_eq files (normalized path) file
+with_file files path file = insert_entry path_eq files (path_key path) file

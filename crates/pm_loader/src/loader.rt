@@ -3,7 +3,7 @@
 ghost use Rattle.std.specs.Prelude.{◌≡◌, ℕ, List, [], IfOk, OnErr, OnOk, Some, if◌then◌else◌};
 ghost use Rattle.base_text.specs.AbsPath.{abs_text};
 ghost use Rattle.base_text.specs.PathOrder.{path_eq};
-ghost use Rattle.pm_loader.specs.Loader.{Files, file_of, normalized, with_file};
+ghost use Rattle.pm_loader.specs.Loader.{Files, file_of, path_key, with_file};
 
 use base_text::{AbsPath, AbsPathBuf, FileId};
 use indexmap::IndexMap;
@@ -51,7 +51,7 @@ impl MapLoader {
     pub fn insert(&mut self, path: AbsPathBuf, id: FileId) -> Result<(), AllocError>
         ensures ok { OnOk result (self.new ≡ with_file self.old path id) }
         ensures last_counts { OnOk result ((asked : List ℕ) → file_of self.new asked
-            ≡ (if path_eq (normalized path) (normalized asked) then Some id else file_of self.old asked)) }
+            ≡ (if path_eq (path_key path) (path_key asked) then Some id else file_of self.old asked)) }
         ensures err { OnErr result (self.new ≡ self.old) }
     {
         let alloc = *self.files.allocator();

@@ -10,7 +10,7 @@ use Rattle.pm_cargo.proofs.ShuffleLemmas.{shuffle-read}
 use Rattle.pm_config.specs.declared.config.CargoConfig.{CargoConfig}
 use Rattle.pm_fetch.specs.Fetch.{FetchAnswer}
 use Rattle.pm_load.specs.Loading.{Gives, Loading, Refuses, ◌>>=◌, of_fetch, of_reading, of_workspace_error}
-use Rattle.pm_load.specs.Metadata.{fetched}
+use Rattle.pm_load.specs.Metadata.{metadata_answer}
 use Rattle.pm_load.specs.ToolAnswers.{tool_answers}
 use Rattle.pm_load.specs.declared.load_error.LoadError.{LoadError}
 use Rattle.pm_load.specs.declared.tool_answers.PlatformAsked.TheVariants.{NoTarget}
@@ -114,11 +114,11 @@ module _ (sysroot : Toolchain) (file : List ℕ) (config : CargoConfig) (answers
 -- the answers are those of the definition
 pub detached-gives : (sysroot : Toolchain) (file : List ℕ) (config : CargoConfig) (limits : Limits) (means : Means) (result : Result ProjectWorkspace LoadError) (answers : ToolAnswers)
     → answers ≡ tool_answers sysroot file NoTarget config means
-    → Gives result (detached_with sysroot file config answers limits means (metadata_or_none (fetched sysroot file config answers means)))
+    → Gives result (detached_with sysroot file config answers limits means (metadata_or_none (metadata_answer sysroot file config answers means)))
     → Gives result (detached_project sysroot file config limits means)
 unfolding detached_project
 detached-gives sysroot file config limits means result answers is_answers h =
-    subst (λ (a : ToolAnswers). Gives result (detached_with sysroot file config a limits means (metadata_or_none (fetched sysroot file config a means)))) is_answers h
+    subst (λ (a : ToolAnswers). Gives result (detached_with sysroot file config a limits means (metadata_or_none (metadata_answer sysroot file config a means)))) is_answers h
 
 -- ---- the order of metadata
 

@@ -10,7 +10,7 @@ use Rattle.pm_cargo.proofs.ShuffleLemmas.{shuffle-read}
 use Rattle.pm_config.specs.declared.config.CargoConfig.{CargoConfig}
 use Rattle.pm_load.specs.Located.{located_manifest}
 use Rattle.pm_load.specs.Loading.{Gives, Loading, Refuses, ◌>>=◌, of_fetch, of_reading, of_workspace_error}
-use Rattle.pm_load.specs.Metadata.{environment, fetched}
+use Rattle.pm_load.specs.Metadata.{environment, metadata_answer}
 use Rattle.pm_load.specs.ToolAnswers.{tool_answers}
 use Rattle.pm_load.specs.declared.load_error.LoadError.{LoadError}
 use Rattle.pm_load.specs.declared.tool_answers.PlatformAsked.TheVariants.{FirstTarget}
@@ -96,21 +96,21 @@ module _ (sysroot : Toolchain) (manifest : List ℕ) (config : CargoConfig) (lim
 
   module _ (answers : ToolAnswers) (is_answers : answers ≡ tool_answers sysroot manifest FirstTarget config means) where
     -- no metadata is fetched
-    pub metadata-refused : (e : LoadError) → Refuses e (of_fetch (fetched sysroot manifest config answers means)) → Refuses e (located_project sysroot manifest config limits means)
+    pub metadata-refused : (e : LoadError) → Refuses e (of_fetch (metadata_answer sysroot manifest config answers means)) → Refuses e (located_project sysroot manifest config limits means)
     unfolding located_project
     metadata-refused e h =
         let all = tool_answers sysroot manifest FirstTarget config means in
-        refuses_first e (of_fetch (fetched sysroot manifest config all means)) (λ (m : Metadata × Option Error). project_with sysroot manifest config all limits means m)
-        (subst (λ (a : ToolAnswers). Refuses e (of_fetch (fetched sysroot manifest config a means))) is_answers h)
+        refuses_first e (of_fetch (metadata_answer sysroot manifest config all means)) (λ (m : Metadata × Option Error). project_with sysroot manifest config all limits means m)
+        (subst (λ (a : ToolAnswers). Refuses e (of_fetch (metadata_answer sysroot manifest config a means))) is_answers h)
 
     -- metadata is fetched, and the rest is loaded with it
-    pub metadata-gives : (result : Result ProjectWorkspace LoadError) (metadata : Metadata × Option Error) → of_fetch (fetched sysroot manifest config answers means) ≡ Ok metadata
+    pub metadata-gives : (result : Result ProjectWorkspace LoadError) (metadata : Metadata × Option Error) → of_fetch (metadata_answer sysroot manifest config answers means) ≡ Ok metadata
         → Gives result (project_with sysroot manifest config answers limits means metadata) → Gives result (located_project sysroot manifest config limits means)
     unfolding located_project
     metadata-gives result metadata is h =
         let all = tool_answers sysroot manifest FirstTarget config means in
-        gives_next result (of_fetch (fetched sysroot manifest config all means)) metadata (λ (m : Metadata × Option Error). project_with sysroot manifest config all limits means m)
-        (subst (λ (a : ToolAnswers). of_fetch (fetched sysroot manifest config a means) ≡ Ok metadata) is_answers is)
+        gives_next result (of_fetch (metadata_answer sysroot manifest config all means)) metadata (λ (m : Metadata × Option Error). project_with sysroot manifest config all limits means m)
+        (subst (λ (a : ToolAnswers). of_fetch (metadata_answer sysroot manifest config a means) ≡ Ok metadata) is_answers is)
         (subst (λ (a : ToolAnswers). Gives result (project_with sysroot manifest config a limits means metadata)) is_answers h)
 
   -- no root is located

@@ -10,7 +10,7 @@ use Rattle.pm_cargo.specs.Workspace.{Workspace}
 use Rattle.pm_config.specs.declared.config.CargoConfig.{CargoConfig}
 use Rattle.pm_fetch.specs.Fetch.{FetchAnswer}
 use Rattle.pm_load.specs.Loading.{Loading, ◌>>=◌, of_reading}
-use Rattle.pm_load.specs.Metadata.{fetched}
+use Rattle.pm_load.specs.Metadata.{metadata_answer}
 use Rattle.pm_load.specs.ToolAnswers.{tool_answers}
 use Rattle.pm_load.specs.declared.tool_answers.PlatformAsked.TheVariants.{NoTarget}
 use Rattle.pm_load.specs.declared.tool_answers.ToolAnswers.{ToolAnswers}
@@ -54,4 +54,4 @@ detached_with sysroot file config answers limits means metadata =
 unfoldable pub detached_project : Toolchain → List ℕ → CargoConfig → Limits → Means → Loading ProjectWorkspace
 detached_project sysroot file config limits means =
     let answers = tool_answers sysroot file NoTarget config means in
-    detached_with sysroot file config answers limits means (metadata_or_none (fetched sysroot file config answers means))
+    detached_with sysroot file config answers limits means (metadata_or_none (metadata_answer sysroot file config answers means))

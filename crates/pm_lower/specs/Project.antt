@@ -10,7 +10,7 @@ use Rattle.pm_cargo.specs.Workspace.{Workspace}
 use Rattle.pm_config.specs.declared.config.CargoConfig.{CargoConfig}
 use Rattle.pm_load.specs.Located.{located_manifest}
 use Rattle.pm_load.specs.Loading.{Loading, ◌>>=◌, of_fetch, of_reading}
-use Rattle.pm_load.specs.Metadata.{environment, fetched}
+use Rattle.pm_load.specs.Metadata.{environment, metadata_answer}
 use Rattle.pm_load.specs.ToolAnswers.{tool_answers}
 use Rattle.pm_load.specs.declared.tool_answers.PlatformAsked.TheVariants.{FirstTarget}
 use Rattle.pm_load.specs.declared.tool_answers.ToolAnswers.{ToolAnswers}
@@ -54,7 +54,7 @@ project_with sysroot manifest config answers limits means metadata =
 unfoldable pub located_project : Toolchain → List ℕ → CargoConfig → Limits → Means → Loading ProjectWorkspace
 located_project sysroot manifest config limits means =
     let answers = tool_answers sysroot manifest FirstTarget config means in
-    of_fetch (fetched sysroot manifest config answers means) >>= λ metadata.
+    of_fetch (metadata_answer sysroot manifest config answers means) >>= λ metadata.
     project_with sysroot manifest config answers limits means metadata
 
 -- the project of a manifest: that of the workspace's root, which is located first

@@ -4,7 +4,7 @@ ghost use Rattle.std.specs.Prelude.{◌≡◌, IfOk, option_copied};
 ghost use Rattle.std.specs.Option.{option_map};
 ghost use Rattle.cargo_values.specs.Errors.{error_text};
 ghost use Rattle.pm_load.specs.Loading.{Gives};
-ghost use Rattle.pm_load.specs.Metadata.{fetched};
+ghost use Rattle.pm_load.specs.Metadata.{metadata_answer};
 ghost use Rattle.pm_lower.specs.DetachedProject as spec;
 ghost use Rattle.pm_lower.specs.DetachedProject.{metadata_or_none, script_with};
 ghost use Rattle.pm_sysroot.specs.Ask.{means_of};
@@ -19,7 +19,7 @@ use pm_build::WorkspaceBuildScripts;
 use pm_cargo::{CargoWorkspace, ManifestPath};
 use pm_config::{CargoConfig, Quiet};
 use pm_load::LoadError;
-use pm_load::metadata::{fetch, printed};
+use pm_load::metadata::{error_text, fetch};
 use pm_load::tool_answers::{PlatformAsked, ToolAnswers, ask_tools};
 use pm_sysroot::{Ask, Sysroot};
 use pm_tools::{CargoConfigFile, cargo_config_env};
@@ -36,7 +36,7 @@ fn fetch_script<R: Runner, T: Tree>(
     answers: &ToolAnswers,
     ask: &Ask<'_, R, T>,
 ) -> Result<Option<(Metadata, Option<MetadataError>)>, AllocError>
-    ensures { IfOk result (λ found. found ≡ metadata_or_none (fetched sysroot.now file.now config.now
+    ensures { IfOk result (λ found. found ≡ metadata_or_none (metadata_answer sysroot.now file.now config.now
         answers.now (means_of R.answers T.files ask.now))) }
 {
     match fetch(alloc, sysroot, file, config, answers, ask, &mut Quiet) {
@@ -57,7 +57,7 @@ fn beside_script<R: Runner, T: Tree>(
         ≡ config_env (option_copied printed_config.entry) (means_of R.answers T.files ask.now)) }
     ensures error { IfOk result (λ made. made.1 ≡ option_map error_text error) }
 {
-    let error = printed(alloc, error)?;
+    let error = error_text(alloc, error)?;
     Ok((cargo_config_env(alloc, printed_config, ask)?, error))
 }
 
@@ -92,7 +92,7 @@ fn detached_kind<R: Runner, T: Tree>(
     ask: &Ask<'_, R, T>,
 ) -> Result<ProjectWorkspaceKind, LoadError>
     ensures { Gives result (spec.detached_kind file.now answers.now.config_file limits.now
-        (means_of R.answers T.files ask.now) (metadata_or_none (fetched sysroot.now file.now
+        (means_of R.answers T.files ask.now) (metadata_or_none (metadata_answer sysroot.now file.now
         config.now answers.now (means_of R.answers T.files ask.now)))) }
 {
     let copy = file.try_clone(alloc)?;
@@ -119,7 +119,7 @@ fn detached_with<R: Runner, T: Tree>(
       set_test = config.now.set_test;
     } }
     ensures { Gives result (spec.detached_with sysroot file.now config.now answers limits.now
-        (means_of R.answers T.files ask.now) (metadata_or_none (fetched sysroot file.now
+        (means_of R.answers T.files ask.now) (metadata_or_none (metadata_answer sysroot file.now
         config.now answers (means_of R.answers T.files ask.now)))) }
 {
     let kind = detached_kind(alloc, &sysroot, file, config, &answers, limits, ask)?;

@@ -147,7 +147,7 @@ impl Graph {
     }
 
     /// Leaves in the trail the nodes that reach a node.
-    pub(crate) fn reaching(&self, trail: &mut Trail, target: u32) -> Result<(), AllocError>
+    pub(crate) fn find_reaching(&self, trail: &mut Trail, target: u32) -> Result<(), AllocError>
         requires empty { trail.old ≡ empty_trail (length self.now) }
         requires target { target < length self.now }
         ensures reach { OnOk result (All (λ node. Reaches self.now node target) trail.new.nodes) }

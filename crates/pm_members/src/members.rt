@@ -116,7 +116,7 @@ fn share_closure(
     if closure.places.as_slice().binary_search(&node).is_err() {
         return Ok(());
     }
-    graph.reaching(trail, node)?;
+    graph.find_reaching(trail, node)?;
     share_list(alloc, lists, trail.nodes(), closure)?;
     trail.clear();
     Ok(())

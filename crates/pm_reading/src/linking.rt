@@ -20,7 +20,7 @@ use std::alloc::{AllocError, Global};
 use std::mem;
 
 // A list with more items behind its own.
-fn appended<T: Drop>(items: Items<T>, more: Items<T>) -> Result<Items<T>, AllocError>
+fn append_items<T: Drop>(items: Items<T>, more: Items<T>) -> Result<Items<T>, AllocError>
     ensures { IfOk result (λ all. all ≡ items ++ more) }
 {
     if items.is_empty() {
@@ -39,8 +39,8 @@ fn give_package(alloc: Global, package: &mut PackageData, link: Link) -> Result<
 {
     let dependencies = mem::replace(&mut package.dependencies, Items::empty(alloc));
     let features = mem::replace(&mut package.active_features, Items::empty(alloc));
-    package.dependencies = appended(dependencies, link.dependencies)?;
-    package.active_features = appended(features, link.features)?;
+    package.dependencies = append_items(dependencies, link.dependencies)?;
+    package.active_features = append_items(features, link.features)?;
     Ok(())
 }
 

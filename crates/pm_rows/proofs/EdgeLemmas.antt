@@ -11,7 +11,7 @@ use Rattle.pm_rows.specs.declared.lower_error.LowerError.{LowerError}
 use Rattle.pm_rows.specs.declared.lower_error.LowerError.TheVariants.{BadCrateName, TooMany, OutOfMemory}
 use Rattle.pm_rows.specs.Rows.{Owner, Row, library, library_at}
 use Rattle.pm_rows.specs.Gathering.{to_dependencies, to_dependency, to_own_library}
-use Rattle.pm_rows.specs.WantedEdges.{Edge, bad_name_of, bad_names_of, edge, is_delayed, is_for, same, to_lib, to_library, to_owner, to_package, uses_library}
+use Rattle.pm_rows.specs.WantedEdges.{Edge, bad_name_of, bad_names_of, edge, is_delayed, is_for, agree, to_lib, to_library, to_owner, to_package, uses_library}
 use Rattle.base_text.specs.Arena.{number_of}
 use Rattle.pm_packages.specs.declared.package.PackageDependency.{PackageDependency}
 
@@ -41,7 +41,7 @@ without_own_library o none = ap (λ l. flat_map (to_library l) o.rows) none ∙ 
 
 pub with_own_library : (o : Owner) (lib : Row) (rows : List Row) → library o.rows ≡ Some lib → rows ≡ o.rows → flat_map (to_library (Some lib)) rows ≡ to_own_library o
 unfolding to_own_library
-with_own_library o lib rows some same = ap (flat_map (to_library (Some lib))) same ∙ ap (λ l. flat_map (to_library l) o.rows) (sym some)
+with_own_library o lib rows some agree = ap (flat_map (to_library (Some lib))) agree ∙ ap (λ l. flat_map (to_library l) o.rows) (sym some)
 
 no_more : (old : List Edge) → old ≡ old ++ []
 no_more old = sym (append-nil old)
@@ -62,8 +62,8 @@ lib_edges delayed from d o lib (r ∷ rs) some =
     ap (λ es. to_lib delayed from d o lib r ++ es) (lib_edges delayed from d o lib rs some) ∙ ap (λ l. to_package delayed from d o l r ++ flat_map (to_owner delayed from d (Some o)) rs) (sym some)
 
 pub without_rows : (delayed : Bool) (owners : List Owner) (from : Owner) (d : PackageDependency) (rows : List Row) (old : List Edge) → rows ≡ from.rows → length rows ≡ 0 → old ≡ old ++ to_dependency delayed owners from d
-without_rows delayed owners from d [] old same none = no_more old ∙ ap (λ rs. old ++ flat_map (to_owner delayed from d (slice_get owners (number_of d.pkg))) rs) same
-without_rows delayed owners from d (r ∷ rs) old same none = absurd (omega (arith, none))
+without_rows delayed owners from d [] old agree none = no_more old ∙ ap (λ rs. old ++ flat_map (to_owner delayed from d (slice_get owners (number_of d.pkg))) rs) agree
+without_rows delayed owners from d (r ∷ rs) old agree none = absurd (omega (arith, none))
 
 pub without_owner : (delayed : Bool) (owners : List Owner) (from : Owner) (d : PackageDependency) (old : List Edge) → slice_get owners (number_of d.pkg) ≡ None → old ≡ old ++ to_dependency delayed owners from d
 without_owner delayed owners from d old none =
@@ -76,27 +76,27 @@ without_library delayed owners from d o old some none =
 
 pub with_library : (delayed : Bool) (owners : List Owner) (from : Owner) (d : PackageDependency) (o : Owner) (lib : Row) (old cur : List Edge) (rows : List Row)
     → slice_get owners (number_of d.pkg) ≡ Some o → library o.rows ≡ Some lib → rows ≡ from.rows → cur ≡ old ++ flat_map (to_lib delayed from d o lib) rows → cur ≡ old ++ to_dependency delayed owners from d
-with_library delayed owners from d o lib old cur rows some is same now =
-    now ∙ ap (λ rs. old ++ flat_map (to_lib delayed from d o lib) rs) same ∙ ap (λ es. old ++ es) (lib_edges delayed from d o lib from.rows is)
+with_library delayed owners from d o lib old cur rows some is agree now =
+    now ∙ ap (λ rs. old ++ flat_map (to_lib delayed from d o lib) rs) agree ∙ ap (λ es. old ++ es) (lib_edges delayed from d o lib from.rows is)
     ∙ ap (λ x. old ++ flat_map (to_owner delayed from d x) from.rows) (sym some)
 
 -- what a row's edge to a library comes to, by what the row asks for
-pub row_asks : (delayed : Bool) (from : Owner) (d : PackageDependency) (to : Owner) (lib row : Row) (e : Edge) → is_for d row ≡ true → same delayed (is_delayed from d to row) ≡ true
+pub row_asks : (delayed : Bool) (from : Owner) (d : PackageDependency) (to : Owner) (lib row : Row) (e : Edge) → is_for d row ≡ true → agree delayed (is_delayed from d to row) ≡ true
     → e ≡ edge row d.name lib → e ∷ [] ≡ to_lib delayed from d to lib row
-row_asks delayed from d to lib row e its now is = ap (λ x. x ∷ []) is ∙ ap (λ b. if b then edge row d.name lib ∷ [] else []) (sym (ap (λ b. b && same delayed (is_delayed from d to row)) its ∙ now))
+row_asks delayed from d to lib row e its now is = ap (λ x. x ∷ []) is ∙ ap (λ b. if b then edge row d.name lib ∷ [] else []) (sym (ap (λ b. b && agree delayed (is_delayed from d to row)) its ∙ now))
 
-pub row_asks_other : (delayed : Bool) (from : Owner) (d : PackageDependency) (to : Owner) (lib row : Row) (old : List Edge) → is_for d row ≡ true → same delayed (is_delayed from d to row) ≡ false
+pub row_asks_other : (delayed : Bool) (from : Owner) (d : PackageDependency) (to : Owner) (lib row : Row) (old : List Edge) → is_for d row ≡ true → agree delayed (is_delayed from d to row) ≡ false
     → old ≡ old ++ to_lib delayed from d to lib row
-row_asks_other delayed from d to lib row old its now = no_more old ∙ ap (λ b. old ++ (if b then edge row d.name lib ∷ [] else [])) (sym (ap (λ b. b && same delayed (is_delayed from d to row)) its ∙ now))
+row_asks_other delayed from d to lib row old its now = no_more old ∙ ap (λ b. old ++ (if b then edge row d.name lib ∷ [] else [])) (sym (ap (λ b. b && agree delayed (is_delayed from d to row)) its ∙ now))
 
 pub row_asks_none : (delayed : Bool) (from : Owner) (d : PackageDependency) (to : Owner) (lib row : Row) (old : List Edge) → is_for d row ≡ false → old ≡ old ++ to_lib delayed from d to lib row
-row_asks_none delayed from d to lib row old its = no_more old ∙ ap (λ b. old ++ (if b && same delayed (is_delayed from d to row) then edge row d.name lib ∷ [] else [])) (sym its)
+row_asks_none delayed from d to lib row old its = no_more old ∙ ap (λ b. old ++ (if b && agree delayed (is_delayed from d to row) then edge row d.name lib ∷ [] else [])) (sym its)
 
-pub same_is : (a b : Bool) → a ≡ b → same a b ≡ true
+pub same_is : (a b : Bool) → a ≡ b → agree a b ≡ true
 same_is true b is = sym is
 same_is false b is = ap not (sym is)
 
-pub unlike : (a b : Bool) → a ≡ not b → same a b ≡ false
+pub unlike : (a b : Bool) → a ≡ not b → agree a b ≡ false
 unlike true b is = grind arith
 unlike false b is = grind arith
 
@@ -154,8 +154,8 @@ good_all f xs i past before = sym (part_all f [] [] xs i past (sym before))
 pub all_dependencies : (delayed : Bool) (owners : List Owner) (from : Owner) (old cur : List Edge) (ds : List PackageDependency) → ds ≡ from.of.dependencies
     → cur ≡ old ++ flat_map (to_dependency delayed owners from) ds → cur ≡ old ++ to_dependencies delayed owners from
 unfolding to_dependencies
-all_dependencies delayed owners from old cur ds same now = now ∙ ap (λ xs. old ++ flat_map (to_dependency delayed owners from) xs) same
+all_dependencies delayed owners from old cur ds agree now = now ∙ ap (λ xs. old ++ flat_map (to_dependency delayed owners from) xs) agree
 
 pub all_names : (owners : List Owner) (from : Owner) (ds : List PackageDependency) → ds ≡ from.of.dependencies → flat_map (bad_name_of owners from) ds ≡ bad_names_of owners from
 unfolding bad_names_of
-all_names owners from ds same = ap (flat_map (bad_name_of owners from)) same
+all_names owners from ds agree = ap (flat_map (bad_name_of owners from)) agree

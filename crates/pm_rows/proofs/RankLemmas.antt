@@ -14,7 +14,7 @@ use Rattle.pm_cargo.specs.Workspace.{Workspace}
 use Rattle.pm_loader.specs.Loader.{Files}
 use Rattle.pm_rows.specs.Ranks.{AreInOrder, IsBefore, less, then_less}
 use Rattle.pm_rows.specs.Rows.{Owner, Row, cargo, library, live_target, live_targets, rows_from, owner, owners, owners_from, parts}
-use Rattle.pm_rows.specs.WantedEdges.{Edge, RankedEdge, by_place, first_edges, is_delayed, is_for, last, later_edges, with_rank, ranked_edges, same, to_library, to_owner, to_package, uses_library, wanted_of_part}
+use Rattle.pm_rows.specs.WantedEdges.{Edge, RankedEdge, by_place, first_edges, is_delayed, is_for, last, later_edges, with_rank, ranked_edges, agree, to_library, to_owner, to_package, uses_library, wanted_of_part}
 
 before_key : (prefix : List ℕ) (a b : ℕ) (xs ys : List ℕ) → a < b → IsBefore (prefix ++ a ∷ xs) (prefix ++ b ∷ ys)
 before_key [] a b xs ys h = less h
@@ -123,7 +123,7 @@ short_library (Some lib) r = short_if (uses_library lib r) _
 
 short_package : (delayed : Bool) (from : Owner) (d : PackageDependency) (to : Owner) (l : Option Row) (r : Row) → IsShort (to_package delayed from d to l r)
 short_package delayed from d to None r = tt
-short_package delayed from d to (Some lib) r = short_if (is_for d r && same delayed (is_delayed from d to r)) _
+short_package delayed from d to (Some lib) r = short_if (is_for d r && agree delayed (is_delayed from d to r)) _
 
 short_owner : (delayed : Bool) (from : Owner) (d : PackageDependency) (to : Option Owner) (r : Row) → IsShort (to_owner delayed from d to r)
 short_owner delayed from d None r = tt

@@ -13,7 +13,7 @@ use Rattle.pm_rows.specs.Gathering.{AreNumbered, found_targets, owner_by, owners
 use Rattle.pm_rows.specs.KeptEdges.{IsWithin}
 use Rattle.pm_loader.specs.Loader.{Files}
 use Rattle.pm_rows.specs.Rows.{Owner, Row, is_lib, library, live_targets, rows_from, owner, owners, owners_from, rows_of}
-use Rattle.pm_rows.specs.WantedEdges.{is_delayed, is_for, same, to_library, to_owner, to_package, uses_library}
+use Rattle.pm_rows.specs.WantedEdges.{is_delayed, is_for, agree, to_library, to_owner, to_package, uses_library}
 
 range_append : (a m n : ℕ) → range_with_len a (m + n) ≡ range_with_len a m ++ range_with_len (a + m) n
 range_append a zero n = ap (range_with_len a) (let e : zero + n ≡ n = omega arith in e) ∙ ap (λ b. range_with_len b n) (let e : a ≡ a + zero = omega arith in e)
@@ -79,11 +79,11 @@ all_if P false x p = All-nil P
 
 last_all : {A : Type 0} (P : A → Type 0) (o : Option A) (xs : List A) (x : A) → ((y : A) → o ≡ Some y → P y) → All P xs → last_or o xs ≡ Some x → P x
 last_all P o [] x first all is = first x is
-last_all P o (y ∷ ys) x first all is = last_all P (Some y) ys x (λ z e. let same : y ≡ z = cc in subst P same (All-head P y ys all)) (All-tail P y ys all) is
+last_all P o (y ∷ ys) x first all is = last_all P (Some y) ys x (λ z e. let agree : y ≡ z = cc in subst P agree (All-head P y ys all)) (All-tail P y ys all) is
 
 all_got : {A : Type 0} (P : A → Type 0) (xs : List A) (i : ℕ) (x : A) → All P xs → slice_get xs i ≡ Some x → P x
 all_got P [] i x all is = cc
-all_got P (y ∷ ys) zero x all is = let same : y ≡ x = cc in subst P same (All-head P y ys all)
+all_got P (y ∷ ys) zero x all is = let agree : y ≡ x = cc in subst P agree (All-head P y ys all)
 all_got P (y ∷ ys) (suc i) x all is = all_got P ys i x (All-tail P y ys all) is
 
 rows_below : (rows : List Row) → AreNumbered rows → All (λ r. r.number < length rows) rows
@@ -112,7 +112,7 @@ to_package_within : (count : ℕ) (delayed : Bool) (from : Owner) (d : PackageDe
     → All (IsWithin count) (to_package delayed from d to l r)
 to_package_within count delayed from d to None lib_below r below = All-nil (IsWithin count)
 to_package_within count delayed from d to (Some lib) lib_below r below =
-    all_if (IsWithin count) (is_for d r && same delayed (is_delayed from d to r)) _ (record { source = below; target = lib_below lib refl })
+    all_if (IsWithin count) (is_for d r && agree delayed (is_delayed from d to r)) _ (record { source = below; target = lib_below lib refl })
 
 to_owner_within : (count : ℕ) (delayed : Bool) (from : Owner) (d : PackageDependency) (to : Option Owner) → ((o : Owner) → to ≡ Some o → AreBelow count o) → (r : Row) → r.number < count
     → All (IsWithin count) (to_owner delayed from d to r)

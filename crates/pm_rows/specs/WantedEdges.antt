@@ -48,9 +48,9 @@ is_build Dev = false
 is_build Build = true
 
 -- two truth values are the same
-abbrev pub same : Bool → Bool → Bool
-same true b = b
-same false b = not b
+abbrev pub agree : Bool → Bool → Bool
+agree true b = b
+agree false b = not b
 
 -- ---- to the library of a row's own package
 
@@ -71,12 +71,12 @@ is_delayed from dependency to row = is_dev dependency.kind && is_lib row.target.
 
 -- a row asks for a dependency where being a build script is the same as the dependency's being a build one
 abbrev pub is_for : PackageDependency → Row → Bool
-is_for dependency row = same (is_build_script row.target.kind) (is_build dependency.kind)
+is_for dependency row = agree (is_build_script row.target.kind) (is_build dependency.kind)
 
 -- the edge of a row to the library of a dependency's package: a delayed one, or one that is not
 abbrev pub to_lib : Bool → Owner → PackageDependency → Owner → Row → Row → List Edge
 to_lib delayed from dependency to lib row =
-    if is_for dependency row && same delayed (is_delayed from dependency to row) then edge row dependency.name lib ∷ [] else []
+    if is_for dependency row && agree delayed (is_delayed from dependency to row) then edge row dependency.name lib ∷ [] else []
 
 -- the same where the package has a library, and else no edge
 abbrev pub to_package : Bool → Owner → PackageDependency → Owner → Option Row → Row → List Edge

@@ -2,7 +2,7 @@
 
 ghost use Rattle.std.specs.Prelude.{◌≡◌, ◌-◌, ◌^◌};
 ghost use Rattle.outside.specs.Causes.{next_count};
-ghost use Rattle.outside.specs.Nonce.{given};
+ghost use Rattle.outside.specs.Nonce.{nonce_of};
 
 use base_text::{NonceSource, TryClone};
 use std::alloc::{AllocError, Global};
@@ -27,7 +27,7 @@ impl Model for Nonce {
 impl Nonce {
     /// The next number of the source. None where that is the greatest u64.
     pub fn new<N: NonceSource>(source: &mut N) -> Option<Nonce>
-        ensures number { result ≡ given (N.upcoming source.old) }
+        ensures number { result ≡ nonce_of (N.upcoming source.old) }
         ensures next { N.upcoming source.new ≡ next_count (N.upcoming source.old) }
     {
         match source.next() {

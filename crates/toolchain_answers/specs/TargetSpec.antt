@@ -3,7 +3,7 @@ use Rattle.std.specs.Prelude.{ℕ, if◌then◌else◌, bytes_eq, List, codes, O
 use Rattle.std.specs.Result.{result_ok}
 use Rattle.serde_json.specs.Data.{Data}
 use Rattle.json_fields.specs.Document.{document}
-use Rattle.json_fields.specs.Fields.{members_at, required, text_at}
+use Rattle.json_fields.specs.Fields.{members_at, required_member, text_at}
 use Rattle.json_fields.specs.Outcome.{Reading, ◌>>=◌}
 use Rattle.crate_values.specs.declared.target.Arch.{Arch}
 use Rattle.crate_values.specs.declared.target.Arch.TheVariants.{Wasm32, Wasm64, Other}
@@ -21,8 +21,8 @@ arch_of name =
 unfoldable pub target_spec_at : Data → Reading TargetSpec
 target_spec_at d = do
   ms ← members_at d
-  data_layout ← required (codes "data-layout") text_at ms
-  arch ← required (codes "arch") text_at ms
+  data_layout ← required_member (codes "data-layout") text_at ms
+  arch ← required_member (codes "arch") text_at ms
   Ok (record { data_layout = data_layout; arch = arch_of arch })
 
 -- the specification that a text is, where it is JSON that fits and holds no float

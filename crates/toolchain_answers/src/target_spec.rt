@@ -6,7 +6,7 @@ ghost use Rattle.toolchain_answers.specs.TargetSpec.{arch_of, data_of, spec_of, 
 use base_text::{Text, TryClone};
 pub use crate_values::target::Arch;
 use crate_values::target::TargetData;
-use json_fields::{ReadError, ReadJson, members, of_text, required};
+use json_fields::{ReadError, ReadJson, members, of_text, required_member};
 use serde_json::Value;
 use std::alloc::{AllocError, Global};
 
@@ -30,7 +30,7 @@ fn arch_of(name: &str) -> Arch
     }
 }
 
-#[tactic(auto, unfolding(crate::specs::TargetSpec::target_spec_at, json_fields::specs::Fields::required))]
+#[tactic(auto, unfolding(crate::specs::TargetSpec::target_spec_at, json_fields::specs::Fields::required_member))]
 impl ReadJson for TargetSpec {
     ghost use Rattle.toolchain_answers.specs.TargetSpec.{target_spec_at};
 
@@ -38,8 +38,8 @@ impl ReadJson for TargetSpec {
 
     fn read(alloc: Global, value: &Value) -> Result<TargetSpec, ReadError> {
         let fields = members(alloc, value)?;
-        let data_layout = required(alloc, fields, "data-layout")?;
-        let arch: Text = required(alloc, fields, "arch")?;
+        let data_layout = required_member(alloc, fields, "data-layout")?;
+        let arch: Text = required_member(alloc, fields, "arch")?;
         Ok(TargetSpec {
             data_layout,
             arch: arch_of(arch.as_str()),

@@ -6,7 +6,7 @@ ghost use Rattle.base_text.specs.Paths.{components, path_text, without_last, IsA
 ghost use Rattle.base_text.specs.Rows.{IsSlashed};
 
 use crate::paths::abs_path::AbsPath;
-use crate::paths::clean::{parent_len, push_components, rooted};
+use crate::paths::clean::{parent_len, push_components, text_or_root};
 use crate::paths::path_error::PathError;
 use base_values::TryClone;
 use std::alloc::{AllocError, Global};
@@ -84,7 +84,7 @@ impl AbsPathBuf {
         ensures same_components { IfOk result (λ path.
             components path ≡ components (string_bytes slashed)) }
     {
-        let text = rooted(slashed)?;
+        let text = text_or_root(slashed)?;
         Ok(AbsPathBuf { text })
     }
 

@@ -123,7 +123,7 @@ pub(crate) fn push_resolved(text: &mut String, path: &str) -> Result<(), AllocEr
 }
 
 /// The text of the path whose components follow slashes in `text`.
-pub(crate) fn rooted(mut text: String) -> Result<String, AllocError>
+pub(crate) fn text_or_root(mut text: String) -> Result<String, AllocError>
     requires { IsSlashed (string_bytes text) }
     ensures { IfOk result (λ path.
         string_bytes path ≡ path_text (components (string_bytes text))) }

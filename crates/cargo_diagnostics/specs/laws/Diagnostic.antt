@@ -4,9 +4,9 @@ use Rattle.std.proofs.Common.{arith, ap, ◌∙◌}
 use Rattle.serde_json.specs.Data.{Data, Members, members_depth, object, string, no_members}
 use Rattle.serde_json.specs.Read.{max_depth}
 use Rattle.serde_json.specs.Written.{has_float}
-use Rattle.json_fields.specs.Fields.{optional, required}
-use Rattle.json_fields.specs.Laws.Nested.{nested-round_trips}
-use Rattle.json_fields.specs.Laws.RoundTrips.{AreWithin, and_then, at_last, list-round_trips, no_members-written, optional-kept, required-kept, set_member-written, table-round_trips, text-round_trips}
+use Rattle.json_fields.specs.Fields.{optional_member, required_member}
+use Rattle.json_fields.specs.Laws.Nested.{within_levels-round_trips}
+use Rattle.json_fields.specs.Laws.RoundTrips.{AreWithin, and_then, at_last, list-round_trips, no_members-written, optional_member-kept, required_member-kept, set_member-written, table-round_trips, text-round_trips}
 use Rattle.json_fields.specs.Laws.TextForms.{text_form-round_trips}
 use Rattle.json_fields.specs.Outcome.{Reading}
 use Rattle.json_fields.specs.RoundTrip.{RoundTrips}
@@ -30,13 +30,13 @@ level-round_trips = text_form-round_trips level_of level_text level_of-again
 
 -- codes
 pub code-round_trips : RoundTrips code_at code_data 0
-unfolding code_at code_data required optional set_member
+unfolding code_at code_data required_member optional_member set_member
 code-round_trips = table-round_trips _ code_data 0 λ ms.
     let n = max 0 (members_depth ms) in
     let within : AreWithin n ms = record { within = omega arith } in
     let none : 0 ≤ n = omega arith in
-    and_then (required-kept text-round_trips none within (codes "code")) λ code code_h.
-    and_then (optional-kept text-round_trips none within (λ x. refl) (codes "explanation")) λ explanation explanation_h.
+    and_then (required_member-kept text-round_trips none within (codes "code")) λ code code_h.
+    and_then (optional_member-kept text-round_trips none within (λ x. refl) (codes "explanation")) λ explanation explanation_h.
     let written = set_member-written (codes "explanation") explanation_h (set_member-written (codes "code") code_h (no_members-written _ _)) in
     at_last (record { again = rw explanation_h.again refl; clean = written.clean; nests = omega (arith, written.nests) })
 
@@ -58,17 +58,17 @@ module _ (message : List ℕ) (code : Option DiagnosticCode) (level : Diagnostic
 
 -- one level of a diagnostic keeps its children where they are kept
 diagnostic_row-round_trips : (inner : Data → Reading Diagnostic) → RoundTrips inner diagnostic_data 0 → RoundTrips (diagnostic_row inner) diagnostic_data 0
-unfolding diagnostic_row required optional set_member diagnostic_members
+unfolding diagnostic_row required_member optional_member set_member diagnostic_members
 diagnostic_row-round_trips inner kept = table-round_trips _ diagnostic_data 0 λ ms.
     let n = max 0 (members_depth ms) in
     let within : AreWithin n ms = record { within = omega arith } in
     let none : 0 ≤ n = omega arith in
-    and_then (required-kept text-round_trips none within (codes "message")) λ message message_h.
-    and_then (optional-kept code-round_trips none within code_data-present (codes "code")) λ code code_h.
-    and_then (required-kept level-round_trips none within (codes "level")) λ level level_h.
-    and_then (required-kept (list-round_trips _ _ _ span-round_trips) none within (codes "spans")) λ spans spans_h.
-    and_then (required-kept (list-round_trips _ _ _ kept) none within (codes "children")) λ children children_h.
-    and_then (optional-kept text-round_trips none within (λ x. refl) (codes "rendered")) λ rendered rendered_h.
+    and_then (required_member-kept text-round_trips none within (codes "message")) λ message message_h.
+    and_then (optional_member-kept code-round_trips none within code_data-present (codes "code")) λ code code_h.
+    and_then (required_member-kept level-round_trips none within (codes "level")) λ level level_h.
+    and_then (required_member-kept (list-round_trips _ _ _ span-round_trips) none within (codes "spans")) λ spans spans_h.
+    and_then (required_member-kept (list-round_trips _ _ _ kept) none within (codes "children")) λ children children_h.
+    and_then (optional_member-kept text-round_trips none within (λ x. refl) (codes "rendered")) λ rendered rendered_h.
     let written =
     set_member-written (codes "rendered") rendered_h
     (set_member-written (codes "children") children_h
@@ -87,4 +87,4 @@ diagnostic_row-round_trips inner kept = table-round_trips _ diagnostic_data 0 λ
 -- a diagnostic is read again from what is written of it
 pub diagnostic-round_trips : RoundTrips diagnostic_at diagnostic_data 0
 unfolding diagnostic_at
-diagnostic-round_trips = nested-round_trips diagnostic_row diagnostic_data 0 diagnostic_row-round_trips max_depth
+diagnostic-round_trips = within_levels-round_trips diagnostic_row diagnostic_data 0 diagnostic_row-round_trips max_depth

@@ -4,10 +4,10 @@ use Rattle.std.proofs.Common.{arith, ap, ◌∙◌}
 use Rattle.serde_json.specs.Data.{Data, Members, members_depth, number, boolean, object, string, unsigned, no_members}
 use Rattle.serde_json.specs.Read.{max_depth}
 use Rattle.serde_json.specs.Written.{has_float}
-use Rattle.json_fields.specs.Fields.{optional, required}
-use Rattle.json_fields.specs.Laws.Nested.{nested-round_trips}
+use Rattle.json_fields.specs.Fields.{optional_member, required_member}
+use Rattle.json_fields.specs.Laws.Nested.{within_levels-round_trips}
 use Rattle.json_fields.specs.Laws.Numbers.{u32-round_trips}
-use Rattle.json_fields.specs.Laws.RoundTrips.{AreWithin, and_then, at_last, flag-round_trips, list-round_trips, no_members-written, number-round_trips, optional-kept, required-kept, set_member-written, table-round_trips, text-round_trips}
+use Rattle.json_fields.specs.Laws.RoundTrips.{AreWithin, and_then, at_last, flag-round_trips, list-round_trips, no_members-written, number-round_trips, optional_member-kept, required_member-kept, set_member-written, table-round_trips, text-round_trips}
 use Rattle.json_fields.specs.Laws.TextForms.{text_form-round_trips}
 use Rattle.json_fields.specs.Outcome.{Reading}
 use Rattle.json_fields.specs.RoundTrip.{RoundTrips}
@@ -29,14 +29,14 @@ applicability-round_trips = text_form-round_trips applicability_of applicability
 
 -- lines
 pub line-round_trips : RoundTrips line_at line_data 0
-unfolding line_at line_data required set_member
+unfolding line_at line_data required_member set_member
 line-round_trips = table-round_trips _ line_data 0 λ ms.
     let n = max 0 (members_depth ms) in
     let within : AreWithin n ms = record { within = omega arith } in
     let none : 0 ≤ n = omega arith in
-    and_then (required-kept text-round_trips none within (codes "text")) λ text text_h.
-    and_then (required-kept number-round_trips none within (codes "highlight_start")) λ highlight_start highlight_start_h.
-    and_then (required-kept number-round_trips none within (codes "highlight_end")) λ highlight_end highlight_end_h.
+    and_then (required_member-kept text-round_trips none within (codes "text")) λ text text_h.
+    and_then (required_member-kept number-round_trips none within (codes "highlight_start")) λ highlight_start highlight_start_h.
+    and_then (required_member-kept number-round_trips none within (codes "highlight_end")) λ highlight_end highlight_end_h.
     let written =
     set_member-written (codes "highlight_end") highlight_end_h
     (set_member-written (codes "highlight_start") highlight_start_h
@@ -71,14 +71,14 @@ expansion_data-roll s name (Some x) =
 
 -- one level of an expansion keeps its spans where they are kept
 expansion-round_trips : (inner : Data → Reading DiagnosticSpan) → RoundTrips inner span_data 0 → RoundTrips (expansion_row inner) expansion_data 0
-unfolding expansion_row required optional set_member expansion_members
+unfolding expansion_row required_member optional_member set_member expansion_members
 expansion-round_trips inner kept = table-round_trips _ expansion_data 0 λ ms.
     let n = max 0 (members_depth ms) in
     let within : AreWithin n ms = record { within = omega arith } in
     let none : 0 ≤ n = omega arith in
-    and_then (required-kept kept none within (codes "span")) λ span span_h.
-    and_then (required-kept text-round_trips none within (codes "macro_decl_name")) λ name name_h.
-    and_then (optional-kept kept none within span_data-present (codes "def_site_span")) λ site site_h.
+    and_then (required_member-kept kept none within (codes "span")) λ span span_h.
+    and_then (required_member-kept text-round_trips none within (codes "macro_decl_name")) λ name name_h.
+    and_then (optional_member-kept kept none within span_data-present (codes "def_site_span")) λ site site_h.
     let written =
     set_member-written (codes "def_site_span") site_h
     (set_member-written (codes "macro_decl_name") name_h
@@ -163,24 +163,24 @@ module _ (file_name : List ℕ) (byte_start byte_end line_start line_end column_
 
 -- one level of a span keeps its expansion where the spans inside are kept
 span_row-round_trips : (inner : Data → Reading DiagnosticSpan) → RoundTrips inner span_data 0 → RoundTrips (span_row inner) span_data 0
-unfolding span_row required optional set_member span_members applicability_of
+unfolding span_row required_member optional_member set_member span_members applicability_of
 span_row-round_trips inner kept = table-round_trips _ span_data 0 λ ms.
     let n = max 0 (members_depth ms) in
     let within : AreWithin n ms = record { within = omega arith } in
     let none : 0 ≤ n = omega arith in
-    and_then (required-kept text-round_trips none within (codes "file_name")) λ file_name file_name_h.
-    and_then (required-kept u32-round_trips none within (codes "byte_start")) λ byte_start byte_start_h.
-    and_then (required-kept u32-round_trips none within (codes "byte_end")) λ byte_end byte_end_h.
-    and_then (required-kept number-round_trips none within (codes "line_start")) λ line_start line_start_h.
-    and_then (required-kept number-round_trips none within (codes "line_end")) λ line_end line_end_h.
-    and_then (required-kept number-round_trips none within (codes "column_start")) λ column_start column_start_h.
-    and_then (required-kept number-round_trips none within (codes "column_end")) λ column_end column_end_h.
-    and_then (required-kept flag-round_trips none within (codes "is_primary")) λ is_primary is_primary_h.
-    and_then (required-kept (list-round_trips _ _ _ line-round_trips) none within (codes "text")) λ text text_h.
-    and_then (optional-kept text-round_trips none within (λ x. refl) (codes "label")) λ label label_h.
-    and_then (optional-kept text-round_trips none within (λ x. refl) (codes "suggested_replacement")) λ suggested_replacement suggested_replacement_h.
-    and_then (optional-kept applicability-round_trips none within (λ x. refl) (codes "suggestion_applicability")) λ suggestion_applicability suggestion_applicability_h.
-    and_then (optional-kept (expansion-round_trips inner kept) none within expansion_data-present (codes "expansion")) λ expansion expansion_h.
+    and_then (required_member-kept text-round_trips none within (codes "file_name")) λ file_name file_name_h.
+    and_then (required_member-kept u32-round_trips none within (codes "byte_start")) λ byte_start byte_start_h.
+    and_then (required_member-kept u32-round_trips none within (codes "byte_end")) λ byte_end byte_end_h.
+    and_then (required_member-kept number-round_trips none within (codes "line_start")) λ line_start line_start_h.
+    and_then (required_member-kept number-round_trips none within (codes "line_end")) λ line_end line_end_h.
+    and_then (required_member-kept number-round_trips none within (codes "column_start")) λ column_start column_start_h.
+    and_then (required_member-kept number-round_trips none within (codes "column_end")) λ column_end column_end_h.
+    and_then (required_member-kept flag-round_trips none within (codes "is_primary")) λ is_primary is_primary_h.
+    and_then (required_member-kept (list-round_trips _ _ _ line-round_trips) none within (codes "text")) λ text text_h.
+    and_then (optional_member-kept text-round_trips none within (λ x. refl) (codes "label")) λ label label_h.
+    and_then (optional_member-kept text-round_trips none within (λ x. refl) (codes "suggested_replacement")) λ suggested_replacement suggested_replacement_h.
+    and_then (optional_member-kept applicability-round_trips none within (λ x. refl) (codes "suggestion_applicability")) λ suggestion_applicability suggestion_applicability_h.
+    and_then (optional_member-kept (expansion-round_trips inner kept) none within expansion_data-present (codes "expansion")) λ expansion expansion_h.
     let written =
     set_member-written (codes "expansion") expansion_h
     (set_member-written (codes "suggestion_applicability") suggestion_applicability_h
@@ -206,4 +206,4 @@ span_row-round_trips inner kept = table-round_trips _ span_data 0 λ ms.
 -- a span is read again from what is written of it
 pub span-round_trips : RoundTrips span_at span_data 0
 unfolding span_at
-span-round_trips = nested-round_trips span_row span_data 0 span_row-round_trips max_depth
+span-round_trips = within_levels-round_trips span_row span_data 0 span_row-round_trips max_depth

@@ -2,8 +2,8 @@
 use Rattle.std.specs.Prelude.{◌≡◌, ◌≤◌, List, suc, max, cond, codes, refl, Option, Some, None, Ok}
 use Rattle.std.proofs.Common.{arith}
 use Rattle.serde_json.specs.Data.{members_depth, null}
-use Rattle.json_fields.specs.Laws.Rows.{required-set_member, optional-set_member, defaulted-set_member, required-set_unless_null, optional-set_unless_null, defaulted-set_unless_null, optional-no_members, defaulted-no_members, null-or_not}
-use Rattle.json_fields.specs.Laws.RoundTrips.{AreWithin, and_then, any-round_trips, at_last, defaulted-kept, list-round_trips, no_members-written, number-round_trips, optional-kept, required-kept, set_member-written, set_unless_null-written, table-round_trips, text-round_trips}
+use Rattle.json_fields.specs.Laws.Rows.{required_member-set_member, optional_member-set_member, default_member-set_member, required_member-set_unless_null, optional_member-set_unless_null, default_member-set_unless_null, optional_member-no_members, default_member-no_members, null-or_not}
+use Rattle.json_fields.specs.Laws.RoundTrips.{AreWithin, and_then, any-round_trips, at_last, default_member-kept, list-round_trips, no_members-written, number-round_trips, optional_member-kept, required_member-kept, set_member-written, set_unless_null-written, table-round_trips, text-round_trips}
 use Rattle.json_fields.specs.Outcome.{Reading}
 use Rattle.json_fields.specs.RoundTrip.{RoundTrips}
 use Rattle.json_fields.specs.Fields.{list_at, option_at}
@@ -29,15 +29,15 @@ metadata-round_trips = table-round_trips _ metadata_data 7 λ ms.
     let n = max 6 (members_depth ms) in
     let within : AreWithin n ms = record { within = omega arith } in
     let none : 0 ≤ n = omega arith in
-    and_then (required-kept (list-round_trips _ _ _ package-round_trips) (omega arith) within (codes "packages")) λ packages packages_h.
-    and_then (required-kept (list-round_trips _ _ _ package_id-round_trips) none within (codes "workspace_members")) λ workspace_members workspace_members_h.
-    and_then (optional-kept (list-round_trips _ _ _ package_id-round_trips) none within (λ x. refl) (codes "workspace_default_members")) λ default_members default_members_h.
-    and_then (optional-kept resolve-round_trips (omega arith) within resolve_data-present (codes "resolve")) λ resolve resolve_h.
-    and_then (required-kept text-round_trips none within (codes "workspace_root")) λ workspace_root workspace_root_h.
-    and_then (required-kept text-round_trips none within (codes "target_directory")) λ target_directory target_directory_h.
-    and_then (optional-kept text-round_trips none within (λ x. refl) (codes "build_directory")) λ build_directory build_directory_h.
-    and_then (defaulted-kept any-round_trips none within (codes "metadata") null (record { again = refl; clean = λ _. refl; nests = omega arith })) λ workspace_metadata workspace_metadata_h.
-    and_then (required-kept number-round_trips none within (codes "version")) λ version version_h.
+    and_then (required_member-kept (list-round_trips _ _ _ package-round_trips) (omega arith) within (codes "packages")) λ packages packages_h.
+    and_then (required_member-kept (list-round_trips _ _ _ package_id-round_trips) none within (codes "workspace_members")) λ workspace_members workspace_members_h.
+    and_then (optional_member-kept (list-round_trips _ _ _ package_id-round_trips) none within (λ x. refl) (codes "workspace_default_members")) λ default_members default_members_h.
+    and_then (optional_member-kept resolve-round_trips (omega arith) within resolve_data-present (codes "resolve")) λ resolve resolve_h.
+    and_then (required_member-kept text-round_trips none within (codes "workspace_root")) λ workspace_root workspace_root_h.
+    and_then (required_member-kept text-round_trips none within (codes "target_directory")) λ target_directory target_directory_h.
+    and_then (optional_member-kept text-round_trips none within (λ x. refl) (codes "build_directory")) λ build_directory build_directory_h.
+    and_then (default_member-kept any-round_trips none within (codes "metadata") null (record { again = refl; clean = λ _. refl; nests = omega arith })) λ workspace_metadata workspace_metadata_h.
+    and_then (required_member-kept number-round_trips none within (codes "version")) λ version version_h.
     let written =
     set_member-written (codes "version") version_h
     (set_unless_null-written (codes "metadata") workspace_metadata_h
@@ -51,7 +51,7 @@ metadata-round_trips = table-round_trips _ metadata_data 7 λ ms.
     (no_members-written _ _)))))))))
     in
     at_last (record {
-      again = simp (required-set_member, optional-set_member, defaulted-set_member, required-set_unless_null, optional-set_unless_null, defaulted-set_unless_null, optional-no_members, defaulted-no_members, null-or_not)
+      again = simp (required_member-set_member, optional_member-set_member, default_member-set_member, required_member-set_unless_null, optional_member-set_unless_null, default_member-set_unless_null, optional_member-no_members, default_member-no_members, null-or_not)
           (rw (packages_h.again, workspace_members_h.again, default_members_h.again, resolve_h.again, build_directory_h.again, none-or_not default_members));
       clean = written.clean;
       nests = omega (arith, written.nests);

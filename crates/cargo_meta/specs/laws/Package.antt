@@ -5,8 +5,8 @@ use Rattle.serde_json.specs.Data.{members_depth, Members, no_members, null}
 use Rattle.serde_json.specs.Written.{members_have_float}
 use Rattle.json_fields.specs.Fields.{members_at}
 use Rattle.json_fields.specs.Outcome.{◌>>=◌}
-use Rattle.json_fields.specs.Laws.Rows.{required-set_member, optional-set_member, defaulted-set_member, optional-set_unless_null, defaulted-set_unless_null, defaulted-no_members, null-or_not}
-use Rattle.json_fields.specs.Laws.RoundTrips.{AreWithin, AreWritten, ReadsAs, and_then, any-round_trips, at_last, defaulted-kept, list-round_trips, listed-kept, map-round_trips, no_members-written, optional-kept, required-kept, set_member-written, set_unless_null-written, table-round_trips, text-round_trips, weaker}
+use Rattle.json_fields.specs.Laws.Rows.{required_member-set_member, optional_member-set_member, default_member-set_member, optional_member-set_unless_null, default_member-set_unless_null, default_member-no_members, null-or_not}
+use Rattle.json_fields.specs.Laws.RoundTrips.{AreWithin, AreWritten, ReadsAs, and_then, any-round_trips, at_last, default_member-kept, list-round_trips, list_member-kept, map-round_trips, no_members-written, optional_member-kept, required_member-kept, set_member-written, set_unless_null-written, table-round_trips, text-round_trips, weaker}
 use Rattle.json_fields.specs.Laws.TextForms.{bare-round_trips, version-round_trips}
 use Rattle.json_fields.specs.RoundTrip.{IsKept, RoundTrips}
 use Rattle.cargo_values.specs.Kinds.{edition_of}
@@ -34,15 +34,15 @@ with_tail q p = record q { homepage = p.homepage; documentation = p.documentatio
 -- the rows of one group do not read what another sets
 body_from-head_set : (q p : Package) (ms : Members) → body_from q (head_set p ms) ≡ body_from q ms
 unfolding body_from head_set
-body_from-head_set q p ms = simp (required-set_member, optional-set_member, defaulted-set_member)
+body_from-head_set q p ms = simp (required_member-set_member, optional_member-set_member, default_member-set_member)
 
 tail_from-head_set : (q p : Package) (ms : Members) → tail_from q (head_set p ms) ≡ tail_from q ms
 unfolding tail_from head_set
-tail_from-head_set q p ms = simp (required-set_member, optional-set_member, defaulted-set_member)
+tail_from-head_set q p ms = simp (required_member-set_member, optional_member-set_member, default_member-set_member)
 
 tail_from-body_set : (q p : Package) (ms : Members) → tail_from q (body_set p ms) ≡ tail_from q ms
 unfolding tail_from body_set
-tail_from-body_set q p ms = simp (required-set_member, optional-set_member, defaulted-set_member)
+tail_from-body_set q p ms = simp (required_member-set_member, optional_member-set_member, default_member-set_member)
 
 -- the rows of each group are kept
 record HeadKept (may_float : Bool) (n : ℕ) (p : Package) : Type 0 where
@@ -63,16 +63,16 @@ module _ (ms : Members) {n : ℕ} (within : AreWithin n ms) (low : 3 ≤ n) (som
   head_rows-kept : ReadsAs (head_rows ms) (λ h. HeadKept (members_have_float ms) n (of_head h))
   unfolding head_from head_rows head_set
   head_rows-kept =
-      and_then (required-kept text-round_trips none within (codes "name")) λ name name_h.
-      and_then (required-kept version-round_trips none within (codes "version")) λ version version_h.
-      and_then (listed-kept text-round_trips none some within (codes "authors")) λ authors authors_h.
-      and_then (required-kept package_id-round_trips none within (codes "id")) λ id id_h.
-      and_then (optional-kept source-round_trips none within (λ x. refl) (codes "source")) λ source source_h.
-      and_then (optional-kept text-round_trips none within (λ x. refl) (codes "description")) λ description description_h.
-      and_then (required-kept (list-round_trips _ _ _ dependency-round_trips) none within (codes "dependencies")) λ dependencies dependencies_h.
-      and_then (optional-kept text-round_trips none within (λ x. refl) (codes "license")) λ license license_h.
+      and_then (required_member-kept text-round_trips none within (codes "name")) λ name name_h.
+      and_then (required_member-kept version-round_trips none within (codes "version")) λ version version_h.
+      and_then (list_member-kept text-round_trips none some within (codes "authors")) λ authors authors_h.
+      and_then (required_member-kept package_id-round_trips none within (codes "id")) λ id id_h.
+      and_then (optional_member-kept source-round_trips none within (λ x. refl) (codes "source")) λ source source_h.
+      and_then (optional_member-kept text-round_trips none within (λ x. refl) (codes "description")) λ description description_h.
+      and_then (required_member-kept (list-round_trips _ _ _ dependency-round_trips) none within (codes "dependencies")) λ dependencies dependencies_h.
+      and_then (optional_member-kept text-round_trips none within (λ x. refl) (codes "license")) λ license license_h.
       at_last (record {
-        again = λ ws. simp (required-set_member, optional-set_member, defaulted-set_member)
+        again = λ ws. simp (required_member-set_member, optional_member-set_member, default_member-set_member)
             (rw (version_h.again, authors_h.again, source_h.again, description_h.again, dependencies_h.again, license_h.again));
         written = λ ws before.
             set_member-written (codes "license") license_h
@@ -93,18 +93,18 @@ module _ (ms : Members) {n : ℕ} (within : AreWithin n ms) (low : 3 ≤ n) (som
   body-kept : (h : Package) → HeadKept (members_have_float ms) n h → ReadsAs (body_from h ms) (λ p. HeadKept (members_have_float ms) n p × BodyKept (members_have_float ms) n p)
   unfolding body_from body_set head_set
   body-kept h head =
-      and_then (optional-kept text-round_trips none within (λ x. refl) (codes "license_file")) λ license_file license_file_h.
-      and_then (required-kept (list-round_trips _ _ _ target-round_trips) low within (codes "targets")) λ targets targets_h.
-      and_then (required-kept (map-round_trips _ _ _ (list-round_trips _ _ _ text-round_trips)) none within (codes "features")) λ features features_h.
-      and_then (required-kept text-round_trips none within (codes "manifest_path")) λ manifest_path manifest_path_h.
-      and_then (listed-kept text-round_trips none some within (codes "categories")) λ categories categories_h.
-      and_then (listed-kept text-round_trips none some within (codes "keywords")) λ keywords keywords_h.
-      and_then (optional-kept text-round_trips none within (λ x. refl) (codes "readme")) λ readme readme_h.
-      and_then (optional-kept text-round_trips none within (λ x. refl) (codes "repository")) λ repository repository_h.
+      and_then (optional_member-kept text-round_trips none within (λ x. refl) (codes "license_file")) λ license_file license_file_h.
+      and_then (required_member-kept (list-round_trips _ _ _ target-round_trips) low within (codes "targets")) λ targets targets_h.
+      and_then (required_member-kept (map-round_trips _ _ _ (list-round_trips _ _ _ text-round_trips)) none within (codes "features")) λ features features_h.
+      and_then (required_member-kept text-round_trips none within (codes "manifest_path")) λ manifest_path manifest_path_h.
+      and_then (list_member-kept text-round_trips none some within (codes "categories")) λ categories categories_h.
+      and_then (list_member-kept text-round_trips none some within (codes "keywords")) λ keywords keywords_h.
+      and_then (optional_member-kept text-round_trips none within (λ x. refl) (codes "readme")) λ readme readme_h.
+      and_then (optional_member-kept text-round_trips none within (λ x. refl) (codes "repository")) λ repository repository_h.
       at_last (
         record { again = head.again; written = head.written },
         record {
-          again = λ q ws. simp (required-set_member, optional-set_member, defaulted-set_member)
+          again = λ q ws. simp (required_member-set_member, optional_member-set_member, default_member-set_member)
               (rw (license_file_h.again, targets_h.again, features_h.again, categories_h.again, keywords_h.again, readme_h.again, repository_h.again));
           written = λ ws before.
               set_member-written (codes "repository") repository_h
@@ -123,19 +123,19 @@ module _ (ms : Members) {n : ℕ} (within : AreWithin n ms) (low : 3 ≤ n) (som
       → ReadsAs (tail_from b ms) (λ p. HeadKept (members_have_float ms) n p × BodyKept (members_have_float ms) n p × TailKept (members_have_float ms) n p)
   unfolding tail_from tail_set head_set body_set edition_of
   tail-kept b head body =
-      and_then (optional-kept text-round_trips none within (λ x. refl) (codes "homepage")) λ homepage homepage_h.
-      and_then (optional-kept text-round_trips none within (λ x. refl) (codes "documentation")) λ documentation documentation_h.
-      and_then (defaulted-kept edition-round_trips none within (codes "edition") E2015 (record { again = refl; clean = λ _. refl; nests = omega arith })) λ edition edition_h.
-      and_then (defaulted-kept any-round_trips none within (codes "metadata") null (record { again = refl; clean = λ _. refl; nests = omega arith })) λ metadata metadata_h.
-      and_then (optional-kept text-round_trips none within (λ x. refl) (codes "links")) λ links links_h.
-      and_then (optional-kept (list-round_trips _ _ _ text-round_trips) none within (λ x. refl) (codes "publish")) λ publish publish_h.
-      and_then (optional-kept text-round_trips none within (λ x. refl) (codes "default_run")) λ default_run default_run_h.
-      and_then (optional-kept bare-round_trips none within (λ x. refl) (codes "rust_version")) λ rust_version rust_version_h.
+      and_then (optional_member-kept text-round_trips none within (λ x. refl) (codes "homepage")) λ homepage homepage_h.
+      and_then (optional_member-kept text-round_trips none within (λ x. refl) (codes "documentation")) λ documentation documentation_h.
+      and_then (default_member-kept edition-round_trips none within (codes "edition") E2015 (record { again = refl; clean = λ _. refl; nests = omega arith })) λ edition edition_h.
+      and_then (default_member-kept any-round_trips none within (codes "metadata") null (record { again = refl; clean = λ _. refl; nests = omega arith })) λ metadata metadata_h.
+      and_then (optional_member-kept text-round_trips none within (λ x. refl) (codes "links")) λ links links_h.
+      and_then (optional_member-kept (list-round_trips _ _ _ text-round_trips) none within (λ x. refl) (codes "publish")) λ publish publish_h.
+      and_then (optional_member-kept text-round_trips none within (λ x. refl) (codes "default_run")) λ default_run default_run_h.
+      and_then (optional_member-kept bare-round_trips none within (λ x. refl) (codes "rust_version")) λ rust_version rust_version_h.
       at_last (
         record { again = head.again; written = head.written },
         record { again = body.again; written = body.written },
         record {
-          again = λ q. simp (required-set_member, optional-set_member, defaulted-set_member, optional-set_unless_null, defaulted-set_unless_null, defaulted-no_members, null-or_not)
+          again = λ q. simp (required_member-set_member, optional_member-set_member, default_member-set_member, optional_member-set_unless_null, default_member-set_unless_null, default_member-no_members, null-or_not)
               (rw (homepage_h.again, documentation_h.again, edition_h.again, links_h.again, publish_h.again, default_run_h.again, rust_version_h.again));
           written = λ ws before.
               set_member-written (codes "rust_version") rust_version_h

@@ -4,9 +4,9 @@ use Rattle.std.proofs.Common.{◌∙◌, arith, ap, cond, Ok, Some}
 use Rattle.serde_json.specs.Data.{Data, Members, depth, members_depth, null, boolean, number, string, array, object}
 use Rattle.serde_json.specs.Find.{get_member}
 use Rattle.serde_json.specs.Written.{has_float, members_have_float}
-use Rattle.json_fields.specs.Fields.{defaulted, optional, required, text_at, under}
+use Rattle.json_fields.specs.Fields.{default_member, optional_member, required_member, text_at, under}
 use Rattle.json_fields.specs.Laws.Rows.{get_member-set_member}
-use Rattle.json_fields.specs.Laws.RoundTrips.{AreWithin, AreWritten, ReadsAs, and_then, at_last, no_members-written, required-kept, set_member-written, table-round_trips, text-round_trips, under-as, weaker}
+use Rattle.json_fields.specs.Laws.RoundTrips.{AreWithin, AreWritten, ReadsAs, and_then, at_last, no_members-written, required_member-kept, set_member-written, table-round_trips, text-round_trips, under-as, weaker}
 use Rattle.json_fields.specs.Outcome.{Reading}
 use Rattle.json_fields.specs.RoundTrip.{IsKept, RoundTrips}
 use Rattle.json_fields.specs.Written.{set_member}
@@ -26,15 +26,15 @@ use Rattle.cargo_msgs.specs.declared.messages.Message.TheVariants as message
 
 -- what the compiler said
 pub compiler_message-round_trips : RoundTrips compiler_message_at compiler_message_data 3
-unfolding compiler_message_at compiler_message_from compiler_message_data required set_member
+unfolding compiler_message_at compiler_message_from compiler_message_data required_member set_member
 compiler_message-round_trips = table-round_trips _ compiler_message_data 3 λ ms.
     let n = max 2 (members_depth ms) in
     let within : AreWithin n ms = record { within = omega arith } in
     let none : 0 ≤ n = omega arith in
     let two : 2 ≤ n = omega arith in
-    and_then (required-kept package_id-round_trips none within (codes "package_id")) λ package_id package_id_h.
-    and_then (required-kept target-round_trips two within (codes "target")) λ target target_h.
-    and_then (required-kept diagnostic-round_trips none within (codes "message")) λ diagnostic diagnostic_h.
+    and_then (required_member-kept package_id-round_trips none within (codes "package_id")) λ package_id package_id_h.
+    and_then (required_member-kept target-round_trips two within (codes "target")) λ target target_h.
+    and_then (required_member-kept diagnostic-round_trips none within (codes "message")) λ diagnostic diagnostic_h.
     let written =
     set_member-written (codes "message") diagnostic_h
     (set_member-written (codes "target") target_h
@@ -66,8 +66,8 @@ module _ (reason : List ℕ) (may_float : Bool) (n : ℕ) (some : 1 ≤ n) where
   reason-nests (object ms) clean nests = let written = reason-written ms clean nests in omega (arith, written.nests, some)
 
 -- a row finds what it found before the reason was put in
-other : (k : List ℕ) (d : Data) (ms : Members) → bytes_eq k (codes "reason") ≡ false → get_member k (set_member (codes "reason") d ms) ≡ get_member k ms
-other k d ms differs = get_member-set_member k (codes "reason") d ms ∙ ap (λ b. cond b (Some d) (get_member k ms)) differs
+get_past_reason : (k : List ℕ) (d : Data) (ms : Members) → bytes_eq k (codes "reason") ≡ false → get_member k (set_member (codes "reason") d ms) ≡ get_member k ms
+get_past_reason k d ms differs = get_member-set_member k (codes "reason") d ms ∙ ap (λ b. cond b (Some d) (get_member k ms)) differs
 
 -- and the reason is found
 here : (reason : List ℕ) (ms : Members) → get_member (codes "reason") (set_member (codes "reason") (string reason) ms) ≡ Some (string reason)
@@ -75,42 +75,42 @@ here reason ms = get_member-set_member (codes "reason") (codes "reason") (string
 
 -- so no table of a message looks at the reason
 artifact_from-other : (d : Data) (ms : Members) → artifact_from (set_member (codes "reason") d ms) ≡ artifact_from ms
-unfolding artifact_from required optional defaulted
+unfolding artifact_from required_member optional_member default_member
 artifact_from-other d ms =
     rw (
-      other (codes "package_id") d ms refl,
-      other (codes "manifest_path") d ms refl,
-      other (codes "target") d ms refl,
-      other (codes "profile") d ms refl,
-      other (codes "features") d ms refl,
-      other (codes "filenames") d ms refl,
-      other (codes "executable") d ms refl,
-      other (codes "fresh") d ms refl,
+      get_past_reason (codes "package_id") d ms refl,
+      get_past_reason (codes "manifest_path") d ms refl,
+      get_past_reason (codes "target") d ms refl,
+      get_past_reason (codes "profile") d ms refl,
+      get_past_reason (codes "features") d ms refl,
+      get_past_reason (codes "filenames") d ms refl,
+      get_past_reason (codes "executable") d ms refl,
+      get_past_reason (codes "fresh") d ms refl,
     ) refl
 
 compiler_message_from-other : (d : Data) (ms : Members) → compiler_message_from (set_member (codes "reason") d ms) ≡ compiler_message_from ms
-unfolding compiler_message_from required
-compiler_message_from-other d ms = rw (other (codes "package_id") d ms refl, other (codes "target") d ms refl, other (codes "message") d ms refl) refl
+unfolding compiler_message_from required_member
+compiler_message_from-other d ms = rw (get_past_reason (codes "package_id") d ms refl, get_past_reason (codes "target") d ms refl, get_past_reason (codes "message") d ms refl) refl
 
 build_script_from-other : (d : Data) (ms : Members) → build_script_from (set_member (codes "reason") d ms) ≡ build_script_from ms
-unfolding build_script_from required defaulted
+unfolding build_script_from required_member default_member
 build_script_from-other d ms =
     rw (
-      other (codes "package_id") d ms refl,
-      other (codes "linked_libs") d ms refl,
-      other (codes "linked_paths") d ms refl,
-      other (codes "cfgs") d ms refl,
-      other (codes "env") d ms refl,
-      other (codes "out_dir") d ms refl,
+      get_past_reason (codes "package_id") d ms refl,
+      get_past_reason (codes "linked_libs") d ms refl,
+      get_past_reason (codes "linked_paths") d ms refl,
+      get_past_reason (codes "cfgs") d ms refl,
+      get_past_reason (codes "env") d ms refl,
+      get_past_reason (codes "out_dir") d ms refl,
     ) refl
 
 build_finished_from-other : (d : Data) (ms : Members) → build_finished_from (set_member (codes "reason") d ms) ≡ build_finished_from ms
-unfolding build_finished_from required
-build_finished_from-other d ms = rw (other (codes "success") d ms refl) refl
+unfolding build_finished_from required_member
+build_finished_from-other d ms = rw (get_past_reason (codes "success") d ms refl) refl
 
 -- what is read of an object is the message once the reason is put in
 artifact-again : (d : Data) (a : Artifact) → artifact_at d ≡ Ok a → message_at (with_reason (codes "compiler-artifact") d) ≡ Ok (message.CompilerArtifact a)
-unfolding artifact_at message_at message_from message_by required
+unfolding artifact_at message_at message_from message_by required_member
 artifact-again null a h = absurd (cc)
 artifact-again (boolean b) a h = absurd (cc)
 artifact-again (number m) a h = absurd (cc)
@@ -119,7 +119,7 @@ artifact-again (array ds) a h = absurd (cc)
 artifact-again (object ms) a h = rw (here (codes "compiler-artifact") ms) (ap (under message.CompilerArtifact) (artifact_from-other (string (codes "compiler-artifact")) ms ∙ h))
 
 compiler_message-again : (d : Data) (c : CompilerMessage) → compiler_message_at d ≡ Ok c → message_at (with_reason (codes "compiler-message") d) ≡ Ok (message.CompilerMessage c)
-unfolding compiler_message_at message_at message_from message_by required
+unfolding compiler_message_at message_at message_from message_by required_member
 compiler_message-again null c h = absurd (cc)
 compiler_message-again (boolean b) c h = absurd (cc)
 compiler_message-again (number m) c h = absurd (cc)
@@ -128,7 +128,7 @@ compiler_message-again (array ds) c h = absurd (cc)
 compiler_message-again (object ms) c h = rw (here (codes "compiler-message") ms) (ap (under message.CompilerMessage) (compiler_message_from-other (string (codes "compiler-message")) ms ∙ h))
 
 build_script-again : (d : Data) (x : BuildScript) → build_script_at d ≡ Ok x → message_at (with_reason (codes "build-script-executed") d) ≡ Ok (message.BuildScriptExecuted x)
-unfolding build_script_at message_at message_from message_by required
+unfolding build_script_at message_at message_from message_by required_member
 build_script-again null x h = absurd (cc)
 build_script-again (boolean b) x h = absurd (cc)
 build_script-again (number m) x h = absurd (cc)
@@ -137,7 +137,7 @@ build_script-again (array ds) x h = absurd (cc)
 build_script-again (object ms) x h = rw (here (codes "build-script-executed") ms) (ap (under message.BuildScriptExecuted) (build_script_from-other (string (codes "build-script-executed")) ms ∙ h))
 
 build_finished-again : (d : Data) (f : BuildFinished) → build_finished_at d ≡ Ok f → message_at (with_reason (codes "build-finished") d) ≡ Ok (message.BuildFinished f)
-unfolding build_finished_at message_at message_from message_by required
+unfolding build_finished_at message_at message_from message_by required_member
 build_finished-again null f h = absurd (cc)
 build_finished-again (boolean b) f h = absurd (cc)
 build_finished-again (number m) f h = absurd (cc)
@@ -207,4 +207,4 @@ unfolding message_at message_from
 message-round_trips = table-round_trips _ message_data 3 λ ms.
     let within : AreWithin (members_depth ms) ms = record { within = omega arith } in
     let none : 0 ≤ members_depth ms = omega arith in
-    and_then (required-kept text-round_trips none within (codes "reason")) λ reason reason_h. message_by-kept reason ms
+    and_then (required_member-kept text-round_trips none within (codes "reason")) λ reason reason_h. message_by-kept reason ms

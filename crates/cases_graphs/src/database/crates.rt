@@ -54,13 +54,18 @@ fn held_by_all(
 ) -> Result<Value, Fault> {
     let mut all = List::new(alloc);
     for krate in crates {
-        all = all.item(held(alloc, db, given, *krate));
+        all = all.item(answer_crate(alloc, db, given, *krate));
     }
     all.answer()
 }
 
 // The number of a crate, what is held of it, what it reaches, and the crate of its root file with its data.
-fn held(alloc: Global, db: &InputDb, given: &[Crate], krate: Crate) -> Result<Value, Fault> {
+fn answer_crate(
+    alloc: Global,
+    db: &InputDb,
+    given: &[Crate],
+    krate: Crate,
+) -> Result<Value, Fault> {
     if !db.has_crate(krate) {
         return Ok(Value::Null);
     }
@@ -68,12 +73,17 @@ fn held(alloc: Global, db: &InputDb, given: &[Crate], krate: Crate) -> Result<Va
     Object::new(alloc)
         .number("crate", number_of(given, krate) as u64)
         .member("values", values(alloc, db, krate))
-        .member("reached", reached(alloc, db, given, krate))
+        .member("reached", reachable_crates(alloc, db, given, krate))
         .member("with_data", Ok(number_answer(given, with_data)))
         .answer()
 }
 
-fn reached(alloc: Global, db: &InputDb, given: &[Crate], krate: Crate) -> Result<Value, Fault>
+fn reachable_crates(
+    alloc: Global,
+    db: &InputDb,
+    given: &[Crate],
+    krate: Crate,
+) -> Result<Value, Fault>
     requires { krate < length db.now.crates }
 {
     let reached = krate.transitive_deps(alloc, db)?;

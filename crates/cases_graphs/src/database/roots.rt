@@ -63,7 +63,7 @@ fn ask_of_crate(
         return Err(Fault::Condition);
     };
     match case.text("call")? {
-        "transitive_rev_deps" => reaching(alloc, db, crates, *krate),
+        "transitive_rev_deps" => reverse_dependencies(alloc, db, crates, *krate),
         "toolchain_channel" => channel(alloc, db, *krate),
         _ => ask_of_input(alloc, db, *krate, case),
     }
@@ -152,7 +152,12 @@ fn beside(alloc: Global, db: &InputDb, crates: &[Crate], case: Case<'_>) -> Resu
 }
 
 // The crate that comes first, and all in the order of the graph.
-fn reaching(alloc: Global, db: &InputDb, crates: &[Crate], krate: Crate) -> Result<Value, Fault> {
+fn reverse_dependencies(
+    alloc: Global,
+    db: &InputDb,
+    crates: &[Crate],
+    krate: Crate,
+) -> Result<Value, Fault> {
     if !db.has_crate(krate) {
         return Err(Fault::Condition);
     }

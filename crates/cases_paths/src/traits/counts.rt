@@ -2,7 +2,7 @@
 
 ghost use Rattle.std.specs.Prelude.{◌≡◌};
 ghost use Rattle.outside.specs.Causes.{next_count};
-ghost use Rattle.outside.specs.Nonce.{given};
+ghost use Rattle.outside.specs.Nonce.{nonce_of};
 
 use base_text::{Counter, Ledger, Limits, NonceSource, Numbers, Steps, TryClone};
 use cases::{Case, Fault, List, Object};
@@ -57,7 +57,7 @@ fn two_pairs(alloc: Global) -> Result<Value, Fault> {
 
 // The next two numbers, asked at the bound.
 fn two<N: NonceSource>(source: &mut N) -> (Option<u64>, Option<u64>)
-    ensures { result ≡ (given (N.upcoming source.old), given (next_count (N.upcoming source.old))) }
+    ensures { result ≡ (nonce_of (N.upcoming source.old), nonce_of (next_count (N.upcoming source.old))) }
 {
     let first = source.next();
     (first, source.next())

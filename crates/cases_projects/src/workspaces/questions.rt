@@ -22,7 +22,7 @@ pub fn answer(
         "is_virtual_workspace" => Ok(Value::from(workspace.is_virtual_workspace())),
         "rustc_private" => Ok(Value::from(workspace.requires_rustc_private())),
         "directories" => directories(alloc, workspace),
-        "given" => given(alloc, workspace),
+        "given" => answer_given(alloc, workspace),
         _ => Err(Fault::Member("ask")),
     }
 }
@@ -89,7 +89,7 @@ fn directories(alloc: Global, workspace: &CargoWorkspace) -> Result<Value, Fault
 
 // The manifest that a workspace was read with, whether it is that of the standard library, and whether its
 // environment is empty.
-fn given(alloc: Global, workspace: &CargoWorkspace) -> Result<Value, Fault> {
+fn answer_given(alloc: Global, workspace: &CargoWorkspace) -> Result<Value, Fault> {
     List::new(alloc)
         .text(workspace.manifest_path().as_path().as_str())
         .flag(workspace.is_sysroot())

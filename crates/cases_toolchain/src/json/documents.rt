@@ -18,7 +18,7 @@ pub fn answer(alloc: Global, case: Case<'_>) -> Result<Value, Fault> {
 
 fn read(alloc: Global, document: &Value) -> Result<Value, Fault> {
     match ProjectJsonData::of_value(alloc, document) {
-        Ok(document) => written(alloc, &document),
+        Ok(document) => write_document(alloc, &document),
         Err(error) => refusal(alloc, error),
     }
 }
@@ -57,7 +57,7 @@ fn document_answer(alloc: Global, document: &ProjectJsonData) -> Result<Value, F
     Ok(document.to_value(alloc)?)
 }
 
-fn written(alloc: Global, document: &ProjectJsonData) -> Result<Value, Fault> {
+fn write_document(alloc: Global, document: &ProjectJsonData) -> Result<Value, Fault> {
     if document.try_clone(alloc)? != *document {
         return Err(Fault::Condition);
     }

@@ -74,12 +74,17 @@ fn of_project(alloc: Global, case: Case<'_>, project: &mut ProjectJson) -> Resul
         return Err(Fault::Condition);
     }
     match case.text("call")? {
-        "ProjectJson::take_sysroot_project" => taken(alloc, case, project),
-        call => asked(alloc, case, call, project),
+        "ProjectJson::take_sysroot_project" => take_sysroot_project(alloc, case, project),
+        call => answer_question(alloc, case, call, project),
     }
 }
 
-fn asked(alloc: Global, case: Case<'_>, call: &str, project: &ProjectJson) -> Result<Value, Fault> {
+fn answer_question(
+    alloc: Global,
+    case: Case<'_>,
+    call: &str,
+    project: &ProjectJson,
+) -> Result<Value, Fault> {
     match call {
         "ProjectJson" => paths(alloc, project),
         "ProjectJson::crates" => crates(alloc, case, project),
@@ -177,7 +182,11 @@ fn deps(alloc: Global, krate: &Crate) -> Result<Value, Fault> {
 }
 
 // The project of the standard library, after which there is none left.
-fn taken(alloc: Global, case: Case<'_>, project: &mut ProjectJson) -> Result<Value, Fault> {
+fn take_sysroot_project(
+    alloc: Global,
+    case: Case<'_>,
+    project: &mut ProjectJson,
+) -> Result<Value, Fault> {
     let taken = project.take_sysroot_project();
     if project.sysroot_project.is_some() {
         return Err(Fault::Condition);

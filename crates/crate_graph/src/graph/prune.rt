@@ -55,7 +55,7 @@ impl CrateGraphBuilder {
         ensures unchanged { OnErr result (self.new ≡ self.old) }
     {
         let order = self.suborder(alloc, to_keep)?;
-        let (kept, ids) = self.kept(alloc, to_keep)?;
+        let (kept, ids) = self.copy_crates(alloc, to_keep)?;
         self.crates = kept;
         self.order = order;
         Ok(ids)
@@ -74,7 +74,7 @@ impl CrateGraphBuilder {
     }
 
     // Copies of the crates that are named, by the new numbers, and the new number of each crate.
-    fn kept(
+    fn copy_crates(
         &self,
         alloc: Global,
         to_keep: &[CrateBuilderId],

@@ -68,7 +68,7 @@ impl FinishedCrates {
     }
 
     // The numbers in the database, in the order in which they were first given.
-    pub(super) fn given(&self, alloc: Global) -> Result<Vec<Crate>, AllocError>
+    pub(super) fn given_crates(&self, alloc: Global) -> Result<Vec<Crate>, AllocError>
         ensures { IfOk result (λ given. given.items ≡ self.now.given) }
     {
         let mut given = Vec::with_capacity(alloc, self.given.len())?;

@@ -9,7 +9,7 @@ use Rattle.std.specs.Prelude.{slice_range}
 use Rattle.std.specs.Option.{option_map}
 use Rattle.std.specs.Result.{IfOk}
 use Rattle.base_text.proofs.CfgLemmas.{with_last}
-use Rattle.base_text.specs.Cfg.{atom_of, is_equals, text_of, unquoted}
+use Rattle.base_text.specs.Cfg.{atom_of, is_equals, text_of, unquote}
 use Rattle.base_text.specs.declared.cfg.CfgAtom.{CfgAtom}
 use Rattle.base_text.specs.declared.cfg.CfgAtom.TheVariants.{Flag, KeyValue}
 use Rattle.json_fields.specs.Cfg.{cfg_at, cfg_data, cfg_of, named_or_missed}
@@ -41,8 +41,8 @@ when_true true x y is = (refl, cc)
 when_true false x y is = cc
 
 -- what stands between quotes has a quote on each side
-between_quotes : (text value : List ℕ) → unquoted text ≡ Some value → text ≡ 34 ∷ (value ++ 34 ∷ [])
-unfolding unquoted
+between_quotes : (text value : List ℕ) → unquote text ≡ Some value → text ≡ 34 ∷ (value ++ 34 ∷ [])
+unfolding unquote
 between_quotes [] value is = cc
 between_quotes (b ∷ rest) value is =
     let both = when_true _ (slice_range (b ∷ rest) 1 (length (b ∷ rest) - 1)) value is in
@@ -58,7 +58,7 @@ text_of-named : (text : List ℕ) (atom : CfgAtom) → atom_of text ≡ Some ato
 unfolding atom_of text_of
 text_of-named text atom is = by_equals (list_any is_equals text) refl is
   where
-    by_quotes : (o : Option (List ℕ)) → list_any is_equals text ≡ true → unquoted (after_first is_equals text) ≡ o
+    by_quotes : (o : Option (List ℕ)) → list_any is_equals text ≡ true → unquote (after_first is_equals text) ≡ o
         → option_map (λ value. KeyValue (before_first is_equals text) value) o ≡ Some atom → text_of atom ≡ text
     by_quotes None some quoted named = cc
     by_quotes (Some value) some quoted named =
@@ -67,8 +67,8 @@ text_of-named text atom is = by_equals (list_any is_equals text) refl is
         ap text_of keyed ∙ printed ∙ ap (λ after. before_first is_equals text ++ 61 ∷ after) (sym (between_quotes _ value quoted)) ∙ sym (split_at_equals text some)
 
     by_equals : (some : Bool) → list_any is_equals text ≡ some
-        → cond some (option_map (λ value. KeyValue (before_first is_equals text) value) (unquoted (after_first is_equals text))) (Some (Flag text)) ≡ Some atom → text_of atom ≡ text
-    by_equals true some named = by_quotes (unquoted (after_first is_equals text)) some refl named
+        → cond some (option_map (λ value. KeyValue (before_first is_equals text) value) (unquote (after_first is_equals text))) (Some (Flag text)) ≡ Some atom → text_of atom ≡ text
+    by_equals true some named = by_quotes (unquote (after_first is_equals text)) some refl named
     by_equals false none named =
         let flag : atom ≡ Flag text = cc in
         ap text_of flag

@@ -83,9 +83,9 @@ requirement_of-again text = read-as (requirement_of text) λ t h.
     let same : t ≡ text = same_text text t (or_missed (req_of text)) h in
     subst (λ u. requirement_of u ≡ Ok u) (sym same) (subst (λ u. requirement_of text ≡ Ok u) same h)
 
-unmarked : (mark : Option ℕ) (v : Result Parts BareError) (p : Parts) → unless_marked mark v ≡ Ok p → (mark ≡ None) × (v ≡ Ok p)
-unmarked None v p h = (refl, h)
-unmarked (Some mark) v p h = absurd (refused (mark == 45) h)
+mark_is_none : (mark : Option ℕ) (v : Result Parts BareError) (p : Parts) → unless_marked mark v ≡ Ok p → (mark ≡ None) × (v ≡ Ok p)
+mark_is_none None v p h = (refl, h)
+mark_is_none (Some mark) v p h = absurd (refused (mark == 45) h)
   where
     refused : (dash : Bool) → cond {A = Result Parts BareError} dash (Err PreRelease) (Err BuildMetadata) ≡ Ok p → ⊥
     refused true h = cc
@@ -95,5 +95,5 @@ unmarked (Some mark) v p h = absurd (refused (mark == 45) h)
 pub bare_of-again : (text : List ℕ) → IfOk (bare_of text) (λ p. bare_of (version_text p) ≡ Ok p)
 unfolding bare_of bare_parts version_text
 bare_of-again text = parsed-as (bare_parts text) λ p h.
-    let both = unmarked (first_mark text) (or_not_version (version_parts (full_version_text text))) p h in
+    let both = mark_is_none (first_mark text) (or_not_version (version_parts (full_version_text text))) p h in
     ap or_missed (bare_parts_again text p both.0 both.1)

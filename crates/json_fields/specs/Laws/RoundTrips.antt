@@ -9,7 +9,7 @@ use Rattle.serde_json.specs.Written.{has_float, items_have_float, members_have_f
 use Rattle.json_fields.specs.Laws.Depths.{set_member-within, set_unless_null-within}
 use Rattle.json_fields.specs.Laws.Parts.{first_of_none, rest_of_none, get_member-no_float, get_member-within}
 use Rattle.json_fields.specs.Laws.Rows.{set_member-no_float, set_unless_null-no_float}
-use Rattle.json_fields.specs.Fields.{any_at, defaulted, flag_at, found, items_from, list_at, map_at, members_at, members_from, number_at, option_at, optional, required, text_at, under}
+use Rattle.json_fields.specs.Fields.{any_at, default_member, flag_at, read_or, items_from, list_at, map_at, members_at, members_from, number_at, option_at, optional_member, required_member, text_at, under}
 use Rattle.json_fields.specs.Outcome.{Reading, ◌>>=◌, below_key, below_position}
 use Rattle.json_fields.specs.RoundTrip.{IsKept, RoundTrips, outer_height}
 use Rattle.json_fields.specs.Written.{entries_data, is_null, items_data, list_data, map_data, option_data, set_member, set_unless_null}
@@ -189,18 +189,18 @@ module _ {T : Type 0} (reads : Data → Reading T) (writes : T → Data) (height
   map-round_trips = record { keeps = map-kept }
 
   -- what is read at a key, where what is read of nothing is kept
-  found-kept : (missing : Reading T) (may_float : Bool) (n : ℕ) (o : Option Data) → height ≤ n
+  read_or-kept : (missing : Reading T) (may_float : Bool) (n : ℕ) (o : Option Data) → height ≤ n
       → (may_float ≡ false → IfSome o (λ d. has_float d ≡ false)) → IfSome o (λ d. depth d ≤ n)
-      → ReadsAs missing (IsKept reads writes may_float n) → ReadsAs (found missing reads o) (IsKept reads writes may_float n)
-  found-kept missing may_float n None low clean nests h = h
-  found-kept missing may_float n (Some d) low clean nests h =
+      → ReadsAs missing (IsKept reads writes may_float n) → ReadsAs (read_or missing reads o) (IsKept reads writes may_float n)
+  read_or-kept missing may_float n None low clean nests h = h
+  read_or-kept missing may_float n (Some d) low clean nests h =
       weaker (λ x k. record { again = k.again; clean = λ none. k.clean (clean none); nests = omega (arith, low, nests, k.nests) }) (at d)
 
   row-kept : (k : List ℕ) (missing : Reading T) (n : ℕ) (ms : Members) → height ≤ n → members_depth ms ≤ n
       → ReadsAs missing (IsKept reads writes (members_have_float ms) n)
-      → ReadsAs (below_key k (found missing reads (get_member k ms))) (IsKept reads writes (members_have_float ms) n)
+      → ReadsAs (below_key k (read_or missing reads (get_member k ms))) (IsKept reads writes (members_have_float ms) n)
   row-kept k missing n ms low within h =
-      below_key-as k (found-kept missing (members_have_float ms) n (get_member k ms) low (get_member-no_float k ms) (get_member-within n k ms within) h)
+      below_key-as k (read_or-kept missing (members_have_float ms) n (get_member k ms) low (get_member-no_float k ms) (get_member-within n k ms within) h)
 
 -- the members of an object, which nest to at most n levels
 pub record AreWithin (n : ℕ) (ms : Members) : Type 0 where
@@ -209,37 +209,37 @@ pub record AreWithin (n : ℕ) (ms : Members) : Type 0 where
 -- a row keeps what its values do
 module _ {T : Type 0} {reads : Data → Reading T} {writes : T → Data} {height : ℕ} (kept : RoundTrips reads writes height) {n : ℕ} {ms : Members} (low : height ≤ n) (within : AreWithin n ms) where
   -- a member that must be there
-  pub required-kept : (k : List ℕ) → ReadsAs (required k reads ms) (IsKept reads writes (members_have_float ms) n)
-  unfolding required
-  required-kept k = row-kept reads writes height kept k (Err []) n ms low within.within (record { holds = tt })
+  pub required_member-kept : (k : List ℕ) → ReadsAs (required_member k reads ms) (IsKept reads writes (members_have_float ms) n)
+  unfolding required_member
+  required_member-kept k = row-kept reads writes height kept k (Err []) n ms low within.within (record { holds = tt })
 
   -- a member whose default is kept
-  pub defaulted-kept : (k : List ℕ) (default : T) → IsKept reads writes false n default
-      → ReadsAs (defaulted k default reads ms) (IsKept reads writes (members_have_float ms) n)
-  unfolding defaulted
-  defaulted-kept k default h =
+  pub default_member-kept : (k : List ℕ) (default : T) → IsKept reads writes false n default
+      → ReadsAs (default_member k default reads ms) (IsKept reads writes (members_have_float ms) n)
+  unfolding default_member
+  default_member-kept k default h =
       row-kept reads writes height kept k (Ok default) n ms low within.within (record { holds = record { again = h.again; clean = λ _. h.clean refl; nests = h.nests } })
 
   -- a member that may be missing or null
-  pub optional-kept : ((x : T) → is_null (writes x) ≡ false) → (k : List ℕ)
-      → ReadsAs (optional k reads ms) (IsKept (option_at reads) (option_data writes) (members_have_float ms) n)
-  unfolding optional
-  optional-kept present k =
+  pub optional_member-kept : ((x : T) → is_null (writes x) ≡ false) → (k : List ℕ)
+      → ReadsAs (optional_member k reads ms) (IsKept (option_at reads) (option_data writes) (members_have_float ms) n)
+  unfolding optional_member
+  optional_member-kept present k =
       row-kept (option_at reads) (option_data writes) height (option-round_trips reads writes height kept present) k (Ok None) n ms low within.within
       (record { holds = record { again = refl; clean = λ _. refl; nests = omega arith } })
 
 module _ {T : Type 0} {reads : Data → Reading T} {writes : T → Data} {height : ℕ} (kept : RoundTrips reads writes height) {n : ℕ} {ms : Members} (low : outer_height height ≤ n) (some : 1 ≤ n) (within : AreWithin n ms) where
   -- a list that may be missing
-  pub listed-kept : (k : List ℕ) → ReadsAs (defaulted k [] (list_at reads) ms) (IsKept (list_at reads) (list_data writes) (members_have_float ms) n)
-  unfolding defaulted
-  listed-kept k =
+  pub list_member-kept : (k : List ℕ) → ReadsAs (default_member k [] (list_at reads) ms) (IsKept (list_at reads) (list_data writes) (members_have_float ms) n)
+  unfolding default_member
+  list_member-kept k =
       row-kept (list_at reads) (list_data writes) (outer_height height) (list-round_trips reads writes height kept) k (Ok []) n ms low within.within
       (record { holds = record { again = refl; clean = λ _. refl; nests = some } })
 
   -- a map that may be missing
-  pub mapped-kept : (k : List ℕ) → ReadsAs (defaulted k [] (map_at reads) ms) (IsKept (map_at reads) (map_data writes) (members_have_float ms) n)
-  unfolding defaulted
-  mapped-kept k =
+  pub map_member-kept : (k : List ℕ) → ReadsAs (default_member k [] (map_at reads) ms) (IsKept (map_at reads) (map_data writes) (members_have_float ms) n)
+  unfolding default_member
+  map_member-kept k =
       row-kept (map_at reads) (map_data writes) (outer_height height) (map-round_trips reads writes height kept) k (Ok []) n ms low within.within
       (record { holds = record { again = refl; clean = λ _. refl; nests = some } })
 

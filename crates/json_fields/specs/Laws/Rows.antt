@@ -10,7 +10,7 @@ use Rattle.std.specs.Ordering.{nat_cmp, match_ordering}
 use Rattle.serde_json.specs.Find.{get_member}
 use Rattle.json_fields.specs.Laws.Parts.{first_of_none, rest_of_none}
 use Rattle.serde_json.proofs.Views.{get_member-put, get_member-put_other}
-use Rattle.json_fields.specs.Fields.{found, option_at, required, optional, defaulted}
+use Rattle.json_fields.specs.Fields.{read_or, option_at, required_member, optional_member, default_member}
 use Rattle.json_fields.specs.Outcome.{Gives, Reading, ◌>>=◌, below_key}
 use Rattle.json_fields.specs.declared.place.ReadError.{ReadError}
 use Rattle.json_fields.specs.declared.place.ReadError.TheVariants.{Missed, OutOfMemory}
@@ -30,7 +30,7 @@ get_member-set_member k l d ms = elim (cases_Bool (bytes_eq k l)) [
 ]
 
 required_by : {T : Type 0} (reads : Data → Reading T) (k : List ℕ) (b : Bool) (d : Data) (o : Option Data) (missing : Reading T)
-    → below_key k (found missing reads (cond b (Some d) o)) ≡ cond b (below_key k (reads d)) (below_key k (found missing reads o))
+    → below_key k (read_or missing reads (cond b (Some d) o)) ≡ cond b (below_key k (reads d)) (below_key k (read_or missing reads o))
 required_by reads k true d o missing = refl
 required_by reads k false d o missing = refl
 
@@ -40,43 +40,43 @@ same_either false x = refl
 
 module _ {T : Type 0} (reads : Data → Reading T) (k l : List ℕ) (d : Data) (ms : Members) where
   -- a member that must be there, after a member was put
-  pub required-set_member : required k reads (set_member l d ms) ≡ cond (bytes_eq k l) (below_key k (reads d)) (required k reads ms)
-  unfolding required
-  required-set_member = rw (get_member-set_member k l d ms) (required_by reads k (bytes_eq k l) d (get_member k ms) _)
+  pub required_member-set_member : required_member k reads (set_member l d ms) ≡ cond (bytes_eq k l) (below_key k (reads d)) (required_member k reads ms)
+  unfolding required_member
+  required_member-set_member = rw (get_member-set_member k l d ms) (required_by reads k (bytes_eq k l) d (get_member k ms) _)
 
   -- a member that may be missing or null, after a member was put
-  pub optional-set_member : optional k reads (set_member l d ms) ≡ cond (bytes_eq k l) (below_key k (option_at reads d)) (optional k reads ms)
-  unfolding optional
-  optional-set_member = rw (get_member-set_member k l d ms) (required_by (option_at reads) k (bytes_eq k l) d (get_member k ms) _)
+  pub optional_member-set_member : optional_member k reads (set_member l d ms) ≡ cond (bytes_eq k l) (below_key k (option_at reads d)) (optional_member k reads ms)
+  unfolding optional_member
+  optional_member-set_member = rw (get_member-set_member k l d ms) (required_by (option_at reads) k (bytes_eq k l) d (get_member k ms) _)
 
   -- a member with a default, after a member was put
-  pub defaulted-set_member : (default : T) → defaulted k default reads (set_member l d ms) ≡ cond (bytes_eq k l) (below_key k (reads d)) (defaulted k default reads ms)
-  unfolding defaulted
-  defaulted-set_member default = rw (get_member-set_member k l d ms) (required_by reads k (bytes_eq k l) d (get_member k ms) _)
+  pub default_member-set_member : (default : T) → default_member k default reads (set_member l d ms) ≡ cond (bytes_eq k l) (below_key k (reads d)) (default_member k default reads ms)
+  unfolding default_member
+  default_member-set_member default = rw (get_member-set_member k l d ms) (required_by reads k (bytes_eq k l) d (get_member k ms) _)
 
   -- a member that must be there, after a member was put unless it is null
-  pub required-set_unless_null : required k reads (set_unless_null l d ms) ≡ cond (bytes_eq k l) (cond (is_null d) (required k reads ms) (below_key k (reads d))) (required k reads ms)
+  pub required_member-set_unless_null : required_member k reads (set_unless_null l d ms) ≡ cond (bytes_eq k l) (cond (is_null d) (required_member k reads ms) (below_key k (reads d))) (required_member k reads ms)
   unfolding set_unless_null
-  required-set_unless_null = elim (cases_Bool (is_null d)) [
-    | inl none ↦ rw none (sym (same_either (bytes_eq k l) (required k reads ms)))
-    | inr some ↦ rw some required-set_member
+  required_member-set_unless_null = elim (cases_Bool (is_null d)) [
+    | inl none ↦ rw none (sym (same_either (bytes_eq k l) (required_member k reads ms)))
+    | inr some ↦ rw some required_member-set_member
   ]
 
   -- a member that may be missing or null, after a member was put unless it is null
-  pub optional-set_unless_null : optional k reads (set_unless_null l d ms) ≡ cond (bytes_eq k l) (cond (is_null d) (optional k reads ms) (below_key k (option_at reads d))) (optional k reads ms)
+  pub optional_member-set_unless_null : optional_member k reads (set_unless_null l d ms) ≡ cond (bytes_eq k l) (cond (is_null d) (optional_member k reads ms) (below_key k (option_at reads d))) (optional_member k reads ms)
   unfolding set_unless_null
-  optional-set_unless_null = elim (cases_Bool (is_null d)) [
-    | inl none ↦ rw none (sym (same_either (bytes_eq k l) (optional k reads ms)))
-    | inr some ↦ rw some optional-set_member
+  optional_member-set_unless_null = elim (cases_Bool (is_null d)) [
+    | inl none ↦ rw none (sym (same_either (bytes_eq k l) (optional_member k reads ms)))
+    | inr some ↦ rw some optional_member-set_member
   ]
 
   -- a member with a default, after a member was put unless it is null
-  pub defaulted-set_unless_null : (default : T)
-      → defaulted k default reads (set_unless_null l d ms) ≡ cond (bytes_eq k l) (cond (is_null d) (defaulted k default reads ms) (below_key k (reads d))) (defaulted k default reads ms)
+  pub default_member-set_unless_null : (default : T)
+      → default_member k default reads (set_unless_null l d ms) ≡ cond (bytes_eq k l) (cond (is_null d) (default_member k default reads ms) (below_key k (reads d))) (default_member k default reads ms)
   unfolding set_unless_null
-  defaulted-set_unless_null default = elim (cases_Bool (is_null d)) [
-    | inl none ↦ rw none (sym (same_either (bytes_eq k l) (defaulted k default reads ms)))
-    | inr some ↦ rw some (defaulted-set_member default)
+  default_member-set_unless_null default = elim (cases_Bool (is_null d)) [
+    | inl none ↦ rw none (sym (same_either (bytes_eq k l) (default_member k default reads ms)))
+    | inr some ↦ rw some (default_member-set_member default)
   ]
 
 -- a value that is null is null
@@ -116,14 +116,14 @@ set_unless_null-no_float k d ms h none = elim (cases_Bool (is_null d)) [
 ]
 
 -- of no members a row reads that its own is missing
-pub optional-no_members : {T : Type 0} (k : List ℕ) (reads : Data → Reading T) → optional k reads no_members ≡ Ok None
-unfolding optional
-optional-no_members k reads = refl
+pub optional_member-no_members : {T : Type 0} (k : List ℕ) (reads : Data → Reading T) → optional_member k reads no_members ≡ Ok None
+unfolding optional_member
+optional_member-no_members k reads = refl
 
 -- a row of an empty object gives its default
-pub defaulted-no_members : {T : Type 0} (k : List ℕ) (default : T) (reads : Data → Reading T) → defaulted k default reads no_members ≡ Ok default
-unfolding defaulted
-defaulted-no_members k default reads = refl
+pub default_member-no_members : {T : Type 0} (k : List ℕ) (default : T) (reads : Data → Reading T) → default_member k default reads no_members ≡ Ok default
+unfolding default_member
+default_member-no_members k default reads = refl
 
 -- a miss stays a miss through the rows after it
 pub Gives-then : {A B : Type 0} (e : ReadError) (r : Reading A) (f : A → Reading B) → Gives (Err e) r → Gives (Err e) (r >>= f)

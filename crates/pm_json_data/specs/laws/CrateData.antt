@@ -6,8 +6,8 @@ use Rattle.serde_json.specs.Written.{members_have_float}
 use Rattle.json_fields.specs.Fields.{list_at, members_at}
 use Rattle.json_fields.specs.Outcome.{◌>>=◌}
 use Rattle.json_fields.specs.Laws.Cfgs.{cfg-round_trips}
-use Rattle.json_fields.specs.Laws.Rows.{required-set_member, optional-set_member, defaulted-set_member}
-use Rattle.json_fields.specs.Laws.RoundTrips.{AreWithin, AreWritten, ReadsAs, and_then, at_last, defaulted-kept, flag-round_trips, list-round_trips, listed-kept, mapped-kept, no_members-written, optional-kept, required-kept, set_member-written, table-round_trips, text-round_trips}
+use Rattle.json_fields.specs.Laws.Rows.{required_member-set_member, optional_member-set_member, default_member-set_member}
+use Rattle.json_fields.specs.Laws.RoundTrips.{AreWithin, AreWritten, ReadsAs, and_then, at_last, default_member-kept, flag-round_trips, list-round_trips, list_member-kept, map_member-kept, no_members-written, optional_member-kept, required_member-kept, set_member-written, table-round_trips, text-round_trips}
 use Rattle.json_fields.specs.Laws.TextForms.{version-round_trips}
 use Rattle.json_fields.specs.RoundTrip.{IsKept, RoundTrips}
 use Rattle.json_fields.specs.Written.{list_data}
@@ -25,7 +25,7 @@ use Rattle.pm_json_data.specs.laws.Parts.{build-round_trips, source-round_trips}
 -- the first rows do not read what the others set
 head_from-tail_set : (t : CrateTail) (ms : Members) → head_from (tail_set t ms) ≡ head_from ms
 unfolding head_from tail_set
-head_from-tail_set t ms = simp (required-set_member, optional-set_member, defaulted-set_member)
+head_from-tail_set t ms = simp (required_member-set_member, optional_member-set_member, default_member-set_member)
 
 -- how deep the members nest, or what is given for those that are missing
 abbrev depth_of : Members → ℕ
@@ -46,18 +46,18 @@ module _ (ms : Members) (within : AreWithin (depth_of ms) ms) (exactly : AreWith
   head-kept : ReadsAs (head_from ms) (HeadKept ms)
   unfolding head_from head_set edition_of
   head-kept =
-      and_then (optional-kept text-round_trips none within (λ x. refl) (codes "display_name")) λ display_name display_name_h.
-      and_then (required-kept text-round_trips none within (codes "root_module")) λ root_module root_module_h.
-      and_then (required-kept edition-round_trips none within (codes "edition")) λ edition edition_h.
-      and_then (optional-kept version-round_trips none within (λ x. refl) (codes "version")) λ version version_h.
-      and_then (required-kept (list-round_trips _ _ _ dep-round_trips) low exactly (codes "deps")) λ deps deps_h.
+      and_then (optional_member-kept text-round_trips none within (λ x. refl) (codes "display_name")) λ display_name display_name_h.
+      and_then (required_member-kept text-round_trips none within (codes "root_module")) λ root_module root_module_h.
+      and_then (required_member-kept edition-round_trips none within (codes "edition")) λ edition edition_h.
+      and_then (optional_member-kept version-round_trips none within (λ x. refl) (codes "version")) λ version version_h.
+      and_then (required_member-kept (list-round_trips _ _ _ dep-round_trips) low exactly (codes "deps")) λ deps deps_h.
       let deps_kept : IsKept (list_at dep_at) (list_data dep_data) (members_have_float ms) (depth_of ms) deps =
       record { again = deps_h.again; clean = deps_h.clean; nests = omega (arith, deps_h.nests) } in
-      and_then (listed-kept text-round_trips none some within (codes "cfg_groups")) λ cfg_groups cfg_groups_h.
-      and_then (listed-kept cfg-round_trips none some within (codes "cfg")) λ cfg cfg_h.
-      and_then (optional-kept text-round_trips none within (λ x. refl) (codes "target")) λ target target_h.
+      and_then (list_member-kept text-round_trips none some within (codes "cfg_groups")) λ cfg_groups cfg_groups_h.
+      and_then (list_member-kept cfg-round_trips none some within (codes "cfg")) λ cfg cfg_h.
+      and_then (optional_member-kept text-round_trips none within (λ x. refl) (codes "target")) λ target target_h.
       at_last (record {
-        again = λ ws. simp (required-set_member, optional-set_member, defaulted-set_member)
+        again = λ ws. simp (required_member-set_member, optional_member-set_member, default_member-set_member)
             (rw (display_name_h.again, edition_h.again, version_h.again, deps_h.again, cfg_groups_h.again, cfg_h.again, target_h.again));
         written = λ ws before.
             set_member-written (codes "target") target_h
@@ -75,17 +75,17 @@ module _ (ms : Members) (within : AreWithin (depth_of ms) ms) (exactly : AreWith
   tail-kept : ReadsAs (tail_from ms) (TailKept ms)
   unfolding tail_from tail_set
   tail-kept =
-      and_then (mapped-kept text-round_trips none some within (codes "env")) λ env env_h.
-      and_then (listed-kept text-round_trips none some within (codes "crate_attrs")) λ crate_attrs crate_attrs_h.
-      and_then (optional-kept text-round_trips none within (λ x. refl) (codes "proc_macro_dylib_path")) λ proc_macro_dylib_path proc_macro_dylib_path_h.
-      and_then (optional-kept flag-round_trips none within (λ x. refl) (codes "is_workspace_member")) λ is_workspace_member is_workspace_member_h.
-      and_then (optional-kept source-round_trips none within source_data-present (codes "source")) λ source source_h.
-      and_then (defaulted-kept flag-round_trips none within (codes "is_proc_macro") false (record { again = refl; clean = λ _. refl; nests = omega arith })) λ is_proc_macro is_proc_macro_h.
-      and_then (optional-kept text-round_trips none within (λ x. refl) (codes "repository")) λ repository repository_h.
-      and_then (optional-kept build-round_trips none within build_data-present (codes "build")) λ build build_h.
-      and_then (optional-kept text-round_trips none within (λ x. refl) (codes "proc_macro_cwd")) λ proc_macro_cwd proc_macro_cwd_h.
+      and_then (map_member-kept text-round_trips none some within (codes "env")) λ env env_h.
+      and_then (list_member-kept text-round_trips none some within (codes "crate_attrs")) λ crate_attrs crate_attrs_h.
+      and_then (optional_member-kept text-round_trips none within (λ x. refl) (codes "proc_macro_dylib_path")) λ proc_macro_dylib_path proc_macro_dylib_path_h.
+      and_then (optional_member-kept flag-round_trips none within (λ x. refl) (codes "is_workspace_member")) λ is_workspace_member is_workspace_member_h.
+      and_then (optional_member-kept source-round_trips none within source_data-present (codes "source")) λ source source_h.
+      and_then (default_member-kept flag-round_trips none within (codes "is_proc_macro") false (record { again = refl; clean = λ _. refl; nests = omega arith })) λ is_proc_macro is_proc_macro_h.
+      and_then (optional_member-kept text-round_trips none within (λ x. refl) (codes "repository")) λ repository repository_h.
+      and_then (optional_member-kept build-round_trips none within build_data-present (codes "build")) λ build build_h.
+      and_then (optional_member-kept text-round_trips none within (λ x. refl) (codes "proc_macro_cwd")) λ proc_macro_cwd proc_macro_cwd_h.
       at_last (record {
-        again = λ ws. simp (optional-set_member, defaulted-set_member)
+        again = λ ws. simp (optional_member-set_member, default_member-set_member)
             (rw (env_h.again, crate_attrs_h.again, proc_macro_dylib_path_h.again, is_workspace_member_h.again, source_h.again, repository_h.again, build_h.again, proc_macro_cwd_h.again));
         written = λ ws before.
             set_member-written (codes "proc_macro_cwd") proc_macro_cwd_h

@@ -3,8 +3,8 @@ use Rattle.std.specs.Prelude.{◌≡◌, ◌≤◌, ℕ, max, List, codes, IfOk,
 use Rattle.std.proofs.Common.{arith, Bool, true, false, cond, [], Err}
 use Rattle.serde_json.specs.Data.{members_depth}
 use Rattle.crate_values.specs.Names.{has_dash}
-use Rattle.json_fields.specs.Fields.{required}
-use Rattle.json_fields.specs.Laws.RoundTrips.{AreWithin, and_then, at_last, no_members-written, number-round_trips, required-kept, set_member-written, table-round_trips}
+use Rattle.json_fields.specs.Fields.{required_member}
+use Rattle.json_fields.specs.Laws.RoundTrips.{AreWithin, and_then, at_last, no_members-written, number-round_trips, required_member-kept, set_member-written, table-round_trips}
 use Rattle.json_fields.specs.Laws.TextForms.{text_form-round_trips}
 use Rattle.json_fields.specs.Outcome.{Reading}
 use Rattle.json_fields.specs.RoundTrip.{RoundTrips}
@@ -27,12 +27,12 @@ crate_name-round_trips = text_form-round_trips crate_name_of (λ name. name) cra
 
 -- a dependency
 pub dep-round_trips : RoundTrips dep_at dep_data 0
-unfolding dep_at dep_data required set_member crate_name_of
+unfolding dep_at dep_data required_member set_member crate_name_of
 dep-round_trips = table-round_trips _ dep_data 0 λ ms.
     let n = max 0 (members_depth ms) in
     let within : AreWithin n ms = record { within = omega arith } in
     let none : 0 ≤ n = omega arith in
-    and_then (required-kept number-round_trips none within (codes "crate")) λ krate krate_h.
-    and_then (required-kept crate_name-round_trips none within (codes "name")) λ name name_h.
+    and_then (required_member-kept number-round_trips none within (codes "crate")) λ krate krate_h.
+    and_then (required_member-kept crate_name-round_trips none within (codes "name")) λ name name_h.
     let written = set_member-written (codes "name") name_h (set_member-written (codes "crate") krate_h (no_members-written _ _)) in
     at_last (record { again = rw name_h.again refl; clean = written.clean; nests = omega (arith, written.nests) })

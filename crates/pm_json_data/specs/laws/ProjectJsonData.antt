@@ -6,10 +6,10 @@ use Rattle.serde_json.specs.Read.{max_depth}
 use Rattle.serde_json.specs.Written.{has_float, members_have_float}
 use Rattle.base_text.specs.declared.cfg.CfgAtom.{CfgAtom}
 use Rattle.json_fields.specs.Cfg.{cfg_data}
-use Rattle.json_fields.specs.Fields.{defaulted, list_at, optional, required}
+use Rattle.json_fields.specs.Fields.{default_member, list_at, optional_member, required_member}
 use Rattle.json_fields.specs.Laws.Cfgs.{cfg-round_trips}
-use Rattle.json_fields.specs.Laws.Nested.{nested-round_trips}
-use Rattle.json_fields.specs.Laws.RoundTrips.{AreWithin, and_then, at_last, list-round_trips, listed-kept, mapped-kept, no_members-written, optional-kept, required-kept, set_member-written, table-round_trips, text-round_trips}
+use Rattle.json_fields.specs.Laws.Nested.{within_levels-round_trips}
+use Rattle.json_fields.specs.Laws.RoundTrips.{AreWithin, and_then, at_last, list-round_trips, list_member-kept, map_member-kept, no_members-written, optional_member-kept, required_member-kept, set_member-written, table-round_trips, text-round_trips}
 use Rattle.json_fields.specs.Outcome.{Reading}
 use Rattle.json_fields.specs.RoundTrip.{IsKept, RoundTrips}
 use Rattle.json_fields.specs.Written.{is_null, list_data, map_data, option_data, set_member}
@@ -51,21 +51,21 @@ module _ (sysroot : Option (List ℕ)) (sysroot_src : Option (List ℕ)) (cfg_gr
 
 -- the crates must be a list, so a level nests at least as deep as the empty list and the empty map that it is given for what is missing
 project_row-round_trips : (inner : Data → Reading ProjectJsonData) → RoundTrips inner project_data 0 → RoundTrips (project_row inner) project_data 0
-unfolding project_row required optional defaulted set_member project_members
+unfolding project_row required_member optional_member default_member set_member project_members
 project_row-round_trips inner kept = table-round_trips _ project_data 0 λ ms.
     let n = max 1 (members_depth ms) in
     let within : AreWithin n ms = record { within = omega arith } in
     let none : 0 ≤ n = omega arith in
     let some : 1 ≤ n = omega arith in
-    and_then (optional-kept text-round_trips none within (λ x. refl) (codes "sysroot")) λ sysroot sysroot_h.
-    and_then (optional-kept text-round_trips none within (λ x. refl) (codes "sysroot_src")) λ sysroot_src sysroot_src_h.
-    and_then (optional-kept kept none within project_data-present (codes "sysroot_project")) λ sysroot_project sysroot_project_h.
-    and_then (mapped-kept (list-round_trips _ _ _ cfg-round_trips) none some within (codes "cfg_groups")) λ cfg_groups cfg_groups_h.
+    and_then (optional_member-kept text-round_trips none within (λ x. refl) (codes "sysroot")) λ sysroot sysroot_h.
+    and_then (optional_member-kept text-round_trips none within (λ x. refl) (codes "sysroot_src")) λ sysroot_src sysroot_src_h.
+    and_then (optional_member-kept kept none within project_data-present (codes "sysroot_project")) λ sysroot_project sysroot_project_h.
+    and_then (map_member-kept (list-round_trips _ _ _ cfg-round_trips) none some within (codes "cfg_groups")) λ cfg_groups cfg_groups_h.
     let exactly : AreWithin (members_depth ms) ms = record { within = omega arith } in
-    and_then (required-kept (list-round_trips _ _ _ crate-round_trips) (omega arith) exactly (codes "crates")) λ crates crates_h.
+    and_then (required_member-kept (list-round_trips _ _ _ crate-round_trips) (omega arith) exactly (codes "crates")) λ crates crates_h.
     let crates_kept : IsKept (list_at crate_at) (list_data crate_data) (members_have_float ms) n crates =
     record { again = crates_h.again; clean = crates_h.clean; nests = omega (arith, crates_h.nests) } in
-    and_then (listed-kept runnable-round_trips none some within (codes "runnables")) λ runnables runnables_h.
+    and_then (list_member-kept runnable-round_trips none some within (codes "runnables")) λ runnables runnables_h.
     let written =
     set_member-written (codes "runnables") runnables_h
     (set_member-written (codes "crates") crates_kept
@@ -84,4 +84,4 @@ project_row-round_trips inner kept = table-round_trips _ project_data 0 λ ms.
 -- a project is read again from what is written of it
 pub project-round_trips : RoundTrips project_at project_data 0
 unfolding project_at
-project-round_trips = nested-round_trips project_row project_data 0 project_row-round_trips max_depth
+project-round_trips = within_levels-round_trips project_row project_data 0 project_row-round_trips max_depth

@@ -19,15 +19,15 @@ returns-in_ok-name-in-None c =
     let named = names_flag c.args.text.now _ none c.in_ok-name-in-None.ensures in
     record { ok = named.0; bad = search rules; again = named.1 }
 
-pub returns-in-None-unquoted-clause-bad : goal.returns-in-None-unquoted-clause-bad
-returns-in-None-unquoted-clause-bad c =
-    (λ _. names_none _ _ _ (splits _ _ _ _ c.split_once.ensures.cases c.in-Some.is) c.in-None-unquoted.ensures.value, λ _. refl)
+pub returns-in-None-unquote-clause-bad : goal.returns-in-None-unquote-clause-bad
+returns-in-None-unquote-clause-bad c =
+    (λ _. names_none _ _ _ (splits _ _ _ _ c.split_once.ensures.cases c.in-Some.is) c.in-None-unquote.ensures.value, λ _. refl)
 
-pub returns-in_ok-value-in-Some-unquoted : goal.returns-in_ok-value-in-Some-unquoted
-returns-in_ok-value-in-Some-unquoted c =
+pub returns-in_ok-value-in-Some-unquote : goal.returns-in_ok-value-in-Some-unquote
+returns-in_ok-value-in-Some-unquote c =
     let at = splits _ _ _ _ c.split_once.ensures.cases c.in-Some.is in
-    let in_quotes = c.in-Some-unquoted.ensures in
-    let named = names_key _ _ _ _ at in_quotes.value in_quotes.between _ _ c.in_ok-key-in-Some-unquoted.ensures c.in_ok-value-in-Some-unquoted.ensures in
+    let in_quotes = c.in-Some-unquote.ensures in
+    let named = names_key _ _ _ _ at in_quotes.value in_quotes.between _ _ c.in_ok-key-in-Some-unquote.ensures c.in_ok-value-in-Some-unquote.ensures in
     record { ok = named.0; bad = search rules; again = named.1 }
 
 pub returns-in_err-name-in-None-clause-bad : goal.returns-in_err-name-in-None-clause-bad
@@ -36,16 +36,16 @@ returns-in_err-name-in-None-clause-bad c =
     let named = names_flag c.args.text.now _ none refl in
     not_bad _ _ _ named.0 c.from_residual.ensures.1
 
-pub returns-in_err-key-in-Some-unquoted-clause-bad : goal.returns-in_err-key-in-Some-unquoted-clause-bad
-returns-in_err-key-in-Some-unquoted-clause-bad c =
+pub returns-in_err-key-in-Some-unquote-clause-bad : goal.returns-in_err-key-in-Some-unquote-clause-bad
+returns-in_err-key-in-Some-unquote-clause-bad c =
     let at = splits _ _ _ _ c.split_once.ensures.cases c.in-Some.is in
-    let in_quotes = c.in-Some-unquoted.ensures in
+    let in_quotes = c.in-Some-unquote.ensures in
     let named = names_key _ _ _ _ at in_quotes.value in_quotes.between _ _ refl refl in
-    not_bad _ _ _ named.0 c.from_residual-in_err-key-in-Some-unquoted.ensures.1
+    not_bad _ _ _ named.0 c.from_residual-in_err-key-in-Some-unquote.ensures.1
 
-pub returns-in_err-value-in-Some-unquoted-clause-bad : goal.returns-in_err-value-in-Some-unquoted-clause-bad
-returns-in_err-value-in-Some-unquoted-clause-bad c =
+pub returns-in_err-value-in-Some-unquote-clause-bad : goal.returns-in_err-value-in-Some-unquote-clause-bad
+returns-in_err-value-in-Some-unquote-clause-bad c =
     let at = splits _ _ _ _ c.split_once.ensures.cases c.in-Some.is in
-    let in_quotes = c.in-Some-unquoted.ensures in
+    let in_quotes = c.in-Some-unquote.ensures in
     let named = names_key _ _ _ _ at in_quotes.value in_quotes.between _ _ refl refl in
-    not_bad _ _ _ named.0 c.from_residual-in_err-value-in-Some-unquoted.ensures.1
+    not_bad _ _ _ named.0 c.from_residual-in_err-value-in-Some-unquote.ensures.1

@@ -13,8 +13,8 @@ new_numbers-requires-clause-short c = omega (arith, c.len.ensures, c.in_ok-nodes
 pub new_numbers-requires-clause-known : goal.new_numbers-requires-clause-known
 new_numbers-requires-clause-known c = λ n named. omega (arith, c.requires n named, c.len.ensures, c.in_ok-nodes.nodes.ok.0, ap length c.in_ok-nodes.ensures.nodes)
 
-pub numbered-requires : goal.numbered-requires
-numbered-requires c =
+pub renumber-requires : goal.renumber-requires
+renumber-requires c =
     let nodes : c.deref-2.result.now ≡ c.args.self.now.nodes = c.deref-2.ensures.value ∙ c.in_ok-nodes.ensures.nodes in
     let count : c.len.result ≡ length c.args.self.now.nodes = omega (arith, c.len.ensures, c.in_ok-nodes.nodes.ok.0, ap length c.in_ok-nodes.ensures.nodes) in
     let long : length c.deref.result.now ≡ length c.args.self.now.nodes = ap length c.deref.ensures.value ∙ length-numbers c.args.keep.now _ _ c.in_ok-numbers.ensures ∙ count in

@@ -2,7 +2,7 @@ use Rattle.std.proofs.Common.{◌≡◌, lit<, sym, ap, ◌∙◌, rules, ◌++�
 use Rattle.std.proofs.lemmas.Str.Pattern.{split_parts}
 use Rattle.crate_values.specs.Names.{has_dash, with_underscores}
 use Rattle.crate_values.proofs.NameLemmas.{with_underscores-split, with_underscores-none, has_dash-with_underscores}
-use Rattle.crate_values.proofs.names.underscored.Goals as goal
+use Rattle.crate_values.proofs.names.underscore.Goals as goal
 
 pub loop-before-preserved : goal.loop-before-preserved
 loop-before-preserved c =

@@ -7,7 +7,7 @@ use Rattle.graph_base.specs.Reach.{Reaches}
 use Rattle.graph_base.specs.Trail.{IsWhole, empty_trail, trail_after_clear}
 use Rattle.graph_base.proofs.ClearLemmas.{cleared_trail, found_reached, nodes_marked}
 use Rattle.pm_members.proofs.GraphLemmas.{reversed_in_range}
-use Rattle.pm_members.proofs.closure.Graph.reaching.Goals as goal
+use Rattle.pm_members.proofs.closure.Graph.find_reaching.Goals as goal
 
 pub search_into-requires-clause-empty : goal.search_into-requires-clause-empty
 search_into-requires-clause-empty c =

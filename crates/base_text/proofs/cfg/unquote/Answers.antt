@@ -1,8 +1,8 @@
 use Rattle.std.proofs.Common.{rules, lit<, sym, ap, ◌∙◌}
 use Rattle.std.specs.Option.{option_copied}
 use Rattle.std.proofs.lemmas.Str.Pattern.{strip_prefix_char, strip_suffix_char}
-use Rattle.base_text.proofs.CfgLemmas.{unquoted_no_first, unquoted-cut}
-use Rattle.base_text.proofs.cfg.unquoted.Goals as goal
+use Rattle.base_text.proofs.CfgLemmas.{unquoted_no_first, unquote-cut}
+use Rattle.base_text.proofs.cfg.unquote.Goals as goal
 
 pub returns-in_err-after : goal.returns-in_err-after
 returns-in_err-after c =
@@ -13,5 +13,5 @@ pub returns : goal.returns
 returns c =
     let first = rw c.in_ok-after.was at (strip_prefix_char 34 _ _ c.strip_prefix.ensures.cases (lit< tt)) in
     let last = strip_suffix_char 34 _ _ c.strip_suffix.ensures.cases (lit< tt) in
-    let cut = unquoted-cut c.args.text.now c.in_ok-after.after.now c.strip_suffix.result first last in
+    let cut = unquote-cut c.args.text.now c.in_ok-after.after.now c.strip_suffix.result first last in
     record { value = cut.0; between = cut.1 }

@@ -1,7 +1,7 @@
 use Rattle.std.proofs.Common.{◌∙◌, ap}
 use Rattle.graph_order.proofs.SuborderLemmas.{numbered_more, numbered_skip}
-use Rattle.graph_order.proofs.suborder.numbered.Goals as goal
-use Rattle.graph_order.proofs.suborder.numbered.Goals.{in-Some+in_ok-push, in_default}
+use Rattle.graph_order.proofs.suborder.renumber.Goals as goal
+use Rattle.graph_order.proofs.suborder.renumber.Goals.{in-Some+in_ok-push, in_default}
 
 pub loop-node-preserved : goal.loop-node-preserved
 loop-node-preserved c = elim c.match-numbers-node.branch [

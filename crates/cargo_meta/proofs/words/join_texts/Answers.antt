@@ -5,7 +5,7 @@ use Rattle.std.proofs.lemmas.Iterator.Consumers.{map_from_collect}
 use Rattle.std.proofs.lemmas.List.{map-id}
 use Rattle.std.proofs.lemmas.Result.{IfOk-at_ok, IfOk-weaker}
 use Rattle.cargo_meta.proofs.Joins.{join_by-map}
-use Rattle.cargo_meta.proofs.words.joined.Goals as goal
+use Rattle.cargo_meta.proofs.words.join_texts.Goals as goal
 
 -- the pieces show the texts, so they are joined to the same
 pub returns : goal.returns

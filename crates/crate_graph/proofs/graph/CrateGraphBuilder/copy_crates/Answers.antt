@@ -11,8 +11,8 @@ use Rattle.crate_graph.specs.Graph.{edges}
 use Rattle.graph_base.specs.Edges.{IsInRange}
 use Rattle.std.specs.Prelude.{slice_get}
 use Rattle.std.proofs.lemmas.Option.{slice_get-get_or}
-use Rattle.crate_graph.proofs.graph.CrateGraphBuilder.kept.Goals as goal
-use Rattle.crate_graph.proofs.graph.CrateGraphBuilder.kept.Goals.{then-is_some+in_ok-renumbered_copy+in_ok-push, else-is_some}
+use Rattle.crate_graph.proofs.graph.CrateGraphBuilder.copy_crates.Goals as goal
+use Rattle.crate_graph.proofs.graph.CrateGraphBuilder.copy_crates.Goals.{then-is_some+in_ok-renumbered_copy+in_ok-push, else-is_some}
 
 pub index-requires : goal.index-requires
 index-requires c =

@@ -1,6 +1,6 @@
 use Rattle.std.proofs.Common.{◌≡◌, ◌++◌, ◌<◌, length, string_bytes, arith, ap, ◌∙◌, lit<}
 use Rattle.base_text.proofs.Names.{path_text-root, path_text-slashed}
-use Rattle.base_text.proofs.paths.clean.rooted.Goals as goal
+use Rattle.base_text.proofs.paths.clean.text_or_root.Goals as goal
 
 pub returns-in_ok-push : goal.returns-in_ok-push
 returns-in_ok-push c =

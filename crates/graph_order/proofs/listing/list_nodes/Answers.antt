@@ -1,7 +1,7 @@
 use Rattle.std.proofs.Common.{ap, ◌++◌, ◌∙◌}
 use Rattle.std.specs.Map.{values_of}
 use Rattle.graph_order.proofs.LoopLemmas.{listed_all, listed_more}
-use Rattle.graph_order.proofs.listing.listed.Goals as goal
+use Rattle.graph_order.proofs.listing.list_nodes.Goals as goal
 
 pub loop-node-init : goal.loop-node-init
 loop-node-init c =

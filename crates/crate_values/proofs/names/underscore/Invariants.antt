@@ -1,7 +1,7 @@
 use Rattle.std.proofs.Common.{◌≡◌, ◌++◌, string_bytes, length}
 use Rattle.std.specs.Str.{IsUtf8}
 use Rattle.crate_values.specs.Names.{with_underscores}
-use Rattle.crate_values.proofs.names.underscored.Given as goal
+use Rattle.crate_values.proofs.names.underscore.Given as goal
 
 abbrev pub invariant-loop-before : goal.invariant-loop-before
 invariant-loop-before l = record {

@@ -1,7 +1,7 @@
 use Rattle.std.proofs.Common.{ap, arith, get_or, length, refl, ◌∙◌}
 use Rattle.std.proofs.lemmas.List.{length-replicate}
 use Rattle.graph_order.proofs.ListingLemmas.{spaced_more, spaced_none}
-use Rattle.graph_order.proofs.listing.spaced.Goals as goal
+use Rattle.graph_order.proofs.listing.space_out.Goals as goal
 
 pub loop-rank-init : goal.loop-rank-init
 loop-rank-init c =
