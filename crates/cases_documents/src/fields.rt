@@ -3,7 +3,9 @@
 use crate::release::Release;
 use base_text::{ByText, Items, Text};
 use cases::{Case, Fault, error_answer, missed_answer};
-use json_fields::{BareError, Json, ReadError, Version, bare_version, of_text};
+use json_fields::{
+    BareError, Json, ReadError, Version, bare_version, normal_text, of_text, to_text,
+};
 use serde_json::Value;
 use std::alloc::{AllocError, Global};
 
@@ -14,6 +16,7 @@ type ListsByKey = ByText<Items<ByText<Items<ByText<Items<Text>>>>>>;
 pub fn answer(alloc: Global, case: Case<'_>) -> Result<Value, Fault> {
     match case.text("call")? {
         "Release" => round_trip::<Release>(alloc, case.text("text")?),
+        "normal_text" => normal(alloc, case.text("text")?),
         "texts" => texts(alloc, case),
         "lists_by_key" => round_trip::<ListsByKey>(alloc, case.text("text")?),
         "bare_version" => bare(alloc, case.text("text")?),
@@ -57,7 +60,7 @@ fn round_trip<T: Json + PartialEq>(alloc: Global, text: &str) -> Result<Value, F
 
 fn write_value<T: Json + PartialEq>(alloc: Global, value: &T) -> Result<Value, Fault> {
     let written = value.write(alloc)?;
-    let text = written.to_string(alloc)?;
+    let text = to_text(alloc, value)?;
     if is_read_again(alloc, text.as_str(), value) {
         Ok(written)
     } else {
@@ -69,6 +72,15 @@ fn is_read_again<T: Json + PartialEq>(alloc: Global, text: &str, value: &T) -> b
     match of_text::<T>(alloc, text) {
         Ok(again) => again == *value,
         Err(_) => false,
+    }
+}
+
+// The text of a release, read and written again.
+fn normal(alloc: Global, text: &str) -> Result<Value, Fault> {
+    match normal_text::<Release>(alloc, text) {
+        Ok(text) => Ok(Value::String(text)),
+        Err(ReadError::Missed(place)) => missed_answer(alloc, place.as_str()),
+        Err(ReadError::OutOfMemory) => Err(Fault::OutOfMemory),
     }
 }
 

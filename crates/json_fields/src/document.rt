@@ -1,12 +1,13 @@
 //! A whole document, whose reader reports the first miss by its whole place.
 
-ghost use Rattle.std.specs.Prelude.{◌≡◌, ◌≤◌, ℕ, max, IfOk, string_bytes};
+ghost use Rattle.std.specs.Prelude.{◌≡◌, ◌≤◌, ℕ, max, false, IfOk, string_bytes};
 ghost use Rattle.serde_json.specs.Data.{Data, depth};
 ghost use Rattle.serde_json.specs.Read.{max_depth};
 ghost use Rattle.serde_json.specs.View.{view};
+ghost use Rattle.serde_json.specs.Written.{compact_text, has_float};
 ghost use Rattle.json_fields.specs.Document as documents;
-ghost use Rattle.json_fields.specs.Document.{IsWholeAgain, whole};
-ghost use Rattle.json_fields.specs.Outcome.{Gives};
+ghost use Rattle.json_fields.specs.Document.{IsWholeAgain, normal_form, whole};
+ghost use Rattle.json_fields.specs.Outcome.{Gives, GivesBy};
 ghost use Rattle.json_fields.specs.RoundTrip.{RoundTrips};
 
 use crate::floats::holds_float;
@@ -71,10 +72,12 @@ pub fn of_bytes<T: ReadJson>(alloc: Global, bytes: &[u8]) -> Result<T, ReadError
     }
 }
 
-/// The document's compact text. Unless it nests too deep for a text, the same is read of it as of
-/// the value that is written.
+/// The document's compact text, of a value without floats. Unless it nests too deep for a text,
+/// the same is read of it as of the value that is written.
 #[tactic(auto, unfolding(crate::specs::Document::document))]
 pub fn to_text<T: Json>(alloc: Global, document: &T) -> Result<String, AllocError>
+    ensures text { IfOk result (λ text. has_float (T.writes document.now) ≡ false
+        → string_bytes text ≡ compact_text (T.writes document.now)) }
     ensures again { IfOk result (λ text. depth (T.writes document.now) ≤ max_depth
         → documents.document T.reads (string_bytes text) ≡ whole T.reads (T.writes document.now)) }
 {
@@ -85,6 +88,7 @@ pub fn to_text<T: Json>(alloc: Global, document: &T) -> Result<String, AllocErro
 /// Reads a document and writes it again, as a compact text of which the same is read.
 pub fn normal_text<T: Json>(alloc: Global, text: &str) -> Result<String, ReadError>
     requires { T.height ≤ max_depth }
+    ensures exact { GivesBy string_bytes result (normal_form T.reads T.writes text.now) }
     ensures again { IfOk result (λ normal. documents.document T.reads (string_bytes normal)
         ≡ documents.document T.reads text.now) }
 {

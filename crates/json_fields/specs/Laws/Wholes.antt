@@ -1,5 +1,5 @@
 -- a whole document that was read is read again from what is written of it
-use Rattle.std.proofs.Common.{◌≡◌, ◌≤◌, ℕ, List, codes, inl, inr, max, false, Result, Ok, Err, subst, refl}
+use Rattle.std.proofs.Common.{◌≡◌, ◌≤◌, ◌∙◌, ℕ, List, codes, inl, inr, max, false, true≢false, is_err, Result, Ok, Err, ap, sym, subst, refl}
 use Rattle.std.specs.Result.{IfOk}
 use Rattle.std.specs.Str.{IsUtf8, is_utf8}
 use Rattle.std.proofs.lemmas.Bool.{cases_Bool}
@@ -27,6 +27,16 @@ module _ {T : Type 0} (reads : Data → Reading T) (writes : T → Data) (height
   -- what is written nests no deeper than the document or the defaults
   pub whole-nests : depth (writes x) ≤ max height (depth d)
   whole-nests = kept_at.nests
+
+-- a document that is read as a value holds no float
+pub whole-has_no_float : {T : Type 0} (reads : Data → Reading T) (d : Data) (x : T) → whole reads d ≡ Ok x → has_float d ≡ false
+unfolding whole
+whole-has_no_float reads d x read = elim (cases_Bool (has_float d)) [
+  | inl float ↦
+      let refused : whole reads d ≡ Err (codes "float") = rw float refl in
+      absurd (true≢false (ap is_err (sym refused ∙ read)))
+  | inr no_float ↦ no_float
+]
 
 -- a document of bytes is read as its text where they are one
 pub bytes_document-text : {T : Type 0} (reads : Data → Reading T) (bytes : List ℕ) → IsUtf8 bytes → bytes_document reads bytes ≡ document reads bytes
