@@ -9,7 +9,7 @@ use Rattle.std.proofs.lemmas.List.{get_or-map, length-map}
 use Rattle.std.proofs.lemmas.Option.{slice_get-map}
 use Rattle.graph_base.specs.Edges.{IsInRange, row}
 use Rattle.crate_values.specs.declared.crate_data.Dependency.{Dependency}
-use Rattle.input_db.specs.Identity.{HasCleanIdentity, HasCleanInput, IsTable, Table, crate_edges, input_in, named_in, names_of, unique_eq, with_entry}
+use Rattle.input_db.specs.Identity.{IsTable, Table, crate_edges, input_in, named_in, names_of, unique_eq, with_entry}
 use Rattle.input_db.specs.declared.crate_input.CrateInput.{CrateInput}
 use Rattle.input_db.specs.declared.crate_input.UniqueCrateData.{UniqueCrateData}
 use Rattle.input_db.proofs.PlaceLemmas.{put_longer}
@@ -113,14 +113,13 @@ few_after before after true long few room = omega arith
 few_after before after false long few (inl there) = absurd (true≢false (sym there))
 few_after before after false long few (inr room) = omega arith
 
--- a table stays one once an identity is given an input that both name its crates alone and have clean paths
+-- a table stays one once an identity is given an input that both name its crates alone
 pub table_after : (table : Table) (unique : UniqueCrateData) (input : CrateInput) → IsTable table
     → All (λ named. named < length table) (names_of unique)
     → All (λ named. named < length table) (named_in input.crate_data)
-    → HasCleanIdentity unique → HasCleanInput input
     → length (with_entry table unique input) < 2 ^ 32
     → IsTable (with_entry table unique input)
-table_after table unique input is named_by_it named_in_it clean_unique clean_input fits = record {
+table_after table unique input is named_by_it named_in_it fits = record {
   few = fits;
   older = λ krate x at. elim (identity_after table unique input krate x at) [
     | inl old ↦ is.older krate x old
@@ -140,13 +139,5 @@ table_after table unique input is named_by_it named_in_it clean_unique clean_inp
         let below : get_or (named_in input.crate_data) k d < length table = named_in_it k d there in
         let same = ap (λ (i : CrateInput). get_or (named_in i.crate_data) k d) new in
         omega (arith, put_longer unique_eq unique input table)
-  ];
-  clean_identities = λ krate x at. elim (identity_after table unique input krate x at) [
-    | inl old ↦ is.clean_identities krate x old
-    | inr new ↦ subst HasCleanIdentity (sym new.1) clean_unique
-  ];
-  clean_inputs = λ krate x at. elim (input_after table unique input krate x at) [
-    | inl old ↦ is.clean_inputs krate x old
-    | inr new ↦ subst HasCleanInput (sym new) clean_input
   ];
 }

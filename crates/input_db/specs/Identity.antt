@@ -117,17 +117,13 @@ with_entry table unique input = insert_entry unique_eq table unique input
 abbrev pub crate_edges : Table → List (List ℕ)
 crate_edges table = map (λ entry. named_in entry.1.crate_data) table
 
--- crates are numbered within 32 bits; an identity names older crates alone; an input names crates of the table; the paths
--- in both are clean
+-- crates are numbered within 32 bits; an identity names older crates alone; an input names crates of the table
 pub record IsTable (table : Table) : Type 0 where
   pub few : length table < 2 ^ 32
   pub older : (krate : ℕ) (unique : UniqueCrateData) → slice_get (keys_of table) krate ≡ Some unique
       → All (λ named. named < krate) (names_of unique)
   pub present : (krate : ℕ) (input : CrateInput) → input_in table krate ≡ Some input
       → All (λ named. named < length table) (named_in input.crate_data)
-  pub clean_identities : (krate : ℕ) (unique : UniqueCrateData) → slice_get (keys_of table) krate ≡ Some unique
-      → HasCleanIdentity unique
-  pub clean_inputs : (krate : ℕ) (input : CrateInput) → input_in table krate ≡ Some input → HasCleanInput input
 
 -- an identity's crate is given an input: it is the one that the identity had, or greater than all before, and every other
 -- identity keeps its crate, and every other crate its input

@@ -1,10 +1,11 @@
 //! The table of all crates that a database was ever given: each identity has one crate, for good.
 
-ghost use Rattle.std.specs.Prelude.{◌≡◌, ◌↔◌, ◌<◌, ◌^◌, [], IfOk, IsTrue, OnErr, OnOk, Some, length, map};
+ghost use Rattle.std.specs.Prelude.{◌≡◌, ◌↔◌, ◌<◌, ◌^◌, [], IfOk, IsTrue, OnErr, OnOk, Some, length, map, slice_get};
 ghost use Rattle.std.specs.List.{All, IsDistinct};
-ghost use Rattle.std.specs.Option.{option_copied};
+ghost use Rattle.std.specs.Map.Iter.{deref_pair};
+ghost use Rattle.std.specs.Option.{option_copied, option_map};
 ghost use Rattle.graph_base.specs.Edges.{row};
-ghost use Rattle.input_db.specs.Identity.{HasCleanIdentity, HasCleanInput, IsTable, PutsCrate, crate_edges, crate_for, crate_in, input_in, input_under};
+ghost use Rattle.input_db.specs.Identity.{IsTable, PutsCrate, crate_edges, crate_for, crate_in, input_in, input_under};
 ghost use Rattle.input_db.specs.Identity.{named_in, names_of, unique_eq, uniques_in, with_entry};
 
 use crate::crate_input::{BuiltDependency, Crate, CrateInput, UniqueCrateData};
@@ -44,8 +45,8 @@ impl CratesMap {
     }
 
     /// How many crates there are. No two have equal identities, and an identity names older crates
-    /// alone. The paths in identities and inputs are clean: so equal ones hold the same, by the laws of
-    /// `laws`.
+    /// alone. By the laws of `laws`, the paths in identities and inputs are clean, so that equal ones
+    /// hold the same.
     pub fn len(&self) -> usize
         ensures length { result ≡ length self.now }
         ensures distinct { IsDistinct unique_eq (uniques_in self.now) }
@@ -87,6 +88,13 @@ impl CratesMap {
         &self.entries[krate.place()]
     }
 
+    /// The identity of a crate, and what is held of it.
+    pub(crate) fn entry(&self, krate: Crate) -> Option<(&UniqueCrateData, &CrateInput)>
+        ensures { option_map deref_pair result ≡ slice_get self.now krate }
+    {
+        self.entries.get_index(krate.place())
+    }
+
     /// What is held of an identity's crate.
     pub(crate) fn input_under(&self, unique: &UniqueCrateData) -> Option<&CrateInput>
         ensures { option_copied result ≡ input_under self.now unique.now }
@@ -108,25 +116,12 @@ impl CratesMap {
         ensures table { OnOk result (IsTable self.new) }
         ensures err { OnErr result (self.new ≡ self.old) }
     {
-        have_clean_paths(&unique, &input);
         if self.entries.len() >= GREATEST_LENGTH && self.get(&unique).is_none() {
             return Err(AllocError);
         }
         let (place, old) = self.entries.insert_full(unique, input)?;
         drop(old);
         Ok(Crate::at(place))
-    }
-}
-
-// The paths in an identity and in an input are clean, as every path is. It does nothing: a path's type
-// gives this fact only to code that reads the path's text.
-fn have_clean_paths(unique: &UniqueCrateData, input: &CrateInput)
-    ensures identity { HasCleanIdentity unique.now }
-    ensures input { HasCleanInput input.now }
-{
-    input.crate_data.proc_macro_cwd.as_str();
-    if let Some(pair) = &unique.disambiguator {
-        pair.get().0.proc_macro_cwd.as_str();
     }
 }
 

@@ -28,8 +28,7 @@ invariant_of-self-2 c =
     let few = few_after (length old) (length c.insert_full.new.self.entries) _ c.in_ok-place.ensures.len c.self.invariant.few room in
     let entries = c.in_ok-place.ensures.entries in
     subst IsTable (sym entries)
-    (table_after old unique input c.self.invariant identity named c.have_clean_paths.ensures.identity
-    c.have_clean_paths.ensures.input (subst (λ (t : Table). length t < 2 ^ 32) entries few))
+    (table_after old unique input c.self.invariant identity named (subst (λ (t : Table). length t < 2 ^ 32) entries few))
 
 pub returns-clause-table : goal.returns-clause-table
 returns-clause-table c = invariant_of-self-2 c
