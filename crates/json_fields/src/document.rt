@@ -4,7 +4,7 @@ ghost use Rattle.std.specs.Prelude.{◌≡◌, ◌≤◌, ℕ, max, false, IfOk,
 ghost use Rattle.serde_json.specs.Data.{Data, depth};
 ghost use Rattle.serde_json.specs.Read.{max_depth};
 ghost use Rattle.serde_json.specs.View.{view};
-ghost use Rattle.serde_json.specs.Written.{compact_text, has_float};
+ghost use Rattle.serde_json.specs.Written.{IsInOrder, compact_text, has_float};
 ghost use Rattle.json_fields.specs.Document as documents;
 ghost use Rattle.json_fields.specs.Document.{IsWholeAgain, normal_form, whole};
 ghost use Rattle.json_fields.specs.Outcome.{Gives, GivesBy};
@@ -72,12 +72,14 @@ pub fn of_bytes<T: ReadJson>(alloc: Global, bytes: &[u8]) -> Result<T, ReadError
     }
 }
 
-/// The document's compact text, of a value without floats. Unless it nests too deep for a text,
-/// the same is read of it as of the value that is written.
+/// The document's text: the items and members of the value that is written, each once and in order.
+/// Where that value holds no float this is its compact text. Unless the value nests too deep for a
+/// text, the same is read of the text as of the value.
 #[tactic(auto, unfolding(crate::specs::Document::document))]
 pub fn to_text<T: Json>(alloc: Global, document: &T) -> Result<String, AllocError>
     ensures text { IfOk result (λ text. has_float (T.writes document.now) ≡ false
         → string_bytes text ≡ compact_text (T.writes document.now)) }
+    ensures order { IfOk result (λ text. IsInOrder (string_bytes text) (T.writes document.now)) }
     ensures again { IfOk result (λ text. depth (T.writes document.now) ≤ max_depth
         → documents.document T.reads (string_bytes text) ≡ whole T.reads (T.writes document.now)) }
 {
