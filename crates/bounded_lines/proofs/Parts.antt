@@ -1,19 +1,17 @@
 -- How a line is taken from a piece, and what is given of a line.
-use Rattle.std.proofs.Common.{◌≡◌, ℕ, ◌+◌, ◌<◌, ◌≤◌, true, false, [], List, ◌∷◌, ◌++◌, Option, Some, None, length, take, nat_le, refl, sym, ap, subst, arith}
+use Rattle.std.proofs.Common.{◌≡◌, ℕ, ◌+◌, ◌<◌, ◌≤◌, true, false, [], List, ◌∷◌, ◌++◌, Option, Some, None, length, take, drop, nat_le, refl, sym, ap, subst, arith}
 use Rattle.std.proofs.lemmas.Bool.Decides.{nat_tests}
-use Rattle.std.specs.List.{slice_range}
 use Rattle.bounded_lines.specs.Part.{IsHeld, IsHeldAs, Part, item_of, last_item_of}
 use Rattle.bounded_lines.specs.Pieces.{IsFirstNewline, Moves}
 use Rattle.bounded_lines.proofs.Bytes.{IsFirstNewline-cut}
 
 -- a line that ends at the first newline
-pub Moves-found : (bytes : List ℕ) (start end at : ℕ) (held held' : Part) → start ≤ end → end ≤ length bytes → IsFirstNewline (slice_range bytes start end) at
-    → ((line : List ℕ) → IsHeld line held → IsHeld (line ++ take at (slice_range bytes start end)) held') → held'.max_line ≡ held.max_line → length held'.bytes ≤ held'.max_line
-    → Moves true (slice_range bytes start end) (slice_range bytes (start + (at + 1)) end) held held'
-Moves-found bytes start end at held held' ordered fits first adds bound few = record {
-  part = take at (slice_range bytes start end);
+pub Moves-found : (piece : List ℕ) (at : ℕ) (held held' : Part) → IsFirstNewline piece at → ((line : List ℕ) → IsHeld line held → IsHeld (line ++ take at piece) held')
+    → held'.max_line ≡ held.max_line → length held'.bytes ≤ held'.max_line → Moves true piece (drop (at + 1) piece) held held'
+Moves-found piece at held held' first adds bound few = record {
+  part = take at piece;
   uncut = first.before;
-  piece_is = IsFirstNewline-cut bytes start end at ordered fits first;
+  piece_is = IsFirstNewline-cut piece at first;
   adds = adds;
   bound = bound;
   few = few;

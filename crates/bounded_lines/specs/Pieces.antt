@@ -29,10 +29,10 @@ pub record Moves (found : Bool) (piece piece' : List ℕ) (held held' : Part) : 
   pub whole : found ≡ false → piece' ≡ []
 
 -- one read: its bytes are the piece
-pub record Reads (room count : ℕ) (left left' : Option (List ℕ)) (piece : List ℕ) : Type 0 where
+pub record Reads (bound count : ℕ) (left left' : Option (List ℕ)) (piece : List ℕ) : Type 0 where
   pub read : Consumes left left' piece
   pub many : length piece ≡ count
-  pub most : count ≤ room
+  pub most : count ≤ bound
   pub few : count ≤ 65536
   pub end : count ≡ 0 → IsAtEnd left'
 

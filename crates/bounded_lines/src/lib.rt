@@ -5,7 +5,8 @@ pub mod laws;
 pub mod lines;
 pub mod newline;
 mod part;
-mod piece;
+pub mod piece;
 
 pub use lines::{BoundedLines, Line, LineError};
 pub use newline::newline_at;
+pub use piece::Piece;

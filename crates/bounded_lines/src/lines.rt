@@ -1,7 +1,6 @@
 //! A reader of lines, which knows nothing of what they say.
 
-ghost use Rattle.std.specs.Prelude.{◌≡◌, ◌≤◌, ℕ, List, Option, IsTrue, Ok, None, length};
-ghost use Rattle.outside.specs.Causes.{Rose};
+ghost use Rattle.std.specs.Prelude.{◌≡◌, ◌≤◌, ℕ, List, Option, IsTrue, Ok, None};
 
 use crate::part::LinePart;
 use crate::piece::Piece;
@@ -74,7 +73,6 @@ impl Model for BoundedLines {
 }
 
 impl BoundedLines {
-    ghost use Rattle.bounded_lines.specs.Lines.{has_newline};
     ghost use Rattle.bounded_lines.specs.Reader.{Gave, HoldsFew, Tells, lines_after, new_reader};
 
     /// A reader that takes nothing yet, of lines of at most so many bytes.

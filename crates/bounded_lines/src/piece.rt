@@ -1,6 +1,6 @@
-//! The bytes of one read, which are looked at line by line.
+//! The bytes of one read, which are passed over from the front.
 
-ghost use Rattle.std.specs.Prelude.{◌≡◌, ◌≤◌, ◌<◌, [], length, take, IfErr, IfOk, OnErr, OnOk};
+ghost use Rattle.std.specs.Prelude.{◌≡◌, ◌≤◌, ◌<◌, [], drop, length, take, IfErr, IfOk, OnErr, OnOk};
 ghost use Rattle.std.specs.Io.KnownBytes.{Consumes, IsAtEnd};
 ghost use Rattle.outside.specs.Causes.{HasCause};
 ghost use Rattle.bounded_lines.specs.Pieces.{HasCauseOf, Moves, Reads};
@@ -15,9 +15,9 @@ use std::marker::Model;
 /// How many bytes one read asks for at most.
 const PIECE: usize = 65536;
 
-/// What a read gave and was not looked at yet, seen as these bytes.
+/// What a read gave and was not passed over yet, seen as these bytes.
 #[derive(Drop)]
-pub(crate) struct Piece {
+pub struct Piece {
     bytes: Vec<u8>,
     start: usize,
     end: usize,
@@ -36,7 +36,7 @@ impl Model for Piece {
 
 impl Piece {
     /// A piece of nothing, which holds no memory.
-    pub(crate) fn new(alloc: Global) -> Self
+    pub fn new(alloc: Global) -> Self
         ensures { result ≡ [] }
     {
         Piece {
@@ -46,37 +46,62 @@ impl Piece {
         }
     }
 
+    /// The bytes that were not passed over.
+    pub fn rest(&self) -> &[u8]
+        ensures { result.now ≡ self.now }
+    {
+        &self.bytes[self.start..self.end]
+    }
+
+    /// Passes over the first of the bytes.
+    pub fn pass(&mut self, count: usize)
+        requires { count ≤ length self.old }
+        ensures { self.new ≡ drop count self.old }
+    {
+        self.start += count;
+    }
+
+    /// Keeps no more than the first of the bytes, up to so many.
+    pub fn truncate(&mut self, most: u64)
+        ensures { self.new ≡ take most self.old }
+    {
+        let count = (self.end - self.start) as u64;
+        self.end = self.start + count.min(most) as usize;
+    }
+
     /// Moves the bytes up to the first newline to a line, and answers whether there is one. The newline
     /// is passed over.
     pub(crate) fn move_line(&mut self, line: &mut LinePart) -> Result<bool, AllocError>
         ensures ok { IfOk result (λ found. Moves found self.old self.new line.old line.new) }
         ensures err { OnErr result ((self.new ≡ self.old) × (line.new ≡ line.old)) }
     {
-        let rest = &self.bytes[self.start..self.end];
+        let rest = self.rest();
         match newline_at(rest) {
             Some(at) => {
                 line.extend(&rest[..at])?;
-                self.start += at + 1;
+                self.pass(at + 1);
                 Ok(true)
             }
             None => {
+                let count = rest.len();
                 line.extend(rest)?;
-                self.start = self.end;
+                self.pass(count);
                 Ok(false)
             }
         }
     }
 
-    /// Reads the next piece in place of this one, and answers how much was read.
-    pub(crate) fn read<S: ByteSource>(
+    /// Reads the next piece in place of this one, of at most so many bytes and 65,536, and answers how many were
+    /// read. None is the end of the input. After an error the piece is empty and nothing was taken.
+    pub fn read<S: ByteSource>(
         &mut self,
         alloc: Global,
         input: &mut S,
-        room: u64,
+        most: u64,
     ) -> Result<u64, LineError>
-        requires some { 0 < room }
+        requires some { 0 < most }
         ensures ok { IfOk result (λ count.
-            Reads room count (S.left input.old) (S.left input.new) self.new) }
+            Reads most count (S.left input.old) (S.left input.new) self.new) }
         ensures kept { OnErr result ((self.new ≡ [])
             × Consumes (S.left input.old) (S.left input.new) []) }
         ensures cause { IfErr result (λ e.
@@ -86,7 +111,7 @@ impl Piece {
         self.start = 0;
         self.end = 0;
         make_buffer(alloc, &mut self.bytes)?;
-        self.end = read_some(input, &mut self.bytes, room)?;
+        self.end = read_some(input, &mut self.bytes, most)?;
         Ok(self.end as u64)
     }
 }
@@ -103,17 +128,17 @@ fn make_buffer(alloc: Global, bytes: &mut Vec<u8>) -> Result<(), AllocError>
     Ok(())
 }
 
-// Reads at most as many bytes as there is room for, into a buffer that is there.
-fn read_some<S: ByteSource>(input: &mut S, buffer: &mut [u8], room: u64) -> Result<usize, Failed>
+// Reads at most so many bytes into a buffer that is there.
+fn read_some<S: ByteSource>(input: &mut S, buffer: &mut [u8], most: u64) -> Result<usize, Failed>
     requires some { 0 < length buffer.old }
-    requires room { 0 < room }
+    requires most { 0 < most }
     ensures read { IfOk result (λ count.
         Consumes (S.left input.old) (S.left input.new) (take count buffer.new)) }
-    ensures most { IfOk result (λ count. (count ≤ room) × (count ≤ length buffer.new)) }
+    ensures bound { IfOk result (λ count. (count ≤ most) × (count ≤ length buffer.new)) }
     ensures end { IfOk result (λ count. count ≡ 0 → IsAtEnd (S.left input.new)) }
     ensures kept { OnErr result (Consumes (S.left input.old) (S.left input.new) []) }
     ensures cause { HasCause (S.faults input.old) (S.faults input.new) result }
 {
-    let most = room.min(buffer.len() as u64) as usize;
-    input.read(&mut buffer[..most])
+    let count = most.min(buffer.len() as u64) as usize;
+    input.read(&mut buffer[..count])
 }

@@ -4,6 +4,8 @@ use Rattle.std.specs.Io.KnownBytes.{Consumes, IsAtEnd}
 use Rattle.outside.specs.Causes.{Rose}
 use Rattle.bounded_lines.specs.Lines.{has_newline}
 use Rattle.bounded_lines.specs.Pieces.{rest_of}
+use Rattle.bounded_lines.specs.declared.lines.LineError.{LineError as ReadError}
+use Rattle.bounded_lines.specs.declared.lines.LineError.TheVariants as read
 use Rattle.live_input.specs.declared.lines.LineError.{LineError}
 use Rattle.live_input.specs.declared.lines.LineError.TheVariants.{ReadFault, TooMany, OutOfMemory, Ended}
 
@@ -30,3 +32,8 @@ HasCauseOf ReadFault before now = Rose before now
 HasCauseOf TooMany before now = ⊥
 HasCauseOf OutOfMemory before now = Unit {0}
 HasCauseOf Ended before now = ⊥
+
+-- an error of a read is that of the call
+abbrev pub of_piece_error : ReadError → LineError
+of_piece_error read.ReadFault = ReadFault
+of_piece_error read.OutOfMemory = OutOfMemory

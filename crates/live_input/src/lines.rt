@@ -1,10 +1,10 @@
 //! A reader of lines, which knows nothing of what they say.
 
-ghost use Rattle.std.specs.Prelude.{◌≡◌, ◌+◌, ◌^◌, ◌<◌, ◌≤◌, false, ℕ, List, [], Option, Some, IsTrue, is_err, length};
-ghost use Rattle.outside.specs.Causes.{Rose};
+ghost use Rattle.std.specs.Prelude.{◌≡◌, ◌+◌, ◌^◌, ◌<◌, ◌≤◌, false, ℕ, List, Option, Some, IsTrue};
 
-use crate::piece::Piece;
-use base_text::{ByteSource, Failed};
+use crate::piece::{move_line, read_within};
+use base_text::ByteSource;
+use bounded_lines::Piece;
 use std::alloc::{AllocError, Global};
 use std::marker::Model;
 use std::mem;
@@ -38,14 +38,17 @@ impl From<AllocError> for LineError {
     }
 }
 
-impl From<Failed> for LineError {
+impl From<bounded_lines::LineError> for LineError {
     ghost use Rattle.std.specs.Prelude.{◌≡◌};
-    ghost use Rattle.live_input.specs.declared.lines.LineError.TheVariants.{ReadFault};
+    ghost use Rattle.live_input.specs.Pieces.{of_piece_error};
 
-    ghost from_gives = { λ _ e. e ≡ ReadFault };
+    ghost from_gives = { λ error e. e ≡ of_piece_error error };
 
-    fn from(_error: Failed) -> Self {
-        LineError::ReadFault
+    fn from(error: bounded_lines::LineError) -> Self {
+        match error {
+            bounded_lines::LineError::ReadFault => LineError::ReadFault,
+            bounded_lines::LineError::OutOfMemory => LineError::OutOfMemory,
+        }
     }
 }
 
@@ -147,11 +150,11 @@ impl Lines {
             return Ok(None);
         }
         let alloc = *self.line.allocator();
-        while !self.piece.move_line(&mut self.line)? {
+        while !move_line(&mut self.piece, &mut self.line)? {
             if self.is_past {
                 return Err(LineError::TooMany);
             }
-            let count = self.piece.read(alloc, input, self.room)?;
+            let count = read_within(&mut self.piece, alloc, input, self.room)?;
             if count == 0 {
                 self.is_done = true;
                 let last = mem::replace(&mut self.line, Vec::new(alloc));

@@ -9,8 +9,8 @@ use Rattle.live_input.proofs.lines.Lines.read_line.Goals as goal
 
 pub returns-then-count-eq0-clause-gave : goal.returns-then-count-eq0-clause-gave
 returns-then-count-eq0-clause-gave g c = λ limit first given gave.
-    let moves : Moves false c.loop-self.self-inside.piece c.move_line.new.self c.loop-self.self-inside.line.items c.move_line.new.line.items =
-    subst (λ f. Moves f c.loop-self.self-inside.piece c.move_line.new.self c.loop-self.self-inside.line.items c.move_line.new.line.items) c.if-not-branch.true c.in_ok-move_line.ensures.ok in
+    let moves : Moves false c.loop-self.self-inside.piece c.move_line.new.piece c.loop-self.self-inside.line.items c.move_line.new.line.items =
+    subst (λ f. Moves f c.loop-self.self-inside.piece c.move_line.new.piece c.loop-self.self-inside.line.items c.move_line.new.line.items) c.if-not-branch.true c.in_ok-move_line.ensures.ok in
     let before = c.loop-self.invariant.0.keeps limit first given gave in
     let here = Gave-moved _ _ _ _ _ _ _ _ _ _ _ _ c.loop-self.invariant.0.not_done c.loop-self.invariant.0.uncut before moves in
     let uncut = moved_uncut _ _ _ _ _ moves c.loop-self.invariant.0.uncut in
@@ -24,8 +24,8 @@ returns-then-count-eq0-clause-gave g c = λ limit first given gave.
 
 pub loop-self-preserved : goal.loop-self-preserved
 loop-self-preserved g c =
-    let moves : Moves false c.loop-self.self-inside.piece c.move_line.new.self c.loop-self.self-inside.line.items c.move_line.new.line.items =
-    subst (λ f. Moves f c.loop-self.self-inside.piece c.move_line.new.self c.loop-self.self-inside.line.items c.move_line.new.line.items) c.if-not-branch.true c.in_ok-move_line.ensures.ok in
+    let moves : Moves false c.loop-self.self-inside.piece c.move_line.new.piece c.loop-self.self-inside.line.items c.move_line.new.line.items =
+    subst (λ f. Moves f c.loop-self.self-inside.piece c.move_line.new.piece c.loop-self.self-inside.line.items c.move_line.new.line.items) c.if-not-branch.true c.in_ok-move_line.ensures.ok in
     let uncut = moved_uncut _ _ _ _ _ moves c.loop-self.invariant.0.uncut in
     let room : c.saturating_sub-self-inside.result ≡ c.loop-self.self-inside.room - c.in_ok-count.count = omega (arith, c.saturating_sub-self-inside.ensures) in (
       record {
@@ -45,8 +45,8 @@ loop-self-preserved g c =
 
 pub returns-clause-gave : goal.returns-clause-gave
 returns-clause-gave g c = λ limit first given gave.
-    let moves : Moves true c.loop-self.self-inside.piece c.move_line.new.self c.loop-self.self-inside.line.items c.move_line.new.line.items =
-    subst (λ f. Moves f c.loop-self.self-inside.piece c.move_line.new.self c.loop-self.self-inside.line.items c.move_line.new.line.items) c.if-not-branch.false c.in_ok-move_line.ensures.ok in
+    let moves : Moves true c.loop-self.self-inside.piece c.move_line.new.piece c.loop-self.self-inside.line.items c.move_line.new.line.items =
+    subst (λ f. Moves f c.loop-self.self-inside.piece c.move_line.new.piece c.loop-self.self-inside.line.items c.move_line.new.line.items) c.if-not-branch.false c.in_ok-move_line.ensures.ok in
     let before = c.loop-self.invariant.0.keeps limit first given gave in
     let none : c.replace-line.new.dest.items ≡ [] = ap (λ v. v.items) c.replace-line.ensures.after ∙ c.new-2.ensures.items in
     let line : c.replace-line.result.items ≡ c.move_line.new.line.items = ap (λ v. v.items) c.replace-line.ensures.value in
