@@ -6,7 +6,7 @@ ghost use Rattle.base_values.specs.ByText.{HasAscendingKeys};
 ghost use Rattle.cargo_meta.specs.Command.{IsFirst, command_of, nothing_set, with_features, with_variable, words_of};
 
 use crate::words::{
-    append, first_words, push_all, push_features, push_flag, push_option, text_or, variables,
+    append, first_words, push_features, push_flag, push_option, push_words, text_or, variables,
 };
 use base_text::{ByText, CommandLine, Items, Text, TryClone};
 use std::alloc::{AllocError, Global};
@@ -246,7 +246,7 @@ impl MetadataCommand {
 impl TryClone for MetadataCommand {
     fn try_clone(&self, alloc: Global) -> Result<Self, AllocError> {
         let mut features = Vec::new(alloc);
-        push_all(alloc, &mut features, self.features.as_slice())?;
+        push_words(alloc, &mut features, self.features.as_slice())?;
         Ok(MetadataCommand {
             cargo_path: self.cargo_path.try_clone(alloc)?,
             manifest_path: self.manifest_path.try_clone(alloc)?,

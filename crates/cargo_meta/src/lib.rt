@@ -9,7 +9,7 @@ pub mod metadata;
 pub mod package;
 mod package_rows;
 pub mod select;
-mod words;
+pub mod words;
 
 pub use base_text::Version;
 pub use cargo_values::{

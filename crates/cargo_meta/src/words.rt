@@ -24,13 +24,14 @@ pub(crate) fn first_words(alloc: Global) -> Result<Vec<Text>, AllocError>
         ≡ codes "metadata" ∷ codes "--format-version" ∷ codes "1" ∷ []) }
 {
     let mut words = Vec::new(alloc);
-    push(alloc, &mut words, "metadata")?;
-    push(alloc, &mut words, "--format-version")?;
-    push(alloc, &mut words, "1")?;
+    push_word(alloc, &mut words, "metadata")?;
+    push_word(alloc, &mut words, "--format-version")?;
+    push_word(alloc, &mut words, "1")?;
     Ok(words)
 }
 
-fn push(alloc: Global, words: &mut Vec<Text>, word: &str) -> Result<(), AllocError>
+/// Puts the word behind the others.
+pub fn push_word(alloc: Global, words: &mut Vec<Text>, word: &str) -> Result<(), AllocError>
     ensures { OnOk result (words.new.items ≡ words.old.items ++ word.now ∷ []) }
 {
     let word = Text::of_str(alloc, word)?;
@@ -38,8 +39,18 @@ fn push(alloc: Global, words: &mut Vec<Text>, word: &str) -> Result<(), AllocErr
     Ok(())
 }
 
+/// Puts copies of these words behind the others.
+pub fn push_words(alloc: Global, words: &mut Vec<Text>, more: &[Text]) -> Result<(), AllocError>
+    ensures { OnOk result (words.new.items ≡ words.old.items ++ more.now) }
+{
+    for word in more {
+        words.push(word.try_clone(alloc)?)?;
+    }
+    Ok(())
+}
+
 /// Puts the word behind the others where its flag is set.
-pub(crate) fn push_flag(
+pub fn push_flag(
     alloc: Global,
     words: &mut Vec<Text>,
     is_set: bool,
@@ -48,7 +59,7 @@ pub(crate) fn push_flag(
     ensures { OnOk result (words.new.items ≡ words.old.items ++ flag_word is_set word.now) }
 {
     if is_set {
-        push(alloc, words, word)
+        push_word(alloc, words, word)
     } else {
         Ok(())
     }
@@ -65,8 +76,8 @@ pub(crate) fn push_option(
 {
     match value {
         Some(value) => {
-            push(alloc, words, word)?;
-            push(alloc, words, value.as_str())
+            push_word(alloc, words, word)?;
+            push_word(alloc, words, value.as_str())
         }
         None => Ok(()),
     }
@@ -84,8 +95,8 @@ pub(crate) fn push_features(
         return Ok(());
     }
     let names = join_texts(alloc, features, ",")?;
-    push(alloc, words, "--features")?;
-    push(alloc, words, names.as_str())
+    push_word(alloc, words, "--features")?;
+    push_word(alloc, words, names.as_str())
 }
 
 /// The texts, with one between each two.
@@ -103,20 +114,6 @@ pub(crate) fn append(texts: &mut Vec<Text>, more: Items<Text>) -> Result<(), All
 {
     let mut more = more.into_inner();
     texts.append(&mut more)
-}
-
-/// Puts copies of these texts behind the others.
-pub(crate) fn push_all(
-    alloc: Global,
-    texts: &mut Vec<Text>,
-    more: &[Text],
-) -> Result<(), AllocError>
-    ensures { OnOk result (texts.new.items ≡ texts.old.items ++ more.now) }
-{
-    for text in more {
-        texts.push(text.try_clone(alloc)?)?;
-    }
-    Ok(())
 }
 
 /// The variables by ascending key.

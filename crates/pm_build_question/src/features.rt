@@ -6,9 +6,9 @@ ghost use Rattle.pm_cargo.specs.Queries.{is_feature};
 ghost use Rattle.pm_build_question.specs.Words.{feature_words, selected_words};
 
 use base_text::Text;
+use cargo_meta::words::{push_flag, push_word};
 use pm_cargo::CargoWorkspace;
 use pm_config::CargoFeatures;
-use pm_fetch::words::{push_flag, push_word};
 use std::alloc::{AllocError, Global};
 
 // Those of the features that the workspace has, joined by commas.

@@ -7,9 +7,9 @@ ghost use Rattle.pm_build_question.specs.Question.{build_question, cargo_questio
 
 use crate::words::{build_words, is_unstable, takes_compile_time_deps};
 use base_text::{AbsPath, ByText, CommandLine, Items, Runner, Text, TryClone, Version};
+use cargo_meta::words::push_words;
 use pm_cargo::CargoWorkspace;
 use pm_config::{CargoConfig, Tool};
-use pm_fetch::words::push_words;
 use pm_sysroot::{Ask, Sysroot, set_variable};
 use std::alloc::{AllocError, Global};
 use trees::Tree;

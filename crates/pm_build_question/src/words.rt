@@ -6,9 +6,10 @@ ghost use Rattle.pm_build_question.specs.Words.{build_words, coverage_words, fir
 
 use crate::features::push_features;
 use base_text::{Text, Version};
+use cargo_meta::words::{push_flag, push_word, push_words};
 use pm_cargo::CargoWorkspace;
 use pm_config::{CargoConfig, is_at_least, needs_json_flag};
-use pm_fetch::words::{push_flag, push_path, push_word, push_words};
+use pm_fetch::words::push_path;
 use pm_packages::ManifestPath;
 use pm_sysroot::words_of;
 use std::alloc::{AllocError, Global};

@@ -5,8 +5,9 @@ ghost use Rattle.std.specs.List.{list_any};
 ghost use Rattle.pm_config.specs.Versions.{needs_json_flag};
 ghost use Rattle.pm_fetch.specs.Options.{full_options, is_unstable, options_of, platform_words, unstable_pairs};
 
-use crate::words::{push_flag, push_path, push_word, push_words};
+use crate::words::push_path;
 use base_text::{Items, Text, TryClone, Version};
+use cargo_meta::words::{push_flag, push_word, push_words};
 use pm_config::{CargoMetadataConfig, needs_json_flag};
 use pm_packages::ManifestPath;
 use std::alloc::{AllocError, Global};

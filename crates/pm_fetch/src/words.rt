@@ -1,46 +1,12 @@
-//! The words of a question, one after another, and the text of a whole command line.
+//! The words of a path in a question, and the text of a whole command line.
 
-ghost use Rattle.std.specs.Prelude.{◌≡◌, ◌∷◌, [], ◌++◌, IfOk, OnOk};
+ghost use Rattle.std.specs.Prelude.{◌≡◌, ◌++◌, IfOk, OnOk};
 ghost use Rattle.cargo_meta.specs.Answer as answer;
-ghost use Rattle.cargo_meta.specs.Command.{flag_word, option_words};
+ghost use Rattle.cargo_meta.specs.Command.{option_words};
 
-use base_text::{AbsPathBuf, CommandLine, Text, TryClone};
+use base_text::{AbsPathBuf, CommandLine, Text};
+use cargo_meta::words::push_word;
 use std::alloc::{AllocError, Global};
-
-/// Puts the word behind the others.
-pub fn push_word(alloc: Global, words: &mut Vec<Text>, word: &str) -> Result<(), AllocError>
-    ensures { OnOk result (words.new.items ≡ words.old.items ++ word.now ∷ []) }
-{
-    let word = Text::of_str(alloc, word)?;
-    words.push(word)?;
-    Ok(())
-}
-
-/// Puts copies of these words behind the others.
-pub fn push_words(alloc: Global, words: &mut Vec<Text>, more: &[Text]) -> Result<(), AllocError>
-    ensures { OnOk result (words.new.items ≡ words.old.items ++ more.now) }
-{
-    for word in more {
-        words.push(word.try_clone(alloc)?)?;
-    }
-    Ok(())
-}
-
-/// Puts the word behind the others where its flag is set.
-pub fn push_flag(
-    alloc: Global,
-    words: &mut Vec<Text>,
-    is_set: bool,
-    word: &str,
-) -> Result<(), AllocError>
-    ensures { OnOk result (words.new.items ≡ words.old.items ++ flag_word is_set word.now) }
-{
-    if is_set {
-        push_word(alloc, words, word)
-    } else {
-        Ok(())
-    }
-}
 
 /// Puts the word and the path behind the others, where there is a path.
 pub fn push_path(

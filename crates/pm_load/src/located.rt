@@ -9,10 +9,10 @@ ghost use Rattle.pm_sysroot.specs.Ask.{means_of};
 
 use crate::load_error::LoadError;
 use base_text::{Runner, Text, TryClone};
+use cargo_meta::words::push_word;
 use json_fields::{ReadError, ReadJson, members, of_text, required_member};
 use pm_cargo::ManifestPath;
 use pm_config::Tool;
-use pm_fetch::words::push_word;
 use pm_reading::absolute_path;
 use pm_sysroot::{Ask, Sysroot, serving_answer};
 use serde_json::Value;

@@ -7,8 +7,8 @@ ghost use Rattle.toolchain_info.specs.Questions as spec;
 ghost use Rattle.toolchain_info.specs.Questions.{target_words};
 
 use base_text::{Text, Version};
+use cargo_meta::words::{push_flag, push_word};
 use pm_config::needs_json_flag;
-use pm_fetch::words::{push_flag, push_word};
 use pm_sysroot::words_of;
 use std::alloc::{AllocError, Global};
 

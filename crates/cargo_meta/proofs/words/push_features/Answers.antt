@@ -9,7 +9,7 @@ pub returns : goal.returns
 returns c =
     let features = c.args.features.now in
     let some = feature_words-some features (search rules) in
-    on_ok_weaker c.push-2.result
-    (λ pushed. rw some (pushed-both c.args.words.now.items c.push.new.words.items c.push-2.new.words.items
+    on_ok_weaker c.push_word-2.result
+    (λ pushed. rw some (pushed-both c.args.words.now.items c.push_word.new.words.items c.push_word-2.new.words.items
     (codes "--features") (joined_text (codes ",") features) c.as_str.result.now
-    c.in_ok-push.ensures (c.as_str.ensures.value ∙ c.in_ok-names.ensures) pushed)) c.push-2.ensures
+    c.in_ok-push_word.ensures (c.as_str.ensures.value ∙ c.in_ok-names.ensures) pushed)) c.push_word-2.ensures
