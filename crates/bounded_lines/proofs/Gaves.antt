@@ -17,11 +17,11 @@ abbrev pub reader : Part → List ℕ → ℕ → Bool → Reader
 reader part piece room done = record { part = part; piece = piece; room = room; is_done = done }
 
 -- what a part of a call kept: nothing was given, and nothing was lost
-pub record Reading (old : Reader) (left₀ left : Option (List ℕ)) (before now : ℕ) (part : Part) (piece : List ℕ) (room : ℕ) (done : Bool) : Type 0 where
-  pub keeps : (first : Option (List ℕ)) (given : List (Option (List ℕ))) → Gave first left₀ given old → Gave first left given (reader part piece room done)
-  pub few : HoldsFew old → HoldsFew (reader part piece room done)
-  pub not_done : done ≡ false
-  pub later : before ≤ now
+pub record Reading (old now : Reader) (left : Option (List ℕ) × Option (List ℕ)) (faults : ℕ × ℕ) : Type 0 where
+  pub keeps : (first : Option (List ℕ)) (given : List (Option (List ℕ))) → Gave first left.0 given old → Gave first left.1 given now
+  pub few : HoldsFew old → HoldsFew now
+  pub not_done : now.is_done ≡ false
+  pub later : faults.0 ≤ faults.1
 
 -- what is given of a last line, as a list
 pub listed : Option (Option (List ℕ)) → List (Option (List ℕ))

@@ -53,17 +53,17 @@ module _ (g : List (List ℕ)) (labels : List ℕ) (index : Index) (from to : �
 -- ---- the same of an order that is seen
 
 -- an order of a graph that is kept by some labels, and two of its nodes
-pub record IsQuestion (g : List (List ℕ)) (order : Ranking) (labels : List ℕ) (index : Index) (from to : ℕ) : Type 0 where
+pub record IsQuestion (g : List (List ℕ)) (order : Ranking) (labels : List ℕ) (index : Index) (edge : ℕ × ℕ) : Type 0 where
   pub view : ranking labels index ≡ order
   pub is : IsLabelled labels index
   pub count : length order.nodes ≡ length g
   pub in_range : IsInRange g
   pub down : Descends order.ranks g
-  pub from_in : from < length order.nodes
-  pub to_in : to < length order.nodes
+  pub from_in : edge.0 < length order.nodes
+  pub to_in : edge.1 < length order.nodes
 
 pub question : (g : List (List ℕ)) (order : Ranking) (items labels : List ℕ) (index : Index) (from to : ℕ) → labels ≡ items → ranking items index ≡ order → IsLabelled items index
-    → length order.nodes ≡ length g → IsInRange g → Descends order.ranks g → (from < length order.nodes) × (to < length order.nodes) → IsQuestion g order labels index from to
+    → length order.nodes ≡ length g → IsInRange g → Descends order.ranks g → (from < length order.nodes) × (to < length order.nodes) → IsQuestion g order labels index (from, to)
 question g order items labels index from to same view is count in_range down nodes = record {
   view = ap (λ ls. ranking ls index) same ∙ view;
   is = subst (λ ls. IsLabelled ls index) (sym same) is;
@@ -74,7 +74,7 @@ question g order items labels index from to same view is count in_range down nod
   to_in = nodes.1;
 }
 
-module _ {g : List (List ℕ)} {order : Ranking} {labels : List ℕ} {index : Index} {from to : ℕ} (q : IsQuestion g order labels index from to) where
+module _ {g : List (List ℕ)} {order : Ranking} {labels : List ℕ} {index : Index} {from to : ℕ} (q : IsQuestion g order labels index (from, to)) where
   its_count : length (ranking labels index).nodes ≡ length g
   its_count = subst (λ (o : Ranking). length o.nodes ≡ length g) (sym q.view) q.count
 

@@ -71,12 +71,12 @@ pub record IsNext (g : List (List ℕ)) (labels : List ℕ) (from to node : ℕ)
   pub found_at : visit_at found (get_or labels node 0) ≡ Some visit
   pub node_is : visit.node ≡ node
   pub gap : (l : ℕ) → get_or labels node 0 < l → l < down → visit_at found l ≡ None
-  pub found_so_far : IsFound g labels from to down found
+  pub found_so_far : IsFound g labels edge down found
 
 -- a node is next, or the search is over
 abbrev pub IsUnderWay : (g : List (List ℕ)) (labels : List ℕ) (from to : ℕ) → Option ℕ → Found → Type 0
 IsUnderWay g labels from to None found = IsSearched g labels from to found
-IsUnderWay g labels from to (Some node) found = IsNext g labels from to node found
+IsUnderWay g labels from to (Some node) found = IsNext g labels (from, to) node found
 
 -- as many steps as there are ranks above the next node's, at most
 abbrev pub Counts : (ranks : List ℕ) (from to : ℕ) → Option ℕ → (before now : ℕ) → Type 0
@@ -90,7 +90,7 @@ height labels next = option_map_or (λ node. get_or labels node 0 + 1) next 0
 -- the first node is next
 pub begun : (g : List (List ℕ)) (labels : List ℕ) (from to top : ℕ) (found empty : Found) → IsLabelling labels g → to < length labels → get_or labels from 0 ≤ get_or labels to 0
     → top ≡ get_or labels to 0 → tree.IsOrdered nat_cmp found → empty.entries ≡ []
-    → ((q : ℕ) → tree.get nat_cmp found q ≡ cond (is_eq (nat_cmp top q)) (Some (visit_by to to)) (tree.get nat_cmp empty q)) → IsNext g labels from to to found
+    → ((q : ℕ) → tree.get nat_cmp found q ≡ cond (is_eq (nat_cmp top q)) (Some (visit_by to to)) (tree.get nat_cmp empty q)) → IsNext g labels (from, to) to found
 begun g labels from to top found empty is there up top_is ordered none change =
     let put : (q : ℕ) → tree.get nat_cmp found q ≡ cond (is_eq (nat_cmp (get_or labels to 0) q)) (Some (visit_by to to)) (tree.get nat_cmp empty q) =
     λ q. change q ∙ ap (λ z. cond (is_eq (nat_cmp z q)) (Some (visit_by to to)) (tree.get nat_cmp empty q)) top_is in
@@ -145,7 +145,7 @@ module _ (g : List (List ℕ)) (labels : List ℕ) (from to : ℕ) (is : IsLabel
       label_is : get_or labels next 0 ≡ b.key
       label_is = ap (λ z. get_or labels z 0) (sym b.node_is) ∙ (so_far.named b.key b.visit b.found_at).1
 
-      step_on : IsNext g labels from to next new
+      step_on : IsNext g labels (from, to) next new
       step_on = record {
         down = get_or labels node 0;
         visit = b.visit;

@@ -78,7 +78,7 @@ taken_back s nodes place count old mid same new can within p unchanged t =
 
 -- ---- taking over
 
-pub over_none : (s : Spots) (nodes labels : List ℕ) (index : Index) → tree.IsOrdered nat_cmp index → TakesOver s nodes 0 labels index labels index
+pub over_none : (s : Spots) (nodes labels : List ℕ) (index : Index) → tree.IsOrdered nat_cmp index → TakesOver s nodes 0 (labels, index) (labels, index)
 over_none s nodes labels index ordered = record {
   labels = record { long = refl; moved = λ k below. absurd (omega (arith, below)); others = λ n none. refl };
   ordered = ordered;
@@ -89,7 +89,7 @@ over_none s nodes labels index ordered = record {
 over_at : (s : Spots) (nodes old mid : List ℕ) (place node label : ℕ) (old_index mid_index new_index : Index) → CanTakeOver s nodes old → place < length nodes
     → node ≡ get_or nodes place 0 → label ≡ get_or mid node 0 → tree.IsOrdered nat_cmp new_index
     → ((q : ℕ) → tree.get nat_cmp new_index q ≡ cond (is_eq (nat_cmp label q)) None (tree.get nat_cmp mid_index q))
-    → TakesOver s nodes place old old_index mid mid_index → TakesOver s nodes (place + 1) old old_index (set mid node (spot s place)) new_index
+    → TakesOver s nodes place (old, old_index) (mid, mid_index) → TakesOver s nodes (place + 1) (old, old_index) ((set mid node (spot s place)), new_index)
 over_at s nodes old mid place node label old_index mid_index new_index can within is label_is ordered put t =
     let there : node < length mid = omega (arith, is, can.within place within, t.labels.long) in
     let new_here : (k : ℕ) → k < place → node ≢ get_or nodes k 0 = λ k before same. can.once k place before within (sym same ∙ is) in
@@ -125,15 +125,15 @@ over_at s nodes old mid place node label old_index mid_index new_index can withi
 pub over_more : (s : Spots) (nodes old mid : List ℕ) (place node label free : ℕ) (old_index mid_index new_index : Index) → CanTakeOver s nodes old → place < length nodes
     → node ≡ get_or nodes place 0 → label ≡ get_or mid node 0 → free ≡ spot s place → tree.IsOrdered nat_cmp new_index
     → ((q : ℕ) → tree.get nat_cmp new_index q ≡ cond (is_eq (nat_cmp label q)) None (tree.get nat_cmp mid_index q))
-    → TakesOver s nodes place old old_index mid mid_index → TakesOver s nodes (place + 1) old old_index (set mid node free) new_index
+    → TakesOver s nodes place (old, old_index) (mid, mid_index) → TakesOver s nodes (place + 1) (old, old_index) ((set mid node free), new_index)
 over_more s nodes old mid place node label free old_index mid_index new_index can within is label_is free_is ordered put t =
-    subst (λ z. TakesOver s nodes (place + 1) old old_index (set mid node z) new_index) (sym free_is)
+    subst (λ z. TakesOver s nodes (place + 1) (old, old_index) ((set mid node z), new_index)) (sym free_is)
     (over_at s nodes old mid place node label old_index mid_index new_index can within is label_is ordered put t)
 
 -- ---- all together
 
 module _ (s : Spots) (nodes old new : List ℕ) (old_index mid_index new_index : Index) (is : IsLabelled old old_index) (can : CanMove s nodes old old_index)
-    (p : PutsIn s nodes (length nodes) old_index mid_index) (t : TakesOver s nodes (length nodes) old mid_index new new_index) where
+    (p : PutsIn s nodes (length nodes) old_index mid_index) (t : TakesOver s nodes (length nodes) (old, mid_index) (new, new_index)) where
   -- the old label of a node is not one of the row
   old_label : (n k : ℕ) → n < length old → k < length nodes → get_or old n 0 ≢ spot s k
   old_label n k there below same =

@@ -35,7 +35,7 @@ follows_none labels row low node found = record {
   followed = λ e below inside. absurd (omega (arith, below));
 }
 
-noted_more : (labels row : List ℕ) (low node count l : ℕ) (v : Visit) → IsNoted labels row low node count l v → IsNoted labels row low node (count + 1) l v
+noted_more : (labels row : List ℕ) (low node count l : ℕ) (v : Visit) → IsNoted (first_edges labels row low node count) l v → IsNoted (first_edges labels row low node (count + 1)) l v
 noted_more labels row low node count l v n = record {
   edge = n.edge;
   within = omega (arith, n.within);
@@ -61,7 +61,7 @@ follows_low labels row low node count old new below f = record {
 pub follows_more : (labels row : List ℕ) (low node count target label : ℕ) (visit : Visit) (old mid new : Found)
     → target ≡ get_or row count 0 → label ≡ get_or labels target 0 → low ≤ label → visit ≡ record { node = target; by = node }
     → tree.IsOrdered nat_cmp new → ((q : ℕ) → tree.get nat_cmp new q ≡ cond (is_eq (nat_cmp label q)) (Some visit) (tree.get nat_cmp mid q))
-    → Follows labels row low node count old mid → Follows labels row low node (count + 1) old new
+    → Follows (first_edges labels row low node count) old mid → Follows (first_edges labels row low node (count + 1)) old new
 follows_more labels row low node count target label visit old mid new target_is label_is from visit_is ordered put f =
     let here : visit_at new label ≡ Some visit = at_key new mid label (Some visit) put in
     let there : (l : ℕ) → l ≢ label → visit_at new l ≡ visit_at mid l = λ l other. at_other new mid label (Some visit) put l other in
@@ -105,7 +105,7 @@ module _ (g : List (List ℕ)) (labels : List ℕ) (from to : ℕ) (is : IsLabel
   pub found_start : (found empty : Found) (visit : Visit) → to < length labels → get_or labels from 0 ≤ get_or labels to 0 → visit ≡ record { node = to; by = to }
       → tree.IsOrdered nat_cmp found → ((q : ℕ) → tree.get nat_cmp empty q ≡ None)
       → ((q : ℕ) → tree.get nat_cmp found q ≡ cond (is_eq (nat_cmp (get_or labels to 0) q)) (Some visit) (tree.get nat_cmp empty q))
-      → IsFound g labels from to (get_or labels to 0 + 1) found
+      → IsFound g labels (from, to) (get_or labels to 0 + 1) found
   found_start found empty visit there up visit_is ordered none put =
       let top = get_or labels to 0 in
       let here : visit_at found top ≡ Some visit = at_key found empty top (Some visit) put in
@@ -128,7 +128,7 @@ module _ (g : List (List ℕ)) (labels : List ℕ) (from to : ℕ) (is : IsLabel
       }
 
   -- what a new entry says
-  noted_leads : (node l : ℕ) (v : Visit) → IsNoted labels (row g node) (get_or labels from 0) node (length (row g node)) l v
+  noted_leads : (node l : ℕ) (v : Visit) → IsNoted (first_edges labels (row g node) (get_or labels from 0) node (length (row g node))) l v
       → HasEdge g node v.node × (v.node < length labels) × (get_or labels v.node 0 ≡ l) × (l < get_or labels node 0)
   noted_leads node l v n =
       let edge : HasEdge g node v.node = subst (HasEdge g node) (sym n.node_is) (edge_of g node n.edge n.within) in
@@ -139,7 +139,7 @@ module _ (g : List (List ℕ)) (labels : List ℕ) (from to : ℕ) (is : IsLabel
   pub found_more : (down node : ℕ) (old new : Found) → node < length labels → (visit : Visit) → visit_at old (get_or labels node 0) ≡ Some visit → visit.node ≡ node
       → Follows labels (row g node) (get_or labels from 0) node (length (row g node)) old new
       → ((l : ℕ) → get_or labels node 0 < l → l < down → visit_at old l ≡ None)
-      → IsFound g labels from to down old → IsFound g labels from to (get_or labels node 0) new
+      → IsFound g labels (from, to) down old → IsFound g labels (from, to) (get_or labels node 0) new
   found_more down node old new there visit at visit_is f gap o =
       let here = get_or labels node 0 in
       let own : Reaches g to node = subst (Reaches g to) visit_is (o.reached here visit at) in

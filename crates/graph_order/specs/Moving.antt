@@ -42,11 +42,11 @@ abbrev pub Relabels : Spots → List ℕ → List ℕ → List ℕ → Type 0
 Relabels s nodes old new = RelabelsFirst s nodes (length nodes) old new
 
 -- the first so many nodes have new labels, and stand no more under the old ones
-pub record TakesOver (s : Spots) (nodes : List ℕ) (count : ℕ) (old : List ℕ) (old_index : Index) (new : List ℕ) (new_index : Index) : Type 0 where
-  pub labels : RelabelsFirst s nodes count old new
-  pub ordered : tree.IsOrdered nat_cmp new_index
-  pub gone : (k : ℕ) → k < count → tree.get nat_cmp new_index (slice_index old (slice_index nodes k)) ≡ None
-  pub stays : (l : ℕ) → ((k : ℕ) → k < count → l ≢ slice_index old (slice_index nodes k)) → tree.get nat_cmp new_index l ≡ tree.get nat_cmp old_index l
+pub record TakesOver (s : Spots) (nodes : List ℕ) (count : ℕ) (old new : List ℕ × Index) : Type 0 where
+  pub labels : RelabelsFirst s nodes count old.0 new.0
+  pub ordered : tree.IsOrdered nat_cmp new.1
+  pub gone : (k : ℕ) → k < count → tree.get nat_cmp new.1 (slice_index old.0 (slice_index nodes k)) ≡ None
+  pub stays : (l : ℕ) → ((k : ℕ) → k < count → l ≢ slice_index old.0 (slice_index nodes k)) → tree.get nat_cmp new.1 l ≡ tree.get nat_cmp old.1 l
 
 -- a row of labels is free for nodes that are there, each once, and lies below the label of the next node
 pub record CanMove (s : Spots) (nodes labels : List ℕ) (index : Index) : Type 0 where

@@ -39,8 +39,19 @@ abbrev pub RisesWith : List ℕ → List ℕ → Type 0
 RisesWith labels ranks = (m n : ℕ) → m < length labels → n < length labels → slice_index labels m < slice_index labels n
     → slice_index ranks m < slice_index ranks n
 
--- one of the first so many edges of a node's row leads to a label from `low` on
-pub record IsNoted (labels row : List ℕ) (low node count label : ℕ) (visit : Visit) : Type 0 where
+-- the first so many edges of a node, among nodes of these labels: those are followed that lead to a label from `low` on
+pub record FirstEdges : Type 0 where
+  pub labels : List ℕ
+  pub row : List ℕ
+  pub low : ℕ
+  pub node : ℕ
+  pub count : ℕ
+
+abbrev pub first_edges : (labels row : List ℕ) (low node count : ℕ) → FirstEdges
+first_edges labels row low node count = record { labels = labels; row = row; low = low; node = node; count = count }
+
+-- one of the edges leads to a label from `low` on
+pub record IsNoted (edges : FirstEdges) (label : ℕ) (visit : Visit) : Type 0 where
   pub edge : ℕ
   pub within : edge < count
   pub node_is : visit.node ≡ slice_index row edge
@@ -52,9 +63,9 @@ pub record IsNoted (labels row : List ℕ) (low node count label : ℕ) (visit :
 pub record Follows (labels row : List ℕ) (low node count : ℕ) (old new : Found) : Type 0 where
   pub ordered : tree.IsOrdered nat_cmp old → tree.IsOrdered nat_cmp new
   pub kept : (l : ℕ) → is_some (visit_at old l) ≡ true → is_some (visit_at new l) ≡ true
-  pub noted : (l : ℕ) (v : Visit) → visit_at new l ≡ Some v → (visit_at old l ≡ Some v) ⊎ IsNoted labels row low node count l v
-  pub followed : (e : ℕ) → e < count → low ≤ slice_index labels (slice_index row e)
-      → IsVisited new labels (slice_index row e)
+  pub noted : (l : ℕ) (v : Visit) → visit_at new l ≡ Some v → (visit_at old l ≡ Some v) ⊎ IsNoted edges l v
+  pub followed : (e : ℕ) → e < edges.count → edges.low ≤ slice_index edges.labels (slice_index edges.row e)
+      → IsVisited new edges.labels (slice_index edges.row e)
 
 -- nothing is found below a label
 abbrev pub NoneBelow : Found → ℕ → Type 0
@@ -73,12 +84,13 @@ pub record IsNextBelow (found : Found) (label node : ℕ) : Type 0 where
 -- followed as far as `from`
 pub record IsFound (g : List (List ℕ)) (labels : List ℕ) (from to down : ℕ) (found : Found) : Type 0 where
   pub ordered : tree.IsOrdered nat_cmp found
-  pub begun : IsVisited found labels to
-  pub named : (l : ℕ) (v : Visit) → visit_at found l ≡ Some v → (v.node < length labels) × (slice_index labels v.node ≡ l) × (slice_index labels from ≤ l) × (l ≤ slice_index labels to)
-  pub reached : (l : ℕ) (v : Visit) → visit_at found l ≡ Some v → Reaches g to v.node
-  pub linked : (l : ℕ) (v : Visit) → visit_at found l ≡ Some v → v.node ≢ to → HasEdge g v.by v.node × IsVisited found labels v.by
+  pub begun : IsVisited found labels edge.1
+  pub named : (l : ℕ) (v : Visit) → visit_at found l ≡ Some v
+      → (v.node < length labels) × (slice_index labels v.node ≡ l) × (slice_index labels edge.0 ≤ l) × (l ≤ slice_index labels edge.1)
+  pub reached : (l : ℕ) (v : Visit) → visit_at found l ≡ Some v → Reaches g edge.1 v.node
+  pub linked : (l : ℕ) (v : Visit) → visit_at found l ≡ Some v → v.node ≢ edge.1 → HasEdge g v.by v.node × IsVisited found labels v.by
   pub followed : (l : ℕ) (v : Visit) (b : ℕ) → visit_at found l ≡ Some v → down ≤ l → HasEdge g v.node b
-      → slice_index labels from ≤ slice_index labels b → IsVisited found labels b
+      → slice_index labels edge.0 ≤ slice_index labels b → IsVisited found labels b
 
 -- the search is over: exactly the nodes are found that `to` reaches and that do not lie below `from`
 abbrev pub IsSearched : List (List ℕ) → List ℕ → ℕ → ℕ → Found → Type 0

@@ -48,8 +48,8 @@ fn put_in(index: &mut BTreeMap<u64, u32>, nodes: &[u32], spots: Spots) -> Result
 fn take_over(labels: &mut Vec<u64>, index: &mut BTreeMap<u64, u32>, nodes: &[u32], spots: Spots)
     requires ordered { tree.IsOrdered nat_cmp index.old }
     requires can { CanTakeOver spots nodes.now labels.old.items }
-    ensures { TakesOver spots nodes.now (length nodes.now)
-        labels.old.items index.old labels.new.items index.new }
+    ensures { TakesOver spots nodes.now (length nodes.now) (labels.old.items, index.old)
+        (labels.new.items, index.new) }
 {
     for (place, node) in nodes.iter().enumerate() {
         let label = labels[*node as usize];

@@ -50,8 +50,8 @@ fn follow<G: Graph>(
 ) -> Result<(), AllocError>
     requires labelling { IsLabelling labels.now (G.rows graph.now) }
     requires node { node < length labels.now }
-    ensures { OnOk result (Follows labels.now (row (G.rows graph.now) node) low node
-        (length (row (G.rows graph.now) node)) found.old found.new) }
+    ensures { OnOk result (Follows (first_edges labels.now (row (G.rows graph.now) node) low node
+        (length (row (G.rows graph.now) node))) found.old found.new) }
 {
     for edge in 0..graph.degree(node) {
         let target = graph.target(node, edge);

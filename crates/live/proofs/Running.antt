@@ -26,15 +26,15 @@ use Rattle.live.proofs.Statuses.{among}
 use Rattle.live.proofs.Deciding.{Front-session, Ran-within, Stops-limit, Stops-session, session-within}
 
 -- between two lines: these lines were given, and their turns were taken
-pub record Running (live₀ : Live) (left₀ left held₀ held : Option (List ℕ)) (limit : ℕ) (reader : Reader) (number : ℕ) (live : Live) : Type 0 where
+pub record Running (lives : Live × Live) (left held : Option (List ℕ) × Option (List ℕ)) (limit : ℕ) (lines : Reader × ℕ) : Type 0 where
   pub given : List (List ℕ)
-  pub gave : Gave limit left₀ left given reader
-  pub ran : (s : State) → Holds live₀ s → Ran (turns s given) live (held₀, held)
-  pub numbered : (s : State) → Holds live₀ s → number ≡ (turns s given).lines
-  pub few : number + bytes_ahead reader ≤ limit
-  pub not_ended : reader.has_ended ≡ false
-  pub going : live.ended ≡ live₀.ended
-  pub is_limit : limit ≡ live₀.config.limits.bytes
+  pub gave : Gave limit left.0 left.1 given lines.0
+  pub ran : (s : State) → Holds lives.0 s → Ran (turns s given) lives.1 held
+  pub numbered : (s : State) → Holds lives.0 s → lines.1 ≡ (turns s given).lines
+  pub few : lines.1 + bytes_ahead lines.0 ≤ limit
+  pub not_ended : lines.0.has_ended ≡ false
+  pub going : lives.1.ended ≡ lives.0.ended
+  pub is_limit : limit ≡ lives.0.config.limits.bytes
   pub small : limit ≤ 2 ^ 30
 
 module _ (limit : ℕ) (left₀ left : Option (List ℕ)) (given : List (List ℕ)) (reader : Reader) (gave : Gave limit left₀ left given reader) where
@@ -113,7 +113,7 @@ module _ (limit : ℕ) (left₀ left : Option (List ℕ)) (given : List (List �
         ] gave.cut
 
 -- before the first line
-pub Running-start : (live : Live) (left held : Option (List ℕ)) (limit : ℕ) → limit ≡ live.config.limits.bytes → limit ≤ 2 ^ 30 → Running live left left held held limit (fresh limit) 0 live
+pub Running-start : (live : Live) (left held : Option (List ℕ)) (limit : ℕ) → limit ≡ live.config.limits.bytes → limit ≤ 2 ^ 30 → Running (live, live) (left, left) (held, held) limit (fresh limit, 0)
 Running-start live left held limit same small = record {
   given = [];
   gave = Gave-fresh limit left;
@@ -202,7 +202,7 @@ pub completes_ok : (s : State) (all : List ℕ) (live : Live) (left₀ left held
 completes_ok s all live left₀ left held₀ held known finishes =
     subst (λ bs. (session s bs).refusal ≡ None) (sym (Knows-all left₀ left all finishes.bytes known finishes.read finishes.at_end)) finishes.ran.accepted
 
-module _ (live₀ : Live) (left₀ left held₀ held : Option (List ℕ)) (limit : ℕ) (reader : Reader) (number : ℕ) (live : Live) (run : Running live₀ left₀ left held₀ held limit reader number live) where
+module _ (live₀ : Live) (left₀ left held₀ held : Option (List ℕ)) (limit : ℕ) (reader : Reader) (number : ℕ) (live : Live) (run : Running (live₀, live) (left₀, left) (held₀, held) limit (reader, number)) where
   limit_of : (s : State) → Holds live₀ s → limit ≡ s.config.limits.bytes
   limit_of s h = run.is_limit ∙ ap (λ c. c.limits.bytes) h.config
 
@@ -233,7 +233,7 @@ module _ (live₀ : Live) (left₀ left held₀ held : Option (List ℕ)) (limit
 
     -- its turn was taken
     pub Running-line : (live' : Live) (held' : Option (List ℕ)) → ((t : State) → Holds live t → TakesTurn (turn_of t (number + 1) (event line)) live' (held, held'))
-        → live'.ended ≡ live.ended → bytes_ahead reader' < bytes_ahead reader → reader'.has_ended ≡ false → Running live₀ left₀ left' held₀ held' limit reader' (number + 1) live'
+        → live'.ended ≡ live.ended → bytes_ahead reader' < bytes_ahead reader → reader'.has_ended ≡ false → Running (live₀, live') (left₀, left') (held₀, held') limit (reader', number + 1)
     Running-line live' held' takes same less unended = record {
       given = run.given ++ line ∷ [];
       gave = gave';

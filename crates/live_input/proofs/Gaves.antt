@@ -20,15 +20,15 @@ use Rattle.std.proofs.Math.Seq.{take-append-add, take-append_seam}
 abbrev pub reader : List ℕ → List ℕ → ℕ → Bool → Bool → Bool → Reader
 reader line piece room past done ended = record { waiting = line ++ piece; room = room; is_past = past; is_done = done; has_ended = ended }
 
--- what a part of a call kept: nothing was given, and nothing was lost
-pub record Reading (old : Reader) (left₀ left : Option (List ℕ)) (before now : ℕ) (line piece : List ℕ) (room : ℕ) (past done ended : Bool) : Type 0 where
-  pub keeps : (limit : ℕ) (first : Option (List ℕ)) (given : List (List ℕ)) → Gave limit first left₀ given old → Gave limit first left given (reader line piece room past done ended)
-  pub uncut : has_newline line ≡ false
-  pub small : room + 1 < 2 ^ 64
-  pub ahead : length line + length piece + room ≤ bytes_ahead old
-  pub not_done : done ≡ false
-  pub not_ended : ended ≡ false
-  pub later : before ≤ now
+-- what a part of a call kept, where so much of what waits is the line: nothing was given, and nothing was lost
+pub record Reading (old now : Reader) (parts : List ℕ × List ℕ) (left : Option (List ℕ) × Option (List ℕ)) (faults : ℕ × ℕ) : Type 0 where
+  pub keeps : (limit : ℕ) (first : Option (List ℕ)) (given : List (List ℕ)) → Gave limit first left.0 given old → Gave limit first left.1 given now
+  pub uncut : has_newline parts.0 ≡ false
+  pub small : now.room + 1 < 2 ^ 64
+  pub ahead : length parts.0 + length parts.1 + now.room ≤ bytes_ahead old
+  pub not_done : now.is_done ≡ false
+  pub not_ended : now.has_ended ≡ false
+  pub later : faults.0 ≤ faults.1
 
 -- a line and a piece stay the same bytes where a part is moved
 pub moved : (found : Bool) (piece piece' line line' : List ℕ) → Moves found piece piece' line line' → line ++ piece ≡ line' ++ rest_of found piece'

@@ -149,14 +149,14 @@ take_package members limits contents p =
     Ok (with_package members contents manifest p targets)) else Err (TooMany Packages)
 
 -- what is read of one more package, and all targets with its own, where none of them is refused
-pub record ArePartsOf (members : List PackageId) (limits : Limits) (contents : Contents) (p : Package) (targets : List TargetData) (parts : PackageParts) : Type 0 where
-  pub room : length contents.packages < limits.packages
+pub record ArePartsOf (by : List PackageId × Limits) (contents : Contents) (p : Package) (targets : List TargetData) (parts : PackageParts) : Type 0 where
+  pub room : length contents.packages < by.1.packages
   pub manifest : manifest_path p.manifest_path ≡ Ok parts.manifest
-  pub taken : take_each (take_target limits.targets (length contents.packages) parts.manifest) contents.targets p.targets ≡ Ok targets
+  pub taken : take_each (take_target by.1.targets (length contents.packages) parts.manifest) contents.targets p.targets ≡ Ok targets
   pub few : length contents.packages + 1 < 2 ^ 32
   pub short : length targets < 2 ^ 32
   pub id : parts.id ≡ p.id
-  pub is_member : parts.is_member ≡ is_listed members p.id
+  pub is_member : parts.is_member ≡ is_listed by.0 p.id
   pub ids : parts.targets ≡ ids_between (length contents.targets) (length targets)
 
 -- the packages of a document and their targets, in the order of the packages' ids

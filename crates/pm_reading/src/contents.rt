@@ -160,7 +160,7 @@ impl ContentsBuilder {
         requires short { length self.old.targets < 2 ^ 32 }
         ensures refused { IfErr result (λ e. Refuses e
             (take_package members.now limits.now self.old «package».old)) }
-        ensures parts { IfOk result (ArePartsOf members.now limits.now self.old
+        ensures parts { IfOk result (ArePartsOf (members.now, limits.now) self.old
             «package».old self.new.targets) }
         ensures packages { self.new.packages ≡ self.old.packages }
         ensures others { OnOk result («package».new ≡ record «package».old {

@@ -72,12 +72,12 @@ module _ (w : Workspace) (shared : CrateWorkspaceData) where
 
 module _ (w : Workspace) (shared : CrateWorkspaceData) (of : PackageData) (all : List (Option ℕ)) where
   -- the rows of a package as far as its targets are looked at: those at a place and behind it are left
-  pub record Gathers (place : ℕ) (rest : List (Option ℕ)) (old new : Graph) (rows : List Row) (lib : Option Row) : Type 0 where
-    pub rows_are : rows ++ rows_from of (length new.crates) (found_targets w of place rest) ≡ (owner_by w (length old.crates) of all).rows
+  pub record Gathers (left : ℕ × List (Option ℕ)) (old new : Graph) (rows : List Row) (lib : Option Row) : Type 0 where
+    pub rows_are : rows ++ rows_from of (length new.crates) (found_targets w of left.0 left.1) ≡ (owner_by w (length old.crates) of all).rows
     pub adds : AddsRows w shared old new rows
     pub lib_is : lib ≡ library rows
 
-  pub gathers_none : (old : Graph) → Gathers 0 all old old [] None
+  pub gathers_none : (old : Graph) → Gathers (0, all) old old [] None
   gathers_none old = record { rows_are = refl; adds = adds_none w shared old; lib_is = refl }
 
   targets_more : (place : ℕ) (file : Option ℕ) (rest : List (Option ℕ)) (o : Option (TargetData × ℕ)) → found_target w (slice_get of.targets place) file ≡ o
@@ -85,7 +85,7 @@ module _ (w : Workspace) (shared : CrateWorkspaceData) (of : PackageData) (all :
   targets_more place file rest o is = ap (λ x. option_to_list (option_map (λ (t : TargetData × ℕ). (place, t.0, t.1)) x) ++ found_targets w of (place + 1) rest) is
 
   pub gathers_past : (place : ℕ) (file : Option ℕ) (rest : List (Option ℕ)) (old new : Graph) (rows : List Row) (lib : Option Row) → found_target w (slice_get of.targets place) file ≡ None
-      → Gathers place (file ∷ rest) old new rows lib → Gathers (place + 1) rest old new rows lib
+      → Gathers (place, file ∷ rest) old new rows lib → Gathers (place + 1, rest) old new rows lib
   gathers_past place file rest old new rows lib not_live g = record {
     rows_are = ap (λ ts. rows ++ rows_from of (length new.crates) ts) (sym (targets_more place file rest None not_live)) ∙ g.rows_are;
     adds = g.adds;
@@ -96,7 +96,7 @@ module _ (w : Workspace) (shared : CrateWorkspaceData) (of : PackageData) (all :
   pub gathers_row : (place : ℕ) (file : Option ℕ) (rest : List (Option ℕ)) (old mid new : Graph) (rows more : List Row) (lib lib' : Option Row) (b : Bool) (t : TargetData × ℕ) (r : Row)
       → found_target w (slice_get of.targets place) file ≡ Some t → is_lib r.target.kind ≡ b → r ≡ row_at of (place, t.0, t.1) (length mid.crates)
       → AddsRows w shared mid new (r ∷ []) → more ≡ rows ++ r ∷ [] → lib' ≡ cond b (Some r) lib
-      → Gathers place (file ∷ rest) old mid rows lib → Gathers (place + 1) rest old new more lib'
+      → Gathers (place, file ∷ rest) old mid rows lib → Gathers (place + 1, rest) old new more lib'
   gathers_row place file rest old mid new rows more lib lib' b t r live its row adds more_is lib_is g =
       let others = found_targets w of (place + 1) rest in
       let count : length new.crates ≡ length mid.crates + 1 = count_added w shared mid new (r ∷ []) adds in
@@ -109,7 +109,7 @@ module _ (w : Workspace) (shared : CrateWorkspaceData) (of : PackageData) (all :
       }
 
   pub gathers_full : (place : ℕ) (file : Option ℕ) (rest : List (Option ℕ)) (old new : Graph) (rows : List Row) (lib : Option Row) (t : TargetData × ℕ) → found_target w (slice_get of.targets place) file ≡ Some t
-      → length new.crates ≡ new.limit → Gathers place (file ∷ rest) old new rows lib → old.limit < length old.crates + length (owner_by w (length old.crates) of all).rows
+      → length new.crates ≡ new.limit → Gathers (place, file ∷ rest) old new rows lib → old.limit < length old.crates + length (owner_by w (length old.crates) of all).rows
   gathers_full place file rest old new rows lib t live full g =
       let others = found_targets w of (place + 1) rest in
       let r : Row = row_at of (place, t.0, t.1) (length new.crates) in
@@ -117,7 +117,7 @@ module _ (w : Workspace) (shared : CrateWorkspaceData) (of : PackageData) (all :
       let long = sym (ap length same) ∙ length-append rows (r ∷ rows_from of (length new.crates + 1) others) in
       omega (arith, long, count_added w shared old new rows g.adds, g.adds.limit)
 
-  pub gathers_all : (place : ℕ) (old new : Graph) (rows : List Row) (lib : Option Row) → Gathers place [] old new rows lib → record { of = of; rows = rows } ≡ owner_by w (length old.crates) of all
+  pub gathers_all : (place : ℕ) (old new : Graph) (rows : List Row) (lib : Option Row) → Gathers (place, []) old new rows lib → record { of = of; rows = rows } ≡ owner_by w (length old.crates) of all
   gathers_all place old new rows lib g = ap (λ rs. record { of = of; rows = rs }) (sym (append-nil rows) ∙ g.rows_are)
 
 -- ---- the rows of all packages

@@ -67,21 +67,21 @@ PutsRoot_other old new kind root number differs same = record {
 }
 
 -- where roots are still to be put: with those, each text has what it has after all
-pub record PutsRest {Z : Type 0} (kind : Bool) (roots : List PathContent) (number index : ℕ) (old now : List (Vec ℕ Z × ℕ)) : Type 0 where
+pub record PutsRest {Z : Type 0} (of : Bool × List PathContent) (number index : ℕ) (old now : List (Vec ℕ Z × ℕ)) : Type 0 where
   pub each : (text : List ℕ)
-      → cond (list_any (is_root_of kind text) (drop index roots)) (Some number) (number_at text now)
-      ≡ cond (list_any (is_root_of kind text) roots) (Some number) (number_at text old)
+      → cond (list_any (is_root_of of.0 text) (drop index of.1)) (Some number) (number_at text now)
+      ≡ cond (list_any (is_root_of of.0 text) of.1) (Some number) (number_at text old)
 
 -- before the first root
 pub puts_rest_all : {Z : Type 0} (kind : Bool) (roots : List PathContent) (number : ℕ) (old : List (Vec ℕ Z × ℕ))
-    → PutsRest kind roots number 0 old old
+    → PutsRest (kind, roots) number 0 old old
 puts_rest_all kind roots number old = record { each = λ text. refl }
 
 -- after one root more
 pub puts_rest_more : {Z : Type 0} (kind : Bool) (roots : List PathContent) (root : PathContent) (number index : ℕ)
-    → (old before after : List (Vec ℕ Z × ℕ)) → PutsRest kind roots number index old before → index < length roots
+    → (old before after : List (Vec ℕ Z × ℕ)) → PutsRest (kind, roots) number index old before → index < length roots
     → root ≡ get_or roots index root → PutsRoot kind root number before after
-    → PutsRest kind roots number (index + 1) old after
+    → PutsRest (kind, roots) number (index + 1) old after
 puts_rest_more kind roots root number index old before after rest inside is puts =
     let cut : drop index roots ≡ root ∷ drop (index + 1) roots =
     drop-cons roots index root inside ∙ ap (λ r. r ∷ drop (suc index) roots) (sym is)
@@ -97,7 +97,7 @@ puts_rest_more kind roots root number index old before after rest inside is puts
 
 -- after the last root
 pub puts_rest_none : {Z : Type 0} (kind : Bool) (roots : List PathContent) (number index : ℕ) (old now : List (Vec ℕ Z × ℕ))
-    → PutsRest kind roots number index old now → index ≡ length roots → PutsRootsOf kind roots number old now
+    → PutsRest (kind, roots) number index old now → index ≡ length roots → PutsRootsOf kind roots number old now
 puts_rest_none kind roots number index old now rest e = record {
   each = λ text.
       sym (ap (λ (rs : List PathContent). cond (list_any (is_root_of kind text) rs) (Some number) (number_at text now))

@@ -79,14 +79,14 @@ module _ (set left : FileSetContent) (rows : List (ℕ × PathContent)) (i : ℕ
       ∙ ap (λ r. files_eq left (rows_content (r ∷ drop (i + 1) rows))) (sym is)
 
   -- the next file is another
-  pub other_file : (files : List (PathContent × ℕ)) (is_next : Bool) → ComparesNext vfs_path_eq nat_eq left.files files (row.1, row.0) is_next
+  pub other_file : (files : List (PathContent × ℕ)) (is_next : Bool) → ComparesNext vfs_path_eq nat_eq left.files files ((row.1, row.0), is_next)
       → is_next ≡ false → false ≡ files_eq set (rows_content rows)
   other_file files is_next compares differs = sym (at_row
       ∙ ap (λ b. b && entries_eq nat_eq vfs_path_eq left.paths (row ∷ behind.paths))
       (compares.each behind.files ∙ ap (λ b. b && entries_eq vfs_path_eq nat_eq files behind.files) differs))
 
   -- the next path is another
-  pub other_path : (paths : List (ℕ × PathContent)) (is_next : Bool) → ComparesNext nat_eq vfs_path_eq left.paths paths row is_next
+  pub other_path : (paths : List (ℕ × PathContent)) (is_next : Bool) → ComparesNext nat_eq vfs_path_eq left.paths paths (row, is_next)
       → is_next ≡ false → false ≡ files_eq set (rows_content rows)
   other_path paths is_next compares differs = sym (at_row
       ∙ ap (λ b. entries_eq vfs_path_eq nat_eq left.files ((row.1, row.0) ∷ behind.files) && b)
@@ -95,7 +95,7 @@ module _ (set left : FileSetContent) (rows : List (ℕ × PathContent)) (i : ℕ
 
   -- both are those of the row
   pub same_row : (files : List (PathContent × ℕ)) (paths : List (ℕ × PathContent)) (is_file is_path : Bool)
-      → ComparesNext vfs_path_eq nat_eq left.files files (row.1, row.0) is_file → ComparesNext nat_eq vfs_path_eq left.paths paths row is_path
+      → ComparesNext vfs_path_eq nat_eq left.files files ((row.1, row.0), is_file) → ComparesNext nat_eq vfs_path_eq left.paths paths (row, is_path)
       → is_file ≡ true → is_path ≡ true → files_eq set (rows_content rows) ≡ files_eq (record { files = files; paths = paths }) behind
   same_row files paths is_file is_path compares_file compares_path file_same path_same =
       at_row ∙ (λ j. compares_file.each behind.files j && compares_path.each behind.paths j)

@@ -142,7 +142,7 @@ impl PartialEq for FileMaps {
 
 /// Takes the next entry, and tells whether it is this one.
 fn is_next<K: PartialEq, V: PartialEq>(entries: &mut Iter<'_, K, V>, key: &K, value: &V) -> bool
-    ensures { ComparesNext K.eq V.eq entries.old entries.new (key.now, value.now) result }
+    ensures { ComparesNext K.eq V.eq entries.old entries.new ((key.now, value.now), result) }
 {
     match entries.next() {
         Some((next_key, next_value)) => next_key == key && next_value == value,

@@ -18,14 +18,14 @@ loop-next-init g c = record {
 pub follow-requires-clause-node : goal.follow-requires-clause-node
 follow-requires-clause-node g c =
     let rows = g.G.Graph.rows c.args.graph.now in
-    let n : IsNext (g.G.Graph.rows c.args.graph.now) c.args.labels.now c.args.from c.args.to c.in-Some.node c.loop-next.found =
+    let n : IsNext (g.G.Graph.rows c.args.graph.now) c.args.labels.now (c.args.from, c.args.to) c.in-Some.node c.loop-next.found =
     subst (λ o. IsUnderWay rows c.args.labels.now c.args.from c.args.to o c.loop-next.found) c.in-Some.is c.loop-next.invariant.way in
     n.there
 
 pub label_of-here-requires : goal.label_of-here-requires
 label_of-here-requires g c =
     let rows = g.G.Graph.rows c.args.graph.now in
-    let n : IsNext (g.G.Graph.rows c.args.graph.now) c.args.labels.now c.args.from c.args.to c.in-Some.node c.loop-next.found =
+    let n : IsNext (g.G.Graph.rows c.args.graph.now) c.args.labels.now (c.args.from, c.args.to) c.in-Some.node c.loop-next.found =
     subst (λ o. IsUnderWay rows c.args.labels.now c.args.from c.args.to o c.loop-next.found) c.in-Some.is c.loop-next.invariant.way in
     n.there
 
@@ -34,7 +34,7 @@ returns-in_err-follow-clause-steps g c = λ ranks rises.
     let rows = g.G.Graph.rows c.args.graph.now in
     let before = g.L.Ledger.count c.args.steps.now.ledger in
     let now = g.L.Ledger.count c.loop-next.steps.ledger in
-    let n : IsNext (g.G.Graph.rows c.args.graph.now) c.args.labels.now c.args.from c.args.to c.in-Some.node c.loop-next.found =
+    let n : IsNext (g.G.Graph.rows c.args.graph.now) c.args.labels.now (c.args.from, c.args.to) c.in-Some.node c.loop-next.found =
     subst (λ o. IsUnderWay rows c.args.labels.now c.args.from c.args.to o c.loop-next.found) c.in-Some.is c.loop-next.invariant.way in
     counts_last rows c.args.labels.now c.args.from c.args.to c.requires.labelling c.requires.nodes.0 ranks c.in-Some.node before now (g.L.Ledger.count c.tick.new.self) c.loop-next.found rises n
     (omega (arith, c.tick.ensures)) (subst (λ o. Counts ranks c.args.from c.args.to o before now) c.in-Some.is (c.loop-next.invariant.steps ranks rises))
@@ -45,7 +45,7 @@ loop-next-preserved g c =
     let labels = c.args.labels.now in
     let before = g.L.Ledger.count c.args.steps.now.ledger in
     let now = g.L.Ledger.count c.loop-next.steps.ledger in
-    let n : IsNext (g.G.Graph.rows c.args.graph.now) c.args.labels.now c.args.from c.args.to c.in-Some.node c.loop-next.found =
+    let n : IsNext (g.G.Graph.rows c.args.graph.now) c.args.labels.now (c.args.from, c.args.to) c.in-Some.node c.loop-next.found =
     subst (λ o. IsUnderWay rows labels c.args.from c.args.to o c.loop-next.found) c.in-Some.is c.loop-next.invariant.way in
     record {
       way = turn rows labels c.args.from c.args.to c.requires.labelling c.requires.nodes.0 c.label_of-low.result c.label_of-here.result c.in-Some.node c.loop-next.found c.follow.new.found
@@ -61,7 +61,7 @@ pub loop-next-smaller : goal.loop-next-smaller
 loop-next-smaller g c =
     let rows = g.G.Graph.rows c.args.graph.now in
     let labels = c.args.labels.now in
-    let n : IsNext (g.G.Graph.rows c.args.graph.now) c.args.labels.now c.args.from c.args.to c.in-Some.node c.loop-next.found =
+    let n : IsNext (g.G.Graph.rows c.args.graph.now) c.args.labels.now (c.args.from, c.args.to) c.in-Some.node c.loop-next.found =
     subst (λ o. IsUnderWay rows labels c.args.from c.args.to o c.loop-next.found) c.in-Some.is c.loop-next.invariant.way in
     turn_smaller rows labels c.args.from c.args.to c.requires.labelling c.requires.nodes.0 c.label_of-low.result c.label_of-here.result c.in-Some.node c.loop-next.found c.follow.new.found
     c.next_below-next.result c.label_of-low.ensures c.label_of-here.ensures n c.in_ok-follow.ensures c.next_below-next.ensures.some c.next_below-next.ensures.none c.loop-next.next c.in-Some.is

@@ -20,8 +20,8 @@ loop-place-preserved c =
     let lib = c.loop-place.library in
     let rest = drop (place + 1) files in
     let found = found_target w (slice_get of.targets place) file in
-    let before : Gathers w shared of files place (file ∷ rest) old mid rows lib =
-    subst (λ r. Gathers w shared of files place r old mid rows lib) (drop_next files place file c.loop-place-test.true c.index-files-place.is) c.loop-place.invariant in
+    let before : Gathers w shared of files (place, file ∷ rest) old mid rows lib =
+    subst (λ r. Gathers w shared of files (place, r) old mid rows lib) (drop_next files place file c.loop-place-test.true c.index-files-place.is) c.loop-place.invariant in
     let made : c.row_of.result ≡ option_map (λ t. row_at of (place, t.0, t.1) (length mid.crates)) found =
     c.row_of.ensures ∙ ap (λ n. option_map (λ t. row_at of (place, t.0, t.1) n) found) c.len-number.ensures.length in
     elim c.match-row_of.branch [

@@ -1,10 +1,10 @@
-use Rattle.bounded_lines.proofs.Gaves.{Reading}
+use Rattle.bounded_lines.proofs.Gaves.{Reading, reader}
 use Rattle.bounded_lines.proofs.lines.BoundedLines.next.Given as goal
 
 abbrev pub invariant-loop-self : goal.invariant-loop-self
 invariant-loop-self g l =
-    Reading l.fn.self (g.S.ByteSource.left l.initial.input) (g.S.ByteSource.left l.input) (g.S.ByteSource.faults l.initial.input) (g.S.ByteSource.faults l.input)
-    l.self-inside.part l.self-inside.piece l.self-inside.room l.self-inside.is_done
+    Reading l.fn.self (reader l.self-inside.part l.self-inside.piece l.self-inside.room l.self-inside.is_done)
+    (g.S.ByteSource.left l.initial.input, g.S.ByteSource.left l.input) (g.S.ByteSource.faults l.initial.input, g.S.ByteSource.faults l.input)
 
 abbrev pub decreases-loop-self : goal.decreases-loop-self
 decreases-loop-self g l = l.self-inside.room

@@ -1,11 +1,13 @@
 use Rattle.std.proofs.Common.{◌+◌, cond}
-use Rattle.live_input.proofs.Gaves.{Idle, Reading}
+use Rattle.live_input.proofs.Gaves.{Idle, Reading, reader}
 use Rattle.live_input.proofs.lines.Lines.read_line.Given as goal
 
 abbrev pub invariant-loop-self : goal.invariant-loop-self
 invariant-loop-self g l =
-    Reading l.fn.self (g.S.ByteSource.left l.initial.input) (g.S.ByteSource.left l.input) (g.S.ByteSource.faults l.initial.input) (g.S.ByteSource.faults l.input)
-    l.self-inside.line.items l.self-inside.piece l.self-inside.room l.self-inside.is_past l.self-inside.is_done l.self-inside.has_ended
+    Reading l.fn.self
+    (reader l.self-inside.line.items l.self-inside.piece l.self-inside.room l.self-inside.is_past l.self-inside.is_done l.self-inside.has_ended)
+    (l.self-inside.line.items, l.self-inside.piece)
+    (g.S.ByteSource.left l.initial.input, g.S.ByteSource.left l.input) (g.S.ByteSource.faults l.initial.input, g.S.ByteSource.faults l.input)
     × Idle l.fn.self l.initial.input l.input l.self-inside.line.items l.self-inside.piece
 
 abbrev pub decreases-loop-self : goal.decreases-loop-self
