@@ -19,7 +19,8 @@ use Rattle.crate_values.specs.declared.crate_data.CrateTag.{CrateTag}
 use Rattle.crate_values.specs.declared.crate_data.Dependency.{Dependency}
 use Rattle.crate_graph.specs.Graph.{IsWellMade, edges, row_of, target_of}
 use Rattle.crate_values.specs.Laws.{HasCleanPath, renamed_dependency}
-use Rattle.crate_graph.specs.Prune.{Stays, kept_crates, renumbered_crate, renumbered_id, new_number, number_at}
+use Rattle.graph_order.specs.Suborder.{new_number}
+use Rattle.crate_graph.specs.Prune.{Stays, kept_crates, renumbered_crate, renumbered_id, number_at}
 
 -- each number of a list is named by it
 pub named_at : (keep : List ℕ) (k n : ℕ) → k < length keep → get_or keep k 0 ≡ n → is_named keep n ≡ true

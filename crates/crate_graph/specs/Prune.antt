@@ -30,10 +30,6 @@ pub record KeepsNamed (old new : Graph) (keep : List ℕ) : Type 0 where
   pub crates : new.crates ≡ kept_crates keep 0 old.crates
   pub order : new.order.nodes ≡ kept_nodes keep old.order.nodes
 
--- the new number of a crate, where it is kept
-abbrev pub new_number : List ℕ → ℕ → Option ℕ
-new_number keep n = if is_named keep n then Some (kept_below keep n) else None
-
 -- the new number of a crate, by a list of them
 abbrev pub number_at : List ℕ → ℕ → ℕ
 number_at numbers n = slice_index_or numbers n 0

@@ -14,7 +14,7 @@ use Rattle.graph_base.specs.Edges.{HasEdge, IsInRange}
 use Rattle.graph_base.specs.Reach.{Reaches, further, itself}
 use Rattle.graph_order.specs.Labels.{Index, IsLabelled, ranking}
 use Rattle.graph_order.specs.Order.{Descends}
-use Rattle.graph_order.specs.Search.{Found, IsLabelling, IsSearched, node_of, visit_at}
+use Rattle.graph_order.specs.Search.{VisitsByLabel, IsLabelling, IsSearched, node_of, visit_at}
 use Rattle.graph_order.specs.declared.search.Visit.{Visit}
 use Rattle.graph_order.proofs.EachOnceLemmas.{place_in}
 use Rattle.graph_order.proofs.IndexLemmas.{key_at, value_at}
@@ -39,7 +39,7 @@ labelling_of g labels index is count in_range down within =
       once = labels_once labels index is;
     }
 
-module _ (g : List (List ℕ)) (labels : List ℕ) (index : Index) (from to : ℕ) (is : IsLabelled labels index) (l : IsLabelling labels g) (found : Found)
+module _ (g : List (List ℕ)) (labels : List ℕ) (index : Index) (from to : ℕ) (is : IsLabelled labels index) (l : IsLabelling labels g) (found : VisitsByLabel)
     (s : IsSearched g labels from to found) (from_in : from < length labels) (to_in : to < length labels) (free : visit_at found (get_or labels from 0) ≡ None) where
   abbrev nobody : Visit
   nobody = record { node = 0; by = 0 }

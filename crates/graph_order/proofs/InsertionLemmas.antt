@@ -9,7 +9,7 @@ use Rattle.graph_order.specs.Insertion.{GivesRoom, most_visits}
 use Rattle.graph_order.specs.Labels.{Index, IsLabelled, ranking}
 use Rattle.graph_order.specs.Order.{Descends, IsOrder, Ranking}
 use Rattle.graph_order.specs.Placing.{no_placement, placement_of}
-use Rattle.graph_order.specs.Search.{Found, IsLabelling, IsSearched, IsVisited, RisesWith, node_of, visit_at}
+use Rattle.graph_order.specs.Search.{VisitsByLabel, IsLabelling, IsSearched, IsVisited, RisesWith, node_of, visit_at}
 use Rattle.graph_order.proofs.FoundLemmas.{apart_from, labelling_of, reached_part}
 use Rattle.graph_order.proofs.LabelLemmas.{label_falls, length-nodes, rank_falls, ranking_is_order}
 use Rattle.graph_order.proofs.RoomLemmas.{apart_already, gives_none, gives_placement}
@@ -35,7 +35,7 @@ module _ (g : List (List ℕ)) (labels : List ℕ) (index : Index) (from to : �
   its_apart-fits lower =
       apart_already g (ranking labels index) from to down (rank_falls labels index is to from (inside to to_there) (inside from from_there) lower)
 
-  module _ (found : Found) (s : IsSearched g labels from to found) (free : visit_at found (get_or labels from 0) ≡ None) (up : get_or labels from 0 ≤ get_or labels to 0) where
+  module _ (found : VisitsByLabel) (s : IsSearched g labels from to found) (free : visit_at found (get_or labels from 0) ≡ None) (up : get_or labels from 0 ≤ get_or labels to 0) where
     its_apart : Reaches g to from → ⊥
     its_apart = apart_from g labels index from to is its_labelling found s (inside from from_there) (inside to to_there) free
 
@@ -113,7 +113,7 @@ module _ {g : List (List ℕ)} {order : Ranking} {labels : List ℕ} {index : In
     pub label_up : low ≤ high → get_or labels from 0 ≤ get_or labels to 0
     label_up above = omega (arith, above, low_is, high_is)
 
-    module _ (found : Found) (s : IsSearched g labels from to found) where
+    module _ (found : VisitsByLabel) (s : IsSearched g labels from to found) where
       pub was_found : is_some (visit_at found low) ≡ true → IsVisited found labels from
       was_found is = ap (λ l. is_some (visit_at found l)) (sym low_is) ∙ is
 

@@ -10,7 +10,7 @@ use Rattle.std.proofs.lemmas.List.Sums.{count_by-le-length}
 use Rattle.std.proofs.lemmas.Map.Entries.{length-keys_of}
 use Rattle.graph_base.specs.Edges.{row}
 use Rattle.graph_order.specs.Labels.{Index, labels_below}
-use Rattle.graph_order.specs.Search.{Follows, Found, IsFound, IsLabelling, IsNextBelow, IsSearched, NoneBelow, RisesWith, node_of, visit_at, visit_by}
+use Rattle.graph_order.specs.Search.{Follows, VisitsByLabel, IsFound, IsLabelling, IsNextBelow, IsSearched, NoneBelow, RisesWith, first_edges, node_of, visit_at, visit_by}
 use Rattle.graph_order.specs.declared.search.Visit.{Visit}
 use Rattle.graph_order.proofs.LabelLemmas.{count_cons, lt_yes}
 use Rattle.graph_order.proofs.IndexLemmas.{at_key}
@@ -64,7 +64,7 @@ count_small below label index left before key node rest step less short =
 -- ---- the search
 
 -- the next node is found, all above it is followed, and nothing else stands between
-pub record IsNext (g : List (List ℕ)) (labels : List ℕ) (from to node : ℕ) (found : Found) : Type 0 where
+pub record IsNext (g : List (List ℕ)) (labels : List ℕ) (edge : ℕ × ℕ) (node : ℕ) (found : VisitsByLabel) : Type 0 where
   pub down : ℕ
   pub visit : Visit
   pub there : node < length labels
@@ -74,7 +74,7 @@ pub record IsNext (g : List (List ℕ)) (labels : List ℕ) (from to node : ℕ)
   pub found_so_far : IsFound g labels edge down found
 
 -- a node is next, or the search is over
-abbrev pub IsUnderWay : (g : List (List ℕ)) (labels : List ℕ) (from to : ℕ) → Option ℕ → Found → Type 0
+abbrev pub IsUnderWay : (g : List (List ℕ)) (labels : List ℕ) (from to : ℕ) → Option ℕ → VisitsByLabel → Type 0
 IsUnderWay g labels from to None found = IsSearched g labels from to found
 IsUnderWay g labels from to (Some node) found = IsNext g labels (from, to) node found
 
@@ -88,7 +88,7 @@ abbrev pub height : List ℕ → Option ℕ → ℕ
 height labels next = option_map_or (λ node. get_or labels node 0 + 1) next 0
 
 -- the first node is next
-pub begun : (g : List (List ℕ)) (labels : List ℕ) (from to top : ℕ) (found empty : Found) → IsLabelling labels g → to < length labels → get_or labels from 0 ≤ get_or labels to 0
+pub begun : (g : List (List ℕ)) (labels : List ℕ) (from to top : ℕ) (found empty : VisitsByLabel) → IsLabelling labels g → to < length labels → get_or labels from 0 ≤ get_or labels to 0
     → top ≡ get_or labels to 0 → tree.IsOrdered nat_cmp found → empty.entries ≡ []
     → ((q : ℕ) → tree.get nat_cmp found q ≡ cond (is_eq (nat_cmp top q)) (Some (visit_by to to)) (tree.get nat_cmp empty q)) → IsNext g labels (from, to) to found
 begun g labels from to top found empty is there up top_is ordered none change =
@@ -112,7 +112,7 @@ counts_begun ranks from to now =
 
 module _ (g : List (List ℕ)) (labels : List ℕ) (from to : ℕ) (is : IsLabelling labels g) (from_in : from < length labels) where
   -- the nodes that are found do not rank below `from`
-  ranks_from : (ranks : List ℕ) (node : ℕ) (found : Found) → RisesWith labels ranks → IsNext g labels from to node found → get_or ranks from 0 ≤ get_or ranks node 0
+  ranks_from : (ranks : List ℕ) (node : ℕ) (found : VisitsByLabel) → RisesWith labels ranks → IsNext g labels (from, to) node found → get_or ranks from 0 ≤ get_or ranks node 0
   ranks_from ranks node found rises n =
       let low : get_or labels from 0 ≤ get_or labels node 0 = (n.found_so_far.named (get_or labels node 0) n.visit n.found_at).2 in
       elim (cases_eq (get_or labels from 0) (get_or labels node 0)) [
@@ -128,7 +128,7 @@ module _ (g : List (List ℕ)) (labels : List ℕ) (from to : ℕ) (is : IsLabel
   ]
 
   -- one more step is counted, and the search ends
-  pub counts_last : (ranks : List ℕ) (node before now after : ℕ) (old : Found) → RisesWith labels ranks → IsNext g labels from to node old
+  pub counts_last : (ranks : List ℕ) (node before now after : ℕ) (old : VisitsByLabel) → RisesWith labels ranks → IsNext g labels (from, to) node old
       → after ≤ now + 1 → Counts ranks from to (Some node) before now → Counts ranks from to None before after
   counts_last ranks node before now after old rises n tick c =
       let known : now + get_or ranks node 0 ≤ before + get_or ranks to 0 = c in
@@ -136,8 +136,8 @@ module _ (g : List (List ℕ)) (labels : List ℕ) (from to : ℕ) (is : IsLabel
       all
 
   -- all edges of the next node are followed
-  module _ (node : ℕ) (old new : Found) (n : IsNext g labels from to node old) (f : Follows labels (row g node) (get_or labels from 0) node (length (row g node)) old new) where
-    so_far : IsFound g labels from to (get_or labels node 0) new
+  module _ (node : ℕ) (old new : VisitsByLabel) (n : IsNext g labels (from, to) node old) (f : Follows (first_edges labels (row g node) (get_or labels from 0) node (length (row g node))) old new) where
+    so_far : IsFound g labels (from, to) (get_or labels node 0) new
     so_far = found_more g labels from to is n.down node old new n.there n.visit n.found_at n.node_is f n.gap n.found_so_far
 
     -- and another node is next
@@ -180,10 +180,10 @@ module _ (g : List (List ℕ)) (labels : List ℕ) (from to : ℕ) (is : IsLabel
     step_counts ranks (Some next) before now after rises some tick c = counts_on next some ranks before now after rises tick c
 
   -- one turn, by what the code reads: the label of `from`, and that of the node
-  module _ (low here node : ℕ) (old new : Found) (next : Option ℕ) (low_is : low ≡ get_or labels from 0) (here_is : here ≡ get_or labels node 0) (n : IsNext g labels from to node old)
-      (f : Follows labels (row g node) low node (length (row g node)) old new) (some : IfSome next (IsNextBelow new here)) (none : IfNone next (NoneBelow new here)) where
-    followed : Follows labels (row g node) (get_or labels from 0) node (length (row g node)) old new
-    followed = subst (λ z. Follows labels (row g node) z node (length (row g node)) old new) low_is f
+  module _ (low here node : ℕ) (old new : VisitsByLabel) (next : Option ℕ) (low_is : low ≡ get_or labels from 0) (here_is : here ≡ get_or labels node 0) (n : IsNext g labels (from, to) node old)
+      (f : Follows (first_edges labels (row g node) low node (length (row g node))) old new) (some : IfSome next (IsNextBelow new here)) (none : IfNone next (NoneBelow new here)) where
+    followed : Follows (first_edges labels (row g node) (get_or labels from 0) node (length (row g node))) old new
+    followed = subst (λ z. Follows (first_edges labels (row g node) z node (length (row g node))) old new) low_is f
 
     next_some : IfSome next (IsNextBelow new (get_or labels node 0))
     next_some = subst (λ z. IfSome next (IsNextBelow new z)) here_is some

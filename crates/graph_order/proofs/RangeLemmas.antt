@@ -8,7 +8,7 @@ use Rattle.std.specs.Ordering.{MatchOrdering, nat_cmp}
 use Rattle.std.specs.declared.ops.Bound.TheVariants.{Excluded, Unbounded}
 use Rattle.std.proofs.lemmas.Map.Keys.{ge_from_not_lt}
 use Rattle.graph_order.specs.Labels.{Index}
-use Rattle.graph_order.specs.Search.{Found, IsNextBelow, NoneBelow, visit_at}
+use Rattle.graph_order.specs.Search.{VisitsByLabel, IsNextBelow, NoneBelow, visit_at}
 use Rattle.graph_order.specs.Spots.{IsBefore, NoneBefore}
 use Rattle.graph_order.specs.declared.search.Visit.{Visit}
 use Rattle.graph_order.proofs.ResultLemmas.{none_if, none_some}
@@ -47,7 +47,7 @@ none_before index label r is empty = λ l n at under. none_some (tree.get nat_cm
 
 -- ---- what a search found
 
-pub is_next_below : (found : Found) (label : ℕ) (r : List (ℕ × Visit)) → IsRangeOf nat_cmp Unbounded (Excluded label) found r → (key : ℕ) (visit : Visit) (left : List (ℕ × Visit))
+pub is_next_below : (found : VisitsByLabel) (label : ℕ) (r : List (ℕ × Visit)) → IsRangeOf nat_cmp Unbounded (Excluded label) found r → (key : ℕ) (visit : Visit) (left : List (ℕ × Visit))
     → r ≡ left ++ (key, visit) ∷ [] → IsNextBelow found label visit.node
 is_next_below found label r is key visit left steps = record {
   key = key;
@@ -58,5 +58,5 @@ is_next_below found label r is key visit left steps = record {
   highest = λ l above under. none_if (visit_at found l) (λ v at. omega (arith, above, last_highest found label r is key visit left steps l under (ap is_some at)));
 }
 
-pub none_next_below : (found : Found) (label : ℕ) (r : List (ℕ × Visit)) → IsRangeOf nat_cmp Unbounded (Excluded label) found r → r ≡ [] → NoneBelow found label
+pub none_next_below : (found : VisitsByLabel) (label : ℕ) (r : List (ℕ × Visit)) → IsRangeOf nat_cmp Unbounded (Excluded label) found r → r ≡ [] → NoneBelow found label
 none_next_below found label r is empty = λ l under. none_below found label r is empty l under

@@ -10,7 +10,7 @@ use Rattle.graph_base.proofs.KeptLemmas.{edge_within}
 use Rattle.graph_base.proofs.MarkLemmas.{at_place, pushed_old}
 use Rattle.graph_base.proofs.ReachLemmas.{reaches_edge}
 use Rattle.graph_order.specs.Order.{Descends}
-use Rattle.graph_order.specs.Search.{AreLinked, Follows, Found, IsFound, IsLabelling, IsLedBy, IsNoted, IsSearched, IsVisited, LeadUp, NoneBelow, visit_at}
+use Rattle.graph_order.specs.Search.{AreLinked, Follows, VisitsByLabel, IsFound, IsLabelling, IsLedBy, IsNoted, IsSearched, IsVisited, LeadUp, NoneBelow, first_edges, visit_at}
 use Rattle.graph_order.specs.declared.search.Visit.{Visit}
 use Rattle.graph_order.proofs.IndexLemmas.{at_key, at_other}
 use Rattle.graph_order.proofs.ResultLemmas.{none_some, some_is}
@@ -27,7 +27,7 @@ edge_of g a e within = (e, within, get_or_default (row g a) e (get_or (row g a) 
 
 -- ---- the edges of one node
 
-pub follows_none : (labels row : List ℕ) (low node : ℕ) (found : Found) → Follows labels row low node 0 found found
+pub follows_none : (labels row : List ℕ) (low node : ℕ) (found : VisitsByLabel) → Follows (first_edges labels row low node 0) found found
 follows_none labels row low node found = record {
   ordered = λ is. is;
   kept = λ l is. is;
@@ -45,8 +45,8 @@ noted_more labels row low node count l v n = record {
   from_low = n.from_low;
 }
 
-pub follows_low : (labels row : List ℕ) (low node count : ℕ) (old new : Found) → get_or labels (get_or row count 0) 0 < low
-    → Follows labels row low node count old new → Follows labels row low node (count + 1) old new
+pub follows_low : (labels row : List ℕ) (low node count : ℕ) (old new : VisitsByLabel) → get_or labels (get_or row count 0) 0 < low
+    → Follows (first_edges labels row low node count) old new → Follows (first_edges labels row low node (count + 1)) old new
 follows_low labels row low node count old new below f = record {
   ordered = f.ordered;
   kept = f.kept;
@@ -58,7 +58,7 @@ follows_low labels row low node count old new below f = record {
 }
 
 -- one more edge, whose target is put in
-pub follows_more : (labels row : List ℕ) (low node count target label : ℕ) (visit : Visit) (old mid new : Found)
+pub follows_more : (labels row : List ℕ) (low node count target label : ℕ) (visit : Visit) (old mid new : VisitsByLabel)
     → target ≡ get_or row count 0 → label ≡ get_or labels target 0 → low ≤ label → visit ≡ record { node = target; by = node }
     → tree.IsOrdered nat_cmp new → ((q : ℕ) → tree.get nat_cmp new q ≡ cond (is_eq (nat_cmp label q)) (Some visit) (tree.get nat_cmp mid q))
     → Follows (first_edges labels row low node count) old mid → Follows (first_edges labels row low node (count + 1)) old new
@@ -102,7 +102,7 @@ follows_more labels row low node count target label visit old mid new target_is 
 
 module _ (g : List (List ℕ)) (labels : List ℕ) (from to : ℕ) (is : IsLabelling labels g) where
   -- only the first node is found
-  pub found_start : (found empty : Found) (visit : Visit) → to < length labels → get_or labels from 0 ≤ get_or labels to 0 → visit ≡ record { node = to; by = to }
+  pub found_start : (found empty : VisitsByLabel) (visit : Visit) → to < length labels → get_or labels from 0 ≤ get_or labels to 0 → visit ≡ record { node = to; by = to }
       → tree.IsOrdered nat_cmp found → ((q : ℕ) → tree.get nat_cmp empty q ≡ None)
       → ((q : ℕ) → tree.get nat_cmp found q ≡ cond (is_eq (nat_cmp (get_or labels to 0) q)) (Some visit) (tree.get nat_cmp empty q))
       → IsFound g labels (from, to) (get_or labels to 0 + 1) found
@@ -136,8 +136,8 @@ module _ (g : List (List ℕ)) (labels : List ℕ) (from to : ℕ) (is : IsLabel
       (edge, omega (arith, is.long, is.in_range node v.node edge), label, omega (arith, label, is.descends node v.node edge))
 
   -- the node of a label is followed, and the next one stands below
-  pub found_more : (down node : ℕ) (old new : Found) → node < length labels → (visit : Visit) → visit_at old (get_or labels node 0) ≡ Some visit → visit.node ≡ node
-      → Follows labels (row g node) (get_or labels from 0) node (length (row g node)) old new
+  pub found_more : (down node : ℕ) (old new : VisitsByLabel) → node < length labels → (visit : Visit) → visit_at old (get_or labels node 0) ≡ Some visit → visit.node ≡ node
+      → Follows (first_edges labels (row g node) (get_or labels from 0) node (length (row g node))) old new
       → ((l : ℕ) → get_or labels node 0 < l → l < down → visit_at old l ≡ None)
       → IsFound g labels (from, to) down old → IsFound g labels (from, to) (get_or labels node 0) new
   found_more down node old new there visit at visit_is f gap o =
@@ -185,7 +185,7 @@ module _ (g : List (List ℕ)) (labels : List ℕ) (from to : ℕ) (is : IsLabel
       }
 
   -- nothing is left to follow
-  pub found_all : (down : ℕ) (found : Found) → NoneBelow found down → IsFound g labels from to down found → IsSearched g labels from to found
+  pub found_all : (down : ℕ) (found : VisitsByLabel) → NoneBelow found down → IsFound g labels (from, to) down found → IsSearched g labels from to found
   found_all down found none o = record {
     ordered = o.ordered;
     begun = o.begun;
@@ -201,13 +201,13 @@ module _ (g : List (List ℕ)) (labels : List ℕ) (from to : ℕ) (is : IsLabel
   -- ---- what a search says
 
   -- the node of a visit under a node's label is that node
-  pub visit_of : (found : Found) → IsSearched g labels from to found → (n : ℕ) (v : Visit) → n < length labels → visit_at found (get_or labels n 0) ≡ Some v → v.node ≡ n
+  pub visit_of : (found : VisitsByLabel) → IsSearched g labels from to found → (n : ℕ) (v : Visit) → n < length labels → visit_at found (get_or labels n 0) ≡ Some v → v.node ≡ n
   visit_of found s n v there at =
       let named = s.named (get_or labels n 0) v at in
       is.once v.node n named.0 there named.1
 
   -- from a node that is found, all that it reaches down to `from` is found
-  pub found_reaches : (found : Found) → IsSearched g labels from to found → (a b : ℕ) → a < length labels → IsVisited found labels a
+  pub found_reaches : (found : VisitsByLabel) → IsSearched g labels from to found → (a b : ℕ) → a < length labels → IsVisited found labels a
       → get_or labels from 0 ≤ get_or labels b 0 → Reaches g a b → IsVisited found labels b
   found_reaches found s a _ there at inside itself = at
   found_reaches found s a c there at inside (further {b = b} edge rest) =
@@ -216,17 +216,17 @@ module _ (g : List (List ℕ)) (labels : List ℕ) (from to : ℕ) (is : IsLabel
       let next = s.followed (get_or labels a 0) v.0 b v.1 (omega arith) (subst (λ z. HasEdge g z b) (sym node) edge) (omega (arith, inside, reaches_falls labels g b c is.descends rest)) in
       found_reaches found s b c (omega (arith, is.long, is.in_range a b edge)) next inside rest
 
-  pub found_if_reached : (found : Found) → IsSearched g labels from to found → to < length labels → (n : ℕ) → get_or labels from 0 ≤ get_or labels n 0 → Reaches g to n → IsVisited found labels n
+  pub found_if_reached : (found : VisitsByLabel) → IsSearched g labels from to found → to < length labels → (n : ℕ) → get_or labels from 0 ≤ get_or labels n 0 → Reaches g to n → IsVisited found labels n
   found_if_reached found s there n inside r = found_reaches found s to n there s.begun inside r
 
-  pub reached_if_found : (found : Found) → IsSearched g labels from to found → (n : ℕ) → n < length labels → IsVisited found labels n → Reaches g to n
+  pub reached_if_found : (found : VisitsByLabel) → IsSearched g labels from to found → (n : ℕ) → n < length labels → IsVisited found labels n → Reaches g to n
   reached_if_found found s n there at =
       let v = some_is (visit_at found (get_or labels n 0)) at in
       subst (Reaches g to) (visit_of found s n v.0 there v.1) (s.reached (get_or labels n 0) v.0 v.1)
 
   -- ---- the path
 
-  pub leads_up : (found : Found) → IsSearched g labels from to found → LeadUp labels to found
+  pub leads_up : (found : VisitsByLabel) → IsSearched g labels from to found → LeadUp labels to found
   leads_up found s = record {
     named = visit_of found s;
     top = λ n there at.
@@ -239,11 +239,11 @@ module _ (g : List (List ℕ)) (labels : List ℕ) (from to : ℕ) (is : IsLabel
         (omega (arith, is.long, edge_within g v.by n edge), is.descends v.by n edge, k.1);
   }
 
-  pub are_linked : (found : Found) → IsSearched g labels from to found → AreLinked g to found
+  pub are_linked : (found : VisitsByLabel) → IsSearched g labels from to found → AreLinked g to found
   are_linked found s = λ l v at other. (s.linked l v at other).0
 
 -- what is read of a node that is found
-module _ (labels : List ℕ) (found : Found) (node label : ℕ) (label_is : label ≡ get_or labels node 0) where
+module _ (labels : List ℕ) (found : VisitsByLabel) (node label : ℕ) (label_is : label ≡ get_or labels node 0) where
   pub led_by_visit : (visit : Visit) → Some visit ≡ visit_at found label → IsLedBy labels found node visit.by
   led_by_visit visit at = record { visit = visit; found_at = ap (visit_at found) (sym label_is) ∙ sym at; by_is = refl }
 
@@ -274,7 +274,7 @@ path_more g path from node next edge p =
     }
 
 -- one step up along the path
-module _ (labels : List ℕ) (found : Found) (to node by : ℕ) (led : IsLedBy labels found node by) (up : LeadUp labels to found) (within : node < length labels) (other : node ≢ to) where
+module _ (labels : List ℕ) (found : VisitsByLabel) (to node by : ℕ) (led : IsLedBy labels found node by) (up : LeadUp labels to found) (within : node < length labels) (other : node ≢ to) where
   edge_up : (g : List (List ℕ)) → AreLinked g to found → HasEdge g by node
   edge_up g linked =
       let one = up.named node led.visit within led.found_at in

@@ -8,11 +8,11 @@ use Rattle.graph_order.specs.Order.{Descends}
 use Rattle.graph_order.specs.declared.search.Visit.{Visit}
 
 -- what is found, by the label of each node
-abbrev pub Found : Type 0
-Found = tree.BTreeMap ℕ Visit
+abbrev pub VisitsByLabel : Type 0
+VisitsByLabel = tree.BTreeMap ℕ Visit
 
 -- what is found under a label
-abbrev pub visit_at : Found → ℕ → Option Visit
+abbrev pub visit_at : VisitsByLabel → ℕ → Option Visit
 visit_at found label = tree.get nat_cmp found label
 
 -- a visit of a node, to which an edge of another led
@@ -24,7 +24,7 @@ abbrev pub node_of : Visit → ℕ
 node_of visit = visit.node
 
 -- a node is found
-abbrev pub IsVisited : Found → List ℕ → ℕ → Type 0
+abbrev pub IsVisited : VisitsByLabel → List ℕ → ℕ → Type 0
 IsVisited found labels n = is_some (visit_at found (slice_index labels n)) ≡ true
 
 -- each node of a graph has a label of its own, and labels fall along every edge
@@ -53,14 +53,14 @@ first_edges labels row low node count = record { labels = labels; row = row; low
 -- one of the edges leads to a label from `low` on
 pub record IsNoted (edges : FirstEdges) (label : ℕ) (visit : Visit) : Type 0 where
   pub edge : ℕ
-  pub within : edge < count
-  pub node_is : visit.node ≡ slice_index row edge
-  pub by_is : visit.by ≡ node
-  pub label_is : label ≡ slice_index labels (slice_index row edge)
-  pub from_low : low ≤ label
+  pub within : edge < edges.count
+  pub node_is : visit.node ≡ slice_index edges.row edge
+  pub by_is : visit.by ≡ edges.node
+  pub label_is : label ≡ slice_index edges.labels (slice_index edges.row edge)
+  pub from_low : edges.low ≤ label
 
--- the first so many edges of a node are followed
-pub record Follows (labels row : List ℕ) (low node count : ℕ) (old new : Found) : Type 0 where
+-- the edges are followed
+pub record Follows (edges : FirstEdges) (old new : VisitsByLabel) : Type 0 where
   pub ordered : tree.IsOrdered nat_cmp old → tree.IsOrdered nat_cmp new
   pub kept : (l : ℕ) → is_some (visit_at old l) ≡ true → is_some (visit_at new l) ≡ true
   pub noted : (l : ℕ) (v : Visit) → visit_at new l ≡ Some v → (visit_at old l ≡ Some v) ⊎ IsNoted edges l v
@@ -68,11 +68,11 @@ pub record Follows (labels row : List ℕ) (low node count : ℕ) (old new : Fou
       → IsVisited new edges.labels (slice_index edges.row e)
 
 -- nothing is found below a label
-abbrev pub NoneBelow : Found → ℕ → Type 0
+abbrev pub NoneBelow : VisitsByLabel → ℕ → Type 0
 NoneBelow found label = (l : ℕ) → l < label → visit_at found l ≡ None
 
 -- the node is that of the highest label below one
-pub record IsNextBelow (found : Found) (label node : ℕ) : Type 0 where
+pub record IsNextBelow (found : VisitsByLabel) (label node : ℕ) : Type 0 where
   pub key : ℕ
   pub visit : Visit
   pub found_at : visit_at found key ≡ Some visit
@@ -80,9 +80,9 @@ pub record IsNextBelow (found : Found) (label node : ℕ) : Type 0 where
   pub below : key < label
   pub highest : (l : ℕ) → key < l → l < label → visit_at found l ≡ None
 
--- each node that is found is reached, from a node that is found too; the edges of those with a label from `down` on are
--- followed as far as `from`
-pub record IsFound (g : List (List ℕ)) (labels : List ℕ) (from to down : ℕ) (found : Found) : Type 0 where
+-- of a search from the target of a new edge down to its source: each node that is found is reached, from a node that is found too;
+-- the edges of those with a label from `down` on are followed as far as the source
+pub record IsFound (g : List (List ℕ)) (labels : List ℕ) (edge : ℕ × ℕ) (down : ℕ) (found : VisitsByLabel) : Type 0 where
   pub ordered : tree.IsOrdered nat_cmp found
   pub begun : IsVisited found labels edge.1
   pub named : (l : ℕ) (v : Visit) → visit_at found l ≡ Some v
@@ -93,21 +93,21 @@ pub record IsFound (g : List (List ℕ)) (labels : List ℕ) (from to down : ℕ
       → slice_index labels edge.0 ≤ slice_index labels b → IsVisited found labels b
 
 -- the search is over: exactly the nodes are found that `to` reaches and that do not lie below `from`
-abbrev pub IsSearched : List (List ℕ) → List ℕ → ℕ → ℕ → Found → Type 0
-IsSearched g labels from to found = IsFound g labels from to 0 found
+abbrev pub IsSearched : List (List ℕ) → List ℕ → ℕ → ℕ → VisitsByLabel → Type 0
+IsSearched g labels from to found = IsFound g labels (from, to) 0 found
 
 -- a node is that whose edge led to another, which is found
-pub record IsLedBy (labels : List ℕ) (found : Found) (node by : ℕ) : Type 0 where
+pub record IsLedBy (labels : List ℕ) (found : VisitsByLabel) (node by : ℕ) : Type 0 where
   pub visit : Visit
   pub found_at : visit_at found (slice_index labels node) ≡ Some visit
   pub by_is : by ≡ visit.by
 
 -- each node that is found but the first was led to by an edge
-abbrev pub AreLinked : List (List ℕ) → ℕ → Found → Type 0
+abbrev pub AreLinked : List (List ℕ) → ℕ → VisitsByLabel → Type 0
 AreLinked g to found = (l : ℕ) (v : Visit) → visit_at found l ≡ Some v → v.node ≢ to → HasEdge g v.by v.node
 
 -- each node that is found lies below the first, or is it, and any other was led to from a higher one that is found
-pub record LeadUp (labels : List ℕ) (to : ℕ) (found : Found) : Type 0 where
+pub record LeadUp (labels : List ℕ) (to : ℕ) (found : VisitsByLabel) : Type 0 where
   pub named : (n : ℕ) (v : Visit) → n < length labels → visit_at found (slice_index labels n) ≡ Some v → v.node ≡ n
   pub top : (n : ℕ) → n < length labels → IsVisited found labels n → slice_index labels n ≤ slice_index labels to
   pub up : (n : ℕ) (v : Visit) → n < length labels → visit_at found (slice_index labels n) ≡ Some v → n ≢ to

@@ -6,35 +6,35 @@ use Rattle.std.specs.Option.{option_map, option_or, unwrap_or}
 use Rattle.input_db.specs.Applied.{database_after_change, with_changed_file, with_changed_files, with_roots_from}
 use Rattle.input_db.specs.Change.{IsChanged, text_after, text_given}
 use Rattle.input_db.specs.Database.{Database}
-use Rattle.source_files.specs.Files.{Held, durability_of_file, stored_text, text_of}
+use Rattle.source_files.specs.Files.{FileTables, durability_of_file, stored_text, text_of}
 use Rattle.input_db.specs.declared.change.FileChange.{FileChange}
 use Rattle.source_files.specs.declared.inputs.FileText.{FileText}
 use Rattle.source_files.specs.declared.source_root.SourceRoot.{SourceRoot}
 use Rattle.source_files.proofs.Entries.{get_set}
 use Rattle.input_db.proofs.GivenRoots.{places_given, roots_from-texts, roots_given}
 
-files-roots : (files : Held) (changed : List (ℕ × Option (List ℕ)))
+files-roots : (files : FileTables) (changed : List (ℕ × Option (List ℕ)))
     → (with_changed_files files changed).roots ≡ files.roots
 files-roots files [] = refl
 files-roots files (c ∷ changed) = files-roots (with_changed_file files c) changed
 
-files-places : (files : Held) (changed : List (ℕ × Option (List ℕ)))
+files-places : (files : FileTables) (changed : List (ℕ × Option (List ℕ)))
     → (with_changed_files files changed).file_roots ≡ files.file_roots
 files-places files [] = refl
 files-places files (c ∷ changed) = files-places (with_changed_file files c) changed
 
 -- texts play no part in how durable a file's text is to be
-files-durability : (files : Held) (changed : List (ℕ × Option (List ℕ))) (q : ℕ)
+files-durability : (files : FileTables) (changed : List (ℕ × Option (List ℕ))) (q : ℕ)
     → durability_of_file (with_changed_files files changed) q ≡ durability_of_file files q
 files-durability files [] q = refl
 files-durability files (c ∷ changed) q = files-durability (with_changed_file files c) changed q
 
 -- a text as a file of this root has it
-stored_in : Held → ℕ → List ℕ → FileText
+stored_in : FileTables → ℕ → List ℕ → FileText
 stored_in files q text = stored_text q text (durability_of_file files q)
 
 -- what a later change gives counts, else what this one gives, else what was there
-or_changed : (later : Option (List ℕ)) (files : Held) (q c : ℕ) (is_here : Bool) (text : List ℕ)
+or_changed : (later : Option (List ℕ)) (files : FileTables) (q c : ℕ) (is_here : Bool) (text : List ℕ)
     (old : Option FileText)
     → (q == c) ≡ is_here
     → option_or (option_map (λ t. stored_text q t (durability_of_file files q)) later)
@@ -46,7 +46,7 @@ or_changed None files q c true text old e =
 or_changed None files q c false text old e = refl
 or_changed (Some t) files q c is_here text old e = refl
 
-files-texts : (files : Held) (changed : List (ℕ × Option (List ℕ))) (q : ℕ)
+files-texts : (files : FileTables) (changed : List (ℕ × Option (List ℕ))) (q : ℕ)
     → text_of (with_changed_files files changed) q
     ≡ option_or (option_map (λ t. stored_text q t (durability_of_file files q)) (text_given changed q))
     (text_of files q)
@@ -59,7 +59,7 @@ files-texts files (c ∷ changed) q =
     ∙ or_changed (text_given changed q) files q c.0 (q == c.0) (unwrap_or c.1 []) (text_of files q) refl
 
 -- the texts after a change, by the files with their roots
-texts_changed : (old ready : Held) (changed : List (ℕ × Option (List ℕ))) (q : ℕ) → ready.texts ≡ old.texts
+texts_changed : (old ready : FileTables) (changed : List (ℕ × Option (List ℕ))) (q : ℕ) → ready.texts ≡ old.texts
     → text_of (with_changed_files ready changed) q
     ≡ text_after changed old (with_changed_files ready changed) q
 texts_changed old ready changed q same =
@@ -85,7 +85,7 @@ changed_by change None db e = record {
   texts = λ file. texts_changed db.files db.files change.files_changed file refl;
 }
 changed_by change (Some roots) db e =
-    let ready : Held = with_roots_from 0 db.files roots in
+    let ready : FileTables = with_roots_from 0 db.files roots in
     record {
       local = refl;
       library = refl;

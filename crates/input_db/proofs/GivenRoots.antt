@@ -9,14 +9,14 @@ use Rattle.input_db.proofs.Numbers.{at_start, shift}
 use Rattle.input_db.specs.Applied.{with_given_root, with_members, with_roots_from}
 use Rattle.input_db.specs.Change.{place_after, place_given, root_after, root_given}
 use Rattle.input_db.specs.Database.{Database, with_files}
-use Rattle.source_files.specs.Files.{Held, file_root_of, root_of, stored_place, with_file_root}
+use Rattle.source_files.specs.Files.{FileTables, file_root_of, root_of, stored_place, with_file_root}
 use Rattle.source_files.specs.SourceRoot.{files_in, has_file, root_durability}
 use Rattle.source_files.specs.declared.durability.Durability.{Durability}
 use Rattle.source_files.specs.declared.source_root.SourceRoot.{SourceRoot}
 use Rattle.source_files.proofs.Entries.{get_set}
 
 -- one root more is given
-roots_from-append : (n : ℕ) (files : Held) (roots : List SourceRoot) (root : SourceRoot)
+roots_from-append : (n : ℕ) (files : FileTables) (roots : List SourceRoot) (root : SourceRoot)
     → with_roots_from n files (roots ++ root ∷ [])
     ≡ with_given_root (with_roots_from n files roots) (n + length roots) root
 roots_from-append n files [] root = ap (λ (k : ℕ). with_given_root files k root) (at_start n)
@@ -36,7 +36,7 @@ given_more start before after roots number root so_far count is =
     is ∙ ap (λ (db : Database). with_files db (with_given_root db.files number root)) so_far
     ∙ ap (λ (k : ℕ). with_files start (with_given_root (with_roots_from 0 start.files roots) k root))
     (counted (length roots) number count)
-    ∙ ap (λ (files : Held). with_files start files) (sym (roots_from-append 0 start.files roots root))
+    ∙ ap (λ (files : FileTables). with_files start files) (sym (roots_from-append 0 start.files roots root))
 
 -- of two settings of one entry the later counts
 later_setting : {X : Type 0} (a b : Bool) (x y : X) → cond b x (cond a x y) ≡ cond (a || b) x y
@@ -45,17 +45,17 @@ later_setting true false x y = refl
 later_setting false true x y = refl
 later_setting false false x y = refl
 
-members-texts : (files : Held) (members : List ℕ) (root : ℕ) (d : Durability)
+members-texts : (files : FileTables) (members : List ℕ) (root : ℕ) (d : Durability)
     → (with_members files members root d).texts ≡ files.texts
 members-texts files [] root d = refl
 members-texts files (m ∷ members) root d = members-texts (with_file_root files m root d) members root d
 
-members-roots : (files : Held) (members : List ℕ) (root : ℕ) (d : Durability)
+members-roots : (files : FileTables) (members : List ℕ) (root : ℕ) (d : Durability)
     → (with_members files members root d).roots ≡ files.roots
 members-roots files [] root d = refl
 members-roots files (m ∷ members) root d = members-roots (with_file_root files m root d) members root d
 
-members-places : (files : Held) (members : List ℕ) (root : ℕ) (d : Durability) (q : ℕ)
+members-places : (files : FileTables) (members : List ℕ) (root : ℕ) (d : Durability) (q : ℕ)
     → file_root_of (with_members files members root d) q
     ≡ cond (list_any (nat_eq q) members) (Some (stored_place root d)) (file_root_of files q)
 members-places files [] root d q = refl
@@ -66,24 +66,24 @@ members-places files (m ∷ members) root d q =
     ∙ later_setting (nat_eq q m) (list_any (nat_eq q) members) (Some (stored_place root d))
     (file_root_of files q)
 
-given_root-texts : (files : Held) (n : ℕ) (root : SourceRoot)
+given_root-texts : (files : FileTables) (n : ℕ) (root : SourceRoot)
     → (with_given_root files n root).texts ≡ files.texts
 given_root-texts files n root = members-texts files (files_in root) n (root_durability root)
 
-given_root-roots : (files : Held) (n : ℕ) (root : SourceRoot) (q : ℕ)
+given_root-roots : (files : FileTables) (n : ℕ) (root : SourceRoot) (q : ℕ)
     → root_of (with_given_root files n root) q ≡ cond (q == n) (Some (root_given root)) (root_of files q)
 given_root-roots files n root q =
     get_set (with_members files (files_in root) n (root_durability root)).roots n (root_given root) q
     ∙ ap (λ m. cond (q == n) (Some (root_given root)) (map.get m q))
     (members-roots files (files_in root) n (root_durability root))
 
-given_root-places : (files : Held) (n : ℕ) (root : SourceRoot) (q : ℕ)
+given_root-places : (files : FileTables) (n : ℕ) (root : SourceRoot) (q : ℕ)
     → file_root_of (with_given_root files n root) q
     ≡ cond (has_file root q) (Some (stored_place n (root_durability root))) (file_root_of files q)
 given_root-places files n root q = members-places files (files_in root) n (root_durability root) q
 
 -- no text changes
-pub roots_from-texts : (n : ℕ) (files : Held) (roots : List SourceRoot)
+pub roots_from-texts : (n : ℕ) (files : FileTables) (roots : List SourceRoot)
     → (with_roots_from n files roots).texts ≡ files.texts
 roots_from-texts n files [] = refl
 roots_from-texts n files (root ∷ roots) =
@@ -96,7 +96,7 @@ apart : (n q : ℕ) → q < n → q ≡ n → ⊥
 apart n q h e = omega arith
 
 -- no root below the first number changes
-roots_from-before : (n : ℕ) (files : Held) (roots : List SourceRoot) (q : ℕ) → q < n
+roots_from-before : (n : ℕ) (files : FileTables) (roots : List SourceRoot) (q : ℕ) → q < n
     → root_of (with_roots_from n files roots) q ≡ root_of files q
 roots_from-before n files [] q h = refl
 roots_from-before n files (root ∷ roots) q h =
@@ -113,7 +113,7 @@ past : (n k : ℕ) → n + suc k ≡ n → ⊥
 past n k e = omega arith
 
 -- a root from the first number on is the one that is given, or the one that was there
-roots_from-at : (n : ℕ) (files : Held) (roots : List SourceRoot) (k : ℕ)
+roots_from-at : (n : ℕ) (files : FileTables) (roots : List SourceRoot) (k : ℕ)
     → root_of (with_roots_from n files roots) (n + k)
     ≡ option_or (option_map root_given (slice_get roots k)) (root_of files (n + k))
 roots_from-at n files [] k = refl
@@ -133,7 +133,7 @@ roots_from-at n files (root ∷ roots) (suc k) =
 from_zero : (q : ℕ) → 0 + q ≡ q
 from_zero q = omega arith
 
-pub roots_given : (files : Held) (roots : List SourceRoot) (q : ℕ)
+pub roots_given : (files : FileTables) (roots : List SourceRoot) (q : ℕ)
     → root_of (with_roots_from 0 files roots) q ≡ root_after roots files q
 roots_given files roots q =
     ap (λ (k : ℕ). root_of (with_roots_from 0 files roots) k) (sym (from_zero q))
@@ -148,7 +148,7 @@ or_given None true here old = refl
 or_given None false here old = refl
 or_given (Some x) is_here here old = refl
 
-roots_from-places : (n : ℕ) (files : Held) (roots : List SourceRoot) (q : ℕ)
+roots_from-places : (n : ℕ) (files : FileTables) (roots : List SourceRoot) (q : ℕ)
     → file_root_of (with_roots_from n files roots) q
     ≡ option_or (place_given n roots q) (file_root_of files q)
 roots_from-places n files [] q = refl
@@ -158,6 +158,6 @@ roots_from-places n files (root ∷ roots) q =
     ∙ or_given (place_given (suc n) roots q) (has_file root q) (stored_place n (root_durability root))
     (file_root_of files q)
 
-pub places_given : (files : Held) (roots : List SourceRoot) (q : ℕ)
+pub places_given : (files : FileTables) (roots : List SourceRoot) (q : ℕ)
     → file_root_of (with_roots_from 0 files roots) q ≡ place_after roots files q
 places_given files roots q = roots_from-places 0 files roots q

@@ -18,7 +18,8 @@ use Rattle.crate_graph.proofs.GraphLemmas.{length-edges, slice_get_some}
 use Rattle.crate_graph.specs.Graph.{edges, target_of}
 use Rattle.input_db.specs.Database.{Database, with_crate_input}
 use Rattle.input_db.specs.Identity.{Table, crate_for, named_in, unique_eq, with_entry}
-use Rattle.input_db.specs.Identity.{Id, data_of, identity_of, input_of}
+use Rattle.crate_graph.specs.Extend.{Id}
+use Rattle.input_db.specs.Identity.{data_of, identity_of, input_of}
 use Rattle.input_db.specs.FinishSteps.{Progress, finish, finish_crate, is_first_of_root, progress_after}
 use Rattle.input_db.specs.Identity.{number_in}
 use Rattle.input_db.specs.SetInDb.{with_member}

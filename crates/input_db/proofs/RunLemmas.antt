@@ -19,7 +19,8 @@ use Rattle.crate_graph.specs.Graph.{edges, row_of, target_of}
 use Rattle.crate_values.specs.Laws.{renamed_dependency}
 use Rattle.crate_graph.proofs.ExtendLemmas.{crate_edge}
 use Rattle.input_db.specs.Database.{Database}
-use Rattle.input_db.specs.Identity.{Id, full_identity, data_of, number_in, root_identity}
+use Rattle.crate_graph.specs.Extend.{Id}
+use Rattle.input_db.specs.Identity.{full_identity, data_of, number_in, root_identity}
 use Rattle.input_db.specs.FinishSteps.{Progress, finish, finish_crate, is_first_of_root, progress_after}
 use Rattle.input_db.specs.FinishSteps.{initial_progress, with_put_crate}
 use Rattle.input_db.specs.SetInDb.{crate_at}

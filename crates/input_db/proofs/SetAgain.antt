@@ -20,7 +20,8 @@ use Rattle.crate_values.specs.declared.builder.CrateBuilder.{CrateBuilder}
 use Rattle.crate_values.specs.declared.crate_data.CrateData.{CrateData}
 use Rattle.input_db.specs.Database.{Database, with_crate_input, with_crate_list, writes_after}
 use Rattle.input_db.specs.FinishSteps.{IsSetInSteps, Progress, progress_after, with_new_list}
-use Rattle.input_db.specs.Identity.{Id, Table, crate_for, crate_in, data_of, full_identity, identity_of, input_in, input_of}
+use Rattle.crate_graph.specs.Extend.{Id}
+use Rattle.input_db.specs.Identity.{Table, crate_for, crate_in, data_of, full_identity, identity_of, input_in, input_of}
 use Rattle.input_db.specs.Identity.{input_under, number_in, root_identity, unique_eq, with_entry}
 use Rattle.input_db.specs.SetInDb.{HaveIdentities, HaveOwnNumbers, crate_at, first_places, identity_at, is_first_at, listed_crates}
 use Rattle.input_db.specs.SetInDb.{number_at}

@@ -10,10 +10,10 @@ use Rattle.std.specs.Option.{option_map, option_or, unwrap_or}
 use Rattle.std.specs.declared.cmp.Ordering.{Ordering}
 use Rattle.crate_graph.specs.Graph.{Graph}
 use Rattle.input_db.specs.Database.{Database, library_numbers, local_numbers}
-use Rattle.source_files.specs.Files.{Held, durability_of_file, file_root_of, root_of, stored_place, stored_root}
+use Rattle.source_files.specs.Files.{FileTables, durability_of_file, file_root_of, root_of, stored_place, stored_root}
 use Rattle.source_files.specs.Files.{stored_text, text_of}
 use Rattle.input_db.specs.FinishSteps.{IsSetInSteps}
-use Rattle.input_db.specs.Identity.{Id}
+use Rattle.crate_graph.specs.Extend.{Id}
 use Rattle.source_files.specs.SourceRoot.{has_file, root_durability}
 use Rattle.input_db.specs.declared.change.FileChange.{FileChange}
 use Rattle.source_files.specs.declared.inputs.FileText.{FileText}
@@ -32,21 +32,21 @@ abbrev pub is_in_some : List SourceRoot → ℕ → Bool
 is_in_some roots file = list_any (λ root. has_file root file) roots
 
 -- whether a root is there, or is given
-abbrev pub is_root : Held → List SourceRoot → ℕ → Bool
+abbrev pub is_root : FileTables → List SourceRoot → ℕ → Bool
 is_root files roots number = is_some (root_of files number) || nat_lt number (length roots)
 
 -- whether a file has a source root already that is there or is given
-abbrev pub keeps_root : Held → List SourceRoot → ℕ → Bool
+abbrev pub keeps_root : FileTables → List SourceRoot → ℕ → Bool
 keeps_root files roots file =
     unwrap_or (option_map (λ place. is_root files roots place.source_root_id) (file_root_of files file)) false
 
 -- whether a file will have a source root that is there: it is in a root that is given, or has one already
 -- that is there or is given
-abbrev pub fits_file : Held → List SourceRoot → ℕ → Bool
+abbrev pub fits_file : FileTables → List SourceRoot → ℕ → Bool
 fits_file files roots file = is_in_some roots file || keeps_root files roots file
 
 -- whether each file that changed will have a source root that is there
-abbrev pub fits : Held → FileChange → Bool
+abbrev pub fits : FileTables → FileChange → Bool
 fits files change = list_all (λ changed. fits_file files (given_roots change) changed.0) change.files_changed
 
 -- the numbers of the roots that are libraries, or of those that are not, numbered from here on
@@ -75,7 +75,7 @@ abbrev pub root_given : SourceRoot → SourceRootInput
 root_given root = stored_root root (root_durability root)
 
 -- the root of a number: the one that is given, or the one that was there. No root goes
-abbrev pub root_after : List SourceRoot → Held → ℕ → Option SourceRootInput
+abbrev pub root_after : List SourceRoot → FileTables → ℕ → Option SourceRootInput
 root_after roots old number = option_or (option_map root_given (slice_get roots number)) (root_of old number)
 
 -- the place of a file by the last root that has it, of those that are given, numbered from here on
@@ -86,7 +86,7 @@ place_given number (root ∷ roots) file =
     (if has_file root file then Some (stored_place number (root_durability root)) else None)
 
 -- the place of a file: the one that is given, or its old one
-abbrev pub place_after : List SourceRoot → Held → ℕ → Option FileSourceRootInput
+abbrev pub place_after : List SourceRoot → FileTables → ℕ → Option FileSourceRootInput
 place_after roots old file = option_or (place_given 0 roots file) (file_root_of old file)
 
 -- the last new text of a file, where it changed. A file that was deleted has no bytes
@@ -96,7 +96,7 @@ text_given (changed ∷ rest) file =
     option_or (text_given rest file) (if file == changed.0 then Some (unwrap_or changed.1 []) else None)
 
 -- the text of a file: the last that is given, as durable as the file's root makes it, or its old one
-abbrev pub text_after : List (ℕ × Option (List ℕ)) → Held → Held → ℕ → Option FileText
+abbrev pub text_after : List (ℕ × Option (List ℕ)) → FileTables → FileTables → ℕ → Option FileText
 text_after changed old new file =
     option_or
     (option_map (λ text. stored_text file text (durability_of_file new file)) (text_given changed file))

@@ -4,7 +4,7 @@ use Rattle.std.specs.Prelude.{ℕ, ◌<◌, List, [], Option, Some, None, if◌t
 use Rattle.std.specs.Coded.{Coded, code_by, coded×, coded_list, coded_ℕ}
 use Rattle.std.specs.List.{All}
 use Rattle.outside.specs.Causes.{next_count}
-use Rattle.source_files.specs.Files.{Held, held_code, no_files}
+use Rattle.source_files.specs.Files.{FileTables, file_tables_code, no_files}
 use Rattle.input_db.specs.Identity.{IsTable, Table, input_eq, input_under, with_entry}
 use Rattle.input_db.specs.contracts.crate_input.CrateInput as input
 use Rattle.input_db.specs.contracts.crate_input.UniqueCrateData as unique
@@ -20,7 +20,7 @@ use Rattle.source_files.specs.declared.roots.LibraryRoots.{LibraryRoots}
 
 -- what a database holds
 pub record Database : Type 0 where
-  pub files : Held
+  pub files : FileTables
   -- the roots that are worked on, by number
   pub local : LocalRoots
   -- the roots that are libraries, by number
@@ -50,8 +50,8 @@ crates_code =
 -- a database is stored as its parts
 abbrev pub database_code : Coded Database
 database_code =
-    code_by (Held × (LocalRoots × (LibraryRoots × (ℕ × (Table × (List ℕ × (Durability × ℕ)))))))
-    (coded× held_code
+    code_by (FileTables × (LocalRoots × (LibraryRoots × (ℕ × (Table × (List ℕ × (Durability × ℕ)))))))
+    (coded× file_tables_code
     (coded× locals.the_row.coded (coded× libraries.the_row.coded (coded× coded_ℕ crates_code))))
     (λ d. (d.files, (d.local, (d.library, (d.nonce, (d.crates, (d.listed, (d.listed_durability, d.writes))))))))
     (λ p. record {
@@ -87,7 +87,7 @@ empty_database nonce = record {
 }
 
 -- the database with other files
-abbrev pub with_files : Database → Held → Database
+abbrev pub with_files : Database → FileTables → Database
 with_files db files = record db { files = files }
 
 -- the database with other lists of roots

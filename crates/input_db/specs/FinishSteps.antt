@@ -7,7 +7,8 @@ use Rattle.std.specs.Option.{option_map_or}
 use Rattle.std.specs.declared.cmp.Ordering.{Ordering}
 use Rattle.crate_values.specs.declared.builder.CrateBuilder.{CrateBuilder}
 use Rattle.input_db.specs.Database.{Database, with_crate_input, with_crate_list}
-use Rattle.input_db.specs.Identity.{Id, crate_for, identity_of, input_of, number_in}
+use Rattle.crate_graph.specs.Extend.{Id}
+use Rattle.input_db.specs.Identity.{crate_for, identity_of, input_of, number_in}
 use Rattle.input_db.specs.SetInDb.{IsSetInDb, listed_crates, with_member}
 use Rattle.input_db.specs.declared.crate_input.CrateInput.{CrateInput}
 use Rattle.input_db.specs.declared.crate_input.UniqueCrateData.{UniqueCrateData}

@@ -12,6 +12,7 @@ use Rattle.base_text.specs.Arena.{number_of}
 use Rattle.base_text.specs.Paths.{IsClean}
 use Rattle.base_text.specs.declared.arena.Idx.{Idx}
 use Rattle.base_text.specs.declared.cfg.CfgAtom.{CfgAtom}
+use Rattle.crate_graph.specs.Extend.{Id}
 use Rattle.crate_values.specs.Builder.{workspace_of}
 use Rattle.crate_values.specs.Laws.{renamed_crate}
 use Rattle.crate_values.specs.declared.builder.CrateBuilder.{CrateBuilder}
@@ -30,10 +31,6 @@ unique_eq = (identities.eq-value).it
 -- the `==` of inputs: true exactly where all that they hold is the same, as the laws of this crate say
 abbrev pub input_eq : CrateInput → CrateInput → Bool
 input_eq = (inputs.eq-value).it
-
--- the number of a crate in its graph
-abbrev pub Id : Type 0
-Id = Idx CrateTag
 
 -- the number in the database of a crate of the graph, by the list of these numbers
 abbrev pub number_in : List ℕ → Id → ℕ

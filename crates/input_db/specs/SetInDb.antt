@@ -12,7 +12,8 @@ use Rattle.graph_base.specs.Finish.{IsBehindTargets, IsFinishOrder}
 use Rattle.crate_graph.specs.Graph.{edges}
 use Rattle.crate_values.specs.declared.builder.CrateBuilder.{CrateBuilder}
 use Rattle.input_db.specs.Database.{Database}
-use Rattle.input_db.specs.Identity.{Id, IsTable, Table, crate_in, data_of, identity_of, input_in, input_of, number_in, uniques_in}
+use Rattle.crate_graph.specs.Extend.{Id}
+use Rattle.input_db.specs.Identity.{IsTable, Table, crate_in, data_of, identity_of, input_in, input_of, number_in, uniques_in}
 use Rattle.input_db.specs.declared.crate_input.UniqueCrateData.{UniqueCrateData}
 
 -- the crate of the graph that is finished at a place of the order

@@ -6,7 +6,8 @@ ghost use Rattle.std.specs.List.{All};
 ghost use Rattle.base_text.specs.Arena.{number_of};
 ghost use Rattle.graph_base.specs.Finish.{IsBehindTargets};
 ghost use Rattle.crate_graph.specs.Graph.{edges, target_of};
-ghost use Rattle.input_db.specs.Identity.{Id, IsTable, data_of, named_in, number_in};
+ghost use Rattle.crate_graph.specs.Extend.{Id};
+ghost use Rattle.input_db.specs.Identity.{IsTable, data_of, named_in, number_in};
 ghost use Rattle.input_db.specs.FinishSteps.{IsSetInSteps, finish_crate, progress_after, with_new_list};
 ghost use Rattle.input_db.specs.SetInDb.{IsSetInDb};
 

@@ -21,13 +21,13 @@ use Rattle.live.proofs.TextRows.{kept_more}
 -- ---- the tree of a load
 
 -- one more file, by its row
-abbrev put_row : List (Option (List ℕ)) → tree.Files → ℕ × PathContent → tree.Files
+abbrev put_row : List (Option (List ℕ)) → tree.TreeFiles → ℕ × PathContent → tree.TreeFiles
 put_row rows kept file = with_row kept file.1 (text_at rows file.0)
 
 -- files put in by their rows are those with a text: the same by whether the first has one
-rows-split : (text_of : PathContent → Option (List ℕ)) (rows : List (Option (List ℕ))) (number : ℕ) (place : PathContent) (places : List PathContent) (kept : tree.Files) (text : Option (List ℕ))
+rows-split : (text_of : PathContent → Option (List ℕ)) (rows : List (Option (List ℕ))) (number : ℕ) (place : PathContent) (places : List PathContent) (kept : tree.TreeFiles) (text : Option (List ℕ))
     → text_of place ≡ text → slice_get rows number ≡ Some text
-    → ((before : tree.Files) → fold (put_row rows) before (map numbered (filter_map (file_by text_of) (enumerate_from (number + 1) places))) ≡ fold with_kept_file before (live_of text_of places))
+    → ((before : tree.TreeFiles) → fold (put_row rows) before (map numbered (filter_map (file_by text_of) (enumerate_from (number + 1) places))) ≡ fold with_kept_file before (live_of text_of places))
     → fold (put_row rows) kept (map numbered (filter_map (file_by text_of) (enumerate_from number (place ∷ places)))) ≡ fold with_kept_file kept (live_of text_of (place ∷ places))
 rows-split text_of rows number place places kept None is row more = rw is (more kept)
 rows-split text_of rows number place places kept (Some text) is row more =
@@ -35,7 +35,7 @@ rows-split text_of rows number place places kept (Some text) is row more =
     (map numbered (filter_map (file_by text_of) (enumerate_from (number + 1) places)))) row
     ∙ more (with_kept_file kept (place, text)))
 
-rows-kept : (text_of : PathContent → Option (List ℕ)) (rows : List (Option (List ℕ))) (number : ℕ) (places : List PathContent) (kept : tree.Files)
+rows-kept : (text_of : PathContent → Option (List ℕ)) (rows : List (Option (List ℕ))) (number : ℕ) (places : List PathContent) (kept : tree.TreeFiles)
     → ((k : ℕ) (place : PathContent) → slice_get places k ≡ Some place → slice_get rows (number + k) ≡ Some (text_of place))
     → fold (put_row rows) kept (map numbered (filter_map (file_by text_of) (enumerate_from number places))) ≡ fold with_kept_file kept (live_of text_of places)
 rows-kept text_of rows number [] kept same = refl

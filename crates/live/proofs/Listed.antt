@@ -22,7 +22,8 @@ use Rattle.crate_graph.proofs.ExtendLemmas.{crate_edge, edge_crate}
 use Rattle.crate_graph.proofs.GraphLemmas.{slice_get_some}
 use Rattle.input_db.proofs.TableLemmas as rows
 use Rattle.input_db.specs.Database.{Database}
-use Rattle.input_db.specs.Identity.{Id, Table, crate_edges, data_of, input_in, named_in, number_in}
+use Rattle.crate_graph.specs.Extend.{Id}
+use Rattle.input_db.specs.Identity.{Table, crate_edges, data_of, input_in, named_in, number_in}
 use Rattle.input_db.specs.SetInDb.{IsSetInDb, first_places, with_member}
 use Rattle.input_db.specs.declared.crate_input.CrateInput.{CrateInput}
 use Rattle.pages.proofs.GraphEntries.{below_crates, data_held, in_order}

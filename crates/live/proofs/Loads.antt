@@ -140,8 +140,8 @@ refused_ends live live' path s error held h same r =
     subst (λ t. EndsTurn t s error live' (held, held)) (sym (load-refused s path r.refusal read)) (record {
       fails = record {
         written = AppendsFront-nil held [];
-        cut = λ e. absurd (no-fault r.refusal (sym r.told ∙ e));
-        refused = λ refusal. record { refused = ap Some (sym r.told); holds = holds; appended = Appends-nil held };
+        cut = λ e. absurd (no-fault r.refusal (sym r.reports ∙ e));
+        refused = λ refusal. record { refused = ap Some (sym r.reports); holds = holds; appended = Appends-nil held };
       };
       holds = holds;
     })
@@ -243,9 +243,9 @@ load_cause live path (Ok done) count fails = memory_cause (Ok done) count tt
 load_cause live path (Err error) count (inl memory) = memory_cause (Err error) count memory
 load_cause live path (Err error) count (inr refused) = record {
   later = omega arith;
-  only = subst (λ e. IsOneOf turn_statuses (status_of e)) (sym refused.told) (project-status refused.refusal);
-  write = λ e. absurd (let is : error ≡ WriteFault = cc in no-write refused.refusal (project-status refused.refusal) (sym refused.told ∙ is));
-  limits = λ e. let is : error ≡ TooMany Bytes = cc in project-limit refused.refusal refused.limits (sym refused.told ∙ is);
+  only = subst (λ e. IsOneOf turn_statuses (status_of e)) (sym refused.reports) (project-status refused.refusal);
+  write = λ e. absurd (let is : error ≡ WriteFault = cc in no-write refused.refusal (project-status refused.refusal) (sym refused.reports ∙ is));
+  limits = λ e. let is : error ≡ TooMany Bytes = cc in project-limit refused.refusal refused.limits (sym refused.reports ∙ is);
 }
 
 -- ---- what stays
@@ -293,9 +293,9 @@ load_leaves live live' path (Err error) event other loads same = others_leave li
 pub refuses_load : (live : Live) (path : List ℕ) (refusal : ProjectError) (sources : Sources) → sources ≡ sources_kept live path
     → Refuses refusal (read_sources sources) → NamesLoadLimit refusal → FailsLoad live path (of_project_error refusal)
 refuses_load live path (project.BadManifest text) sources same h names =
-    inr (record { refusal = project.BadManifest text; read = ap read_sources (sym same) ∙ h; told = refl; limits = names })
+    inr (record { refusal = project.BadManifest text; read = ap read_sources (sym same) ∙ h; reports = refl; limits = names })
 refuses_load live path (project.Refused error) sources same h names =
-    inr (record { refusal = project.Refused error; read = ap read_sources (sym same) ∙ h; told = refl; limits = names })
+    inr (record { refusal = project.Refused error; read = ap read_sources (sym same) ∙ h; reports = refl; limits = names })
 refuses_load live path project.OutOfMemory sources same h names = inl refl
 
 pub loads_live : (live mid live' : Live) (path : List ℕ) (sources : Sources) (content : ProjectContent) → sources ≡ sources_kept live path

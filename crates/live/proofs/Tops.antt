@@ -15,7 +15,7 @@ pub fails_new : (words : List (String Global)) (status : ℕ) (live live' : Live
     → FailsAs words status (live, live') left ((old, new), (told, told')) → FailsTop words status left ((old, new), (told, told'))
 fails_new words status live live' left old new told told' h fails = record {
   error = fails.error;
-  told = fails.told;
+  reports = fails.reports;
   text = fails.text;
   fails = λ s given all known.
       let failed = fails.fails first_state h s given all known in
@@ -26,7 +26,7 @@ fails_new words status live live' left old new told told' h fails = record {
 pub memory_top : (words : List (String Global)) (status : ℕ) (left held told : Option (List ℕ)) → status ≡ 1 → FailsTop words status left ((held, held), (told, told))
 memory_top words status left held told is = record {
   error = OutOfMemory;
-  told = sym is;
+  reports = sym is;
   text = AppendsFront-nil told _;
   fails = λ s given all known. record { written = AppendsFront-nil held (session s all).pages; refused = λ refusal. absurd (omega (arith, refusal)) };
 }

@@ -65,8 +65,8 @@ fails_flush live spared ended s error held h fails spares is =
         subst (λ t. EndsTurn t (ended_state s) error ended (held, held)) (sym (refused-turn live s refused.refusal h refused.lowers)) (record {
           fails = record {
             written = AppendsFront-nil held [];
-            cut = λ e. absurd (no-lower-fault refused.refusal (sym refused.told ∙ e));
-            refused = λ refusal. record { refused = ap Some (sym refused.told); holds = holds; appended = Appends-nil held };
+            cut = λ e. absurd (no-lower-fault refused.refusal (sym refused.reports ∙ e));
+            refused = λ refusal. record { refused = ap Some (sym refused.reports); holds = holds; appended = Appends-nil held };
           };
           holds = holds;
         })
@@ -99,13 +99,13 @@ fails_cause live error count (inl memory) = record {
 }
 fails_cause live error count (inr refused) = record {
   later = omega arith;
-  only = subst (λ e. IsOneOf flush_statuses (status_of e)) (sym refused.told) (lower-status refused.refusal);
-  write = λ e. absurd (let is : error ≡ WriteFault = cc in no-lower-fault refused.refusal (sym refused.told ∙ is));
-  limits = λ e. let is : error ≡ TooMany Bytes = cc in flush-limit live refused.refusal refused.lowers (sym refused.told ∙ is);
+  only = subst (λ e. IsOneOf flush_statuses (status_of e)) (sym refused.reports) (lower-status refused.refusal);
+  write = λ e. absurd (let is : error ≡ WriteFault = cc in no-lower-fault refused.refusal (sym refused.reports ∙ is));
+  limits = λ e. let is : error ≡ TooMany Bytes = cc in flush-limit live refused.refusal refused.lowers (sym refused.reports ∙ is);
 }
 
 -- what a call of the lowering gives, of a session
 pub refuses_flush : (live : Live) (refusal : LowerError) → Refuses refusal (crates_by live.project (existing_files live.files)) → FailsFlush live (of_lower_error refusal)
-refuses_flush live (lower.BadCrateName name) h = inr (record { refusal = lower.BadCrateName name; lowers = h; told = refl })
-refuses_flush live (lower.TooMany limit) h = inr (record { refusal = lower.TooMany limit; lowers = h; told = refl })
+refuses_flush live (lower.BadCrateName name) h = inr (record { refusal = lower.BadCrateName name; lowers = h; reports = refl })
+refuses_flush live (lower.TooMany limit) h = inr (record { refusal = lower.TooMany limit; lowers = h; reports = refl })
 refuses_flush live lower.OutOfMemory h = inl refl

@@ -13,7 +13,7 @@ use Rattle.live.specs.Fault.{status_of, text_of}
 use Rattle.live.specs.Run.{Completes, FailsFrom, Finishes, TakesAtMost}
 use Rattle.live.specs.Session.{State, session}
 use Rattle.live.specs.Turn.{Holds}
-use Rattle.live.specs.Written.{AppendsFront, Told}
+use Rattle.live.specs.Written.{AppendsFront, StreamBytes}
 
 -- the texts of words
 abbrev pub texts_of : List (String Global) → List (List ℕ)
@@ -32,25 +32,25 @@ abbrev pub state_for : List (String Global) → State → Option State
 state_for words s = option_map (state_of_command s) (command_of (texts_of words))
 
 -- a run from the state that the words give finished
-pub record FinishesAs (start : Option State) (live : Live) (left held : Told) : Type 0 where
+pub record FinishesAs (start : Option State) (live : Live) (left held : StreamBytes) : Type 0 where
   pub state : State
   pub given : start ≡ Some state
   pub finishes : Finishes state live left held
 
 -- the session from the state that the words give fails with this error
-abbrev pub FailsFor : Option State → LiveError → Live → Option (List ℕ) → Told → Type 0
+abbrev pub FailsFor : Option State → LiveError → Live → Option (List ℕ) → StreamBytes → Type 0
 FailsFor start error live left held = (s : State) → start ≡ Some s → FailsFrom s error live left held
 
 -- it fails with an error of this status, from each state that the session held before; and of the error's text and a newline a
 -- front was appended to the second output
-pub record FailsAs (words : List (String Global)) (status : ℕ) (lives : Live × Live) (left : Option (List ℕ)) (outputs : Told × Told) : Type 0 where
+pub record FailsAs (words : List (String Global)) (status : ℕ) (lives : Live × Live) (left : Option (List ℕ)) (outputs : StreamBytes × StreamBytes) : Type 0 where
   pub error : LiveError
-  pub told : status_of error ≡ status
+  pub reports : status_of error ≡ status
   pub text : AppendsFront outputs.1 (text_of error ∷ (10 ∷ []) ∷ [])
   pub fails : (s : State) → Holds lives.0 s → FailsFor (state_for words s) error lives.1 left outputs.0
 
 -- the source gave at most one byte more than the words' limit
-abbrev pub TakesFor : List (String Global) → Told → Type 0
+abbrev pub TakesFor : List (String Global) → StreamBytes → Type 0
 TakesFor words left = (config : LiveConfig) → command_of (texts_of words) ≡ Some (Run config) → TakesAtMost (config.limits.bytes + 1) left
 
 -- wrong words: status 2 only and always where the words give no command, unless memory ran out, and then all is as it was

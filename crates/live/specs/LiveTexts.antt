@@ -38,12 +38,12 @@ abbrev pub text_at : List (Option (List ℕ)) → ℕ → Option (List ℕ)
 text_at rows number = option_and_then (λ text. text) (slice_get rows number)
 
 -- the files of a tree, with one more where its row has a text; a virtual path is in no tree
-abbrev pub with_row : tree.Files → PathContent → Option (List ℕ) → tree.Files
+abbrev pub with_row : tree.TreeFiles → PathContent → Option (List ℕ) → tree.TreeFiles
 with_row files path None = files
 with_row files path (Some text) = with_kept_file files (path, text)
 
 -- the tree of these files, by the rows of their numbers
-unfoldable pub kept_by : List (Option (List ℕ)) → List (ℕ × PathContent) → tree.Files
+unfoldable pub kept_by : List (Option (List ℕ)) → List (ℕ × PathContent) → tree.TreeFiles
 kept_by rows files = fold (λ kept file. with_row kept file.1 (text_at rows file.0)) [] files
 
 -- contents, or a deletion where there are none, came for a path

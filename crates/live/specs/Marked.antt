@@ -63,7 +63,7 @@ pub record LoadsProject (old new : Live) (path : List ℕ) : Type 0 where
 pub record IsLoadRefusal (live : Live) (path : List ℕ) (error : LiveError) : Type 0 where
   pub refusal : ProjectError
   pub read : read_sources (sources_kept live path) ≡ Err refusal
-  pub told : error ≡ of_project_error refusal
+  pub reports : error ≡ of_project_error refusal
   pub limits : NamesLoadLimit refusal
 
 -- a load fails out of memory, or it is refused

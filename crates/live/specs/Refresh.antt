@@ -6,7 +6,7 @@ use Rattle.vfs_core.specs.Files.{existing_files}
 use Rattle.vfs_core.specs.VfsPath.{PathContent}
 use Rattle.vfs_sets.specs.Probes.{CountsPlacing}
 use Rattle.crate_graph.specs.Graph.{Graph}
-use Rattle.input_db.specs.Identity.{Id}
+use Rattle.crate_graph.specs.Extend.{Id}
 use Rattle.pm_rows.specs.Lowering.{LacksCyclesAlone, crate_seen}
 use Rattle.pm_rows.specs.Refusal.{Refuses}
 use Rattle.pm_rows.specs.declared.lower_error.LowerError.{LowerError}
@@ -69,7 +69,7 @@ pub record KeepsLast (live : Live) (last : LastFlush) : Type 0 where
 pub record IsFlushRefusal (live : Live) (error : LiveError) : Type 0 where
   pub refusal : LowerError
   pub lowers : crates_by live.project (existing_files live.files) ≡ Err refusal
-  pub told : error ≡ of_lower_error refusal
+  pub reports : error ≡ of_lower_error refusal
 
 -- a flush fails out of memory, or it is refused
 abbrev pub FailsFlush : Live → LiveError → Type 0

@@ -8,38 +8,38 @@ use Rattle.live.specs.declared.fault.LiveError.TheVariants.{OutOfMemory}
 use Rattle.live.specs.Fault.{IsOneOf, IsRefusal}
 use Rattle.live.specs.Session.{State, Outcome, session}
 use Rattle.live.specs.Turn.{Holds}
-use Rattle.live.specs.Written.{AppendsFront, AppendsPages, Counts, Told}
+use Rattle.live.specs.Written.{AppendsFront, AppendsPages, Counts, StreamBytes}
 
 -- these lines were taken with no refusal: their state is held, and their pages were appended
-pub record Ran (o : Outcome) (live : Live) (held : Told) : Type 0 where
+pub record Ran (o : Outcome) (live : Live) (held : StreamBytes) : Type 0 where
   pub accepted : o.refusal ≡ None
   pub holds : Holds live o.state
   pub appended : AppendsPages held o.pages
 
 -- the same up to a refusal
-pub record Stops (o : Outcome) (error : LiveError) (live : Live) (held : Told) : Type 0 where
+pub record Stops (o : Outcome) (error : LiveError) (live : Live) (held : StreamBytes) : Type 0 where
   pub refused : o.refusal ≡ Some error
   pub holds : Holds live o.state
   pub appended : AppendsPages held o.pages
 
 -- an error ends a session: a front of its pages was appended, and a refusal is the session's own
-pub record Fails (o : Outcome) (error : LiveError) (live : Live) (held : Told) : Type 0 where
+pub record Fails (o : Outcome) (error : LiveError) (live : Live) (held : StreamBytes) : Type 0 where
   pub written : AppendsFront held o.pages
   pub refused : IsRefusal error → Stops o error live held
 
 -- an error ends the session of the bytes that a source has left, where it shows them
-abbrev pub FailsFrom : State → LiveError → Live → Option (List ℕ) → Told → Type 0
+abbrev pub FailsFrom : State → LiveError → Live → Option (List ℕ) → StreamBytes → Type 0
 FailsFrom s error live left held = (all : List ℕ) → left ≡ Some all → Fails (session s all) error live held
 
 -- the source was read to its end, and the session of its bytes was run
-pub record Finishes (s : State) (live : Live) (left held : Told) : Type 0 where
+pub record Finishes (s : State) (live : Live) (left held : StreamBytes) : Type 0 where
   pub bytes : List ℕ
   pub read : Consumes left.0 left.1 bytes
   pub at_end : IsAtEnd left.1
   pub ran : Ran (session s bytes) live held
 
 -- a source gave at most so many of its bytes
-pub record TakesAtMost (most : ℕ) (left : Told) : Type 0 where
+pub record TakesAtMost (most : ℕ) (left : StreamBytes) : Type 0 where
   pub bytes : List ℕ
   pub read : Consumes left.0 left.1 bytes
   pub few : length bytes ≤ most

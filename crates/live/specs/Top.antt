@@ -8,20 +8,20 @@ use Rattle.live.specs.Fault.{IsRefusal, status_of, text_of}
 use Rattle.live.specs.Run.{Stops}
 use Rattle.live.specs.Session.{Outcome, State, session}
 use Rattle.live.specs.Turn.{first_state}
-use Rattle.live.specs.Written.{AppendsFront, Told}
+use Rattle.live.specs.Written.{AppendsFront, StreamBytes}
 
 -- the session of the whole input was run to its end by some session
-abbrev pub FinishesTop : Option State → Told → Told → Type 0
+abbrev pub FinishesTop : Option State → StreamBytes → StreamBytes → Type 0
 FinishesTop start left held = (live : Live) × FinishesAs start live left held
 
 -- an error ends the session of the input: a front of its pages was appended, and a refusal is the session's own
-pub record FailsNew (o : Outcome) (error : LiveError) (held : Told) : Type 0 where
+pub record FailsNew (o : Outcome) (error : LiveError) (held : StreamBytes) : Type 0 where
   pub written : AppendsFront held o.pages
   pub refused : IsRefusal error → (live : Live) × Stops o error live held
 
 -- the program failed with an error of this status, of whose text and a newline a front was appended to the second output
-pub record FailsTop (words : List (String Global)) (status : ℕ) (left : Option (List ℕ)) (outputs : Told × Told) : Type 0 where
+pub record FailsTop (words : List (String Global)) (status : ℕ) (left : Option (List ℕ)) (outputs : StreamBytes × StreamBytes) : Type 0 where
   pub error : LiveError
-  pub told : status_of error ≡ status
+  pub reports : status_of error ≡ status
   pub text : AppendsFront outputs.1 (text_of error ∷ (10 ∷ []) ∷ [])
   pub fails : (s : State) → state_for words first_state ≡ Some s → (all : List ℕ) → left ≡ Some all → FailsNew (session s all) error outputs.0

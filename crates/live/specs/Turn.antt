@@ -24,7 +24,7 @@ use Rattle.live.specs.Image.{ShowsFlush, shape_of_flush}
 use Rattle.live.specs.LiveTexts.{KeepsTexts, files_kept}
 use Rattle.live.specs.Page.{Flush, numbers_of_flush, roots_by}
 use Rattle.live.specs.Session.{State, Turn, flush_of, state_after_failure, turn}
-use Rattle.live.specs.Written.{AppendsFront, AppendsPages, AppendsProperFront, Counts, HasWriteCause, Told}
+use Rattle.live.specs.Written.{AppendsFront, AppendsPages, AppendsProperFront, Counts, HasWriteCause, StreamBytes}
 
 -- ---- a state that is held
 
@@ -72,30 +72,30 @@ first_state = record { config = first_config; marks = []; answers = []; project 
 -- ---- one step
 
 -- a turn that is not refused was taken: the state after it is held, and its pages were appended
-pub record TakesTurn (t : Turn) (live : Live) (held : Told) : Type 0 where
+pub record TakesTurn (t : Turn) (live : Live) (held : StreamBytes) : Type 0 where
   pub accepted : t.refusal ≡ None
   pub holds : Holds live t.state
   pub appended : AppendsPages held t.pages
 
 -- a turn that is refused with this error: the state after it is held, and its pages were appended
-pub record RefusesTurn (t : Turn) (error : LiveError) (live : Live) (held : Told) : Type 0 where
+pub record RefusesTurn (t : Turn) (error : LiveError) (live : Live) (held : StreamBytes) : Type 0 where
   pub refused : t.refusal ≡ Some error
   pub holds : Holds live t.state
   pub appended : AppendsPages held t.pages
 
 -- an error ends a turn: a front of its pages was appended, not all of them after a write fault, and a refusal is the turn's own
-pub record FailsTurn (t : Turn) (error : LiveError) (live : Live) (held : Told) : Type 0 where
+pub record FailsTurn (t : Turn) (error : LiveError) (live : Live) (held : StreamBytes) : Type 0 where
   pub written : AppendsFront held t.pages
   pub cut : error ≡ WriteFault → AppendsProperFront held t.pages
   pub refused : IsRefusal error → RefusesTurn t error live held
 
 -- and the session holds the state that the failure leaves
-pub record EndsTurn (t : Turn) (left : State) (error : LiveError) (live : Live) (held : Told) : Type 0 where
+pub record EndsTurn (t : Turn) (left : State) (error : LiveError) (live : Live) (held : StreamBytes) : Type 0 where
   pub fails : FailsTurn t error live held
   pub holds : Holds live left
 
 -- an error of a step: the turn failed with it, or the session had ended and nothing was done
-abbrev pub FailsStep : State → Event → StepError → Live → Told → Type 0
+abbrev pub FailsStep : State → Event → StepError → Live → StreamBytes → Type 0
 FailsStep s event (Refused error) live held = EndsTurn (turn s event) (state_after_failure s event) error live held
 FailsStep s event Ended live held = Holds live s × Appends held.0 held.1 []
 

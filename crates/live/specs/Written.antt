@@ -9,25 +9,25 @@ use Rattle.live.specs.declared.fault.LiveError.TheVariants.{TooMany, WriteFault}
 use Rattle.live.specs.Fault.{IsOneOf, status_of}
 
 -- the bytes that a stream shows before a call, and after it: those left to read, or those written
-abbrev pub Told : Type 0
-Told = Option (List ℕ) × Option (List ℕ)
+abbrev pub StreamBytes : Type 0
+StreamBytes = Option (List ℕ) × Option (List ℕ)
 
 -- how many faults a stream counted before a call, and after it
 abbrev pub Counts : Type 0
 Counts = ℕ × ℕ
 
 -- the sink took these pages, whole and in order, and nothing else
-abbrev pub AppendsPages : Told → List (List ℕ) → Type 0
+abbrev pub AppendsPages : StreamBytes → List (List ℕ) → Type 0
 AppendsPages held pages = Appends held.0 held.1 (concat pages)
 
 -- the sink took a front of these pages
-pub record AppendsFront (held : Told) (pages : List (List ℕ)) : Type 0 where
+pub record AppendsFront (held : StreamBytes) (pages : List (List ℕ)) : Type 0 where
   pub count : ℕ
   pub within : count ≤ length (concat pages)
   pub front : Appends held.0 held.1 (take count (concat pages))
 
 -- the sink took a front of these pages, and not all of them
-pub record AppendsProperFront (held : Told) (pages : List (List ℕ)) : Type 0 where
+pub record AppendsProperFront (held : StreamBytes) (pages : List (List ℕ)) : Type 0 where
   pub count : ℕ
   pub short : count < length (concat pages)
   pub front : Appends held.0 held.1 (take count (concat pages))

@@ -13,8 +13,8 @@ use Rattle.vfs_sets.specs.Partition.{IsPartition}
 use Rattle.input_db.specs.Applied.{database_after_change, with_roots_if_any}
 use Rattle.input_db.specs.Change.{IsChanged, SetsCrates, fits_file, is_in_some, is_root, keeps_root, local_after, library_after, place_after, place_given, root_after, root_given, text_after, text_given}
 use Rattle.input_db.specs.Database.{Database}
-use Rattle.source_files.specs.Files.{Held, durability_of_file, file_root_of, root_of, stored_place, stored_text, text_of}
-use Rattle.input_db.specs.Identity.{Id}
+use Rattle.source_files.specs.Files.{FileTables, durability_of_file, file_root_of, root_of, stored_place, stored_text, text_of}
+use Rattle.crate_graph.specs.Extend.{Id}
 use Rattle.source_files.specs.SourceRoot.{has_file, root_durability}
 use Rattle.input_db.specs.declared.change.FileChange.{FileChange}
 use Rattle.source_files.specs.declared.durability.Durability.{Durability}
@@ -69,7 +69,7 @@ placed_by number (root ∷ roots) file =
     (placed_by (suc number) roots file)
 
 -- after the roots were given a file has a root there exactly where it fits them before
-module _ (roots : List SourceRoot) (old now : Held) (roots_are : (number : ℕ) → root_of now number ≡ root_after roots old number) (places_are : (file : ℕ) → file_root_of now file ≡ place_after roots old file) where
+module _ (roots : List SourceRoot) (old now : FileTables) (roots_are : (number : ℕ) → root_of now number ≡ root_after roots old number) (places_are : (file : ℕ) → file_root_of now file ≡ place_after roots old file) where
   is_root-given : (number : ℕ) → is_root now [] number ≡ is_root old roots number
   is_root-given number =
       ap (λ (r : Option SourceRootInput). is_some r || nat_lt number 0) (roots_are number)

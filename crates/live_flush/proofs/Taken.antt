@@ -10,7 +10,7 @@ use Rattle.vfs_sets.specs.FileSet as sets
 use Rattle.vfs_sets.specs.Partition.{IsPartition}
 use Rattle.input_db.specs.Change.{fits, fits_file}
 use Rattle.input_db.specs.declared.change.FileChange.{FileChange}
-use Rattle.source_files.specs.Files.{Held}
+use Rattle.source_files.specs.Files.{FileTables}
 use Rattle.source_files.specs.declared.source_root.SourceRoot.{SourceRoot}
 use Rattle.live_flush.specs.Refresh.{changes_taken, text_if, text_left}
 use Rattle.std.proofs.lemmas.List.FromFn.{length-map-range_with_len}
@@ -32,7 +32,7 @@ pub text_if-invalid : (bytes bytes' : List ℕ) → bytes' ≡ bytes → (IsUtf8
 text_if-invalid bytes bytes' same h = invalid-split bytes (is_utf8 bytes) refl (λ u. h (subst IsUtf8 (sym same) u))
 
 -- one more change: the same by whether its file has a root
-pub taken-split : (files : Held) (roots : List SourceRoot) (entry : ℕ × ChangedFile) (rest : List (ℕ × ChangedFile)) (fits : Bool)
+pub taken-split : (files : FileTables) (roots : List SourceRoot) (entry : ℕ × ChangedFile) (rest : List (ℕ × ChangedFile)) (fits : Bool)
     → fits_file files roots entry.0 ≡ fits
     → changes_taken files roots (entry ∷ rest)
     ≡ (if fits then (entry.0, text_left entry.1.change) ∷ changes_taken files roots rest else changes_taken files roots rest)
@@ -40,7 +40,7 @@ taken-split files roots entry rest true e = rw e refl
 taken-split files roots entry rest false e = rw e refl
 
 -- a change that is taken follows those before it
-pub takes_change : (files : Held) (roots : List SourceRoot) (all batch rest : List (ℕ × ChangedFile)) (entry : ℕ × ChangedFile)
+pub takes_change : (files : FileTables) (roots : List SourceRoot) (all batch rest : List (ℕ × ChangedFile)) (entry : ℕ × ChangedFile)
     (before after : List (ℕ × Option (List ℕ))) (text : Option (List ℕ))
     → before ++ changes_taken files roots batch ≡ changes_taken files roots all → batch ≡ entry ∷ rest
     → fits_file files roots entry.0 ≡ true → text ≡ text_left entry.1.change → after ≡ before ++ (entry.0, text) ∷ []
@@ -53,7 +53,7 @@ takes_change files roots all batch rest entry before after text so_far is fits l
     ∙ so_far
 
 -- and one that is dropped does not
-pub drops_change : (files : Held) (roots : List SourceRoot) (all batch rest : List (ℕ × ChangedFile)) (entry : ℕ × ChangedFile)
+pub drops_change : (files : FileTables) (roots : List SourceRoot) (all batch rest : List (ℕ × ChangedFile)) (entry : ℕ × ChangedFile)
     (before : List (ℕ × Option (List ℕ)))
     → before ++ changes_taken files roots batch ≡ changes_taken files roots all → batch ≡ entry ∷ rest
     → fits_file files roots entry.0 ≡ false
@@ -64,7 +64,7 @@ drops_change files roots all batch rest entry before so_far is fits =
     ∙ so_far
 
 -- each change that is taken has a root: the same by whether the first has
-fit-split : (files : Held) (roots : List SourceRoot) (entry : ℕ × ChangedFile) (rest : List (ℕ × ChangedFile)) (fits : Bool)
+fit-split : (files : FileTables) (roots : List SourceRoot) (entry : ℕ × ChangedFile) (rest : List (ℕ × ChangedFile)) (fits : Bool)
     → fits_file files roots entry.0 ≡ fits
     → list_all (λ changed. fits_file files roots changed.0) (changes_taken files roots rest) ≡ true
     → list_all (λ changed. fits_file files roots changed.0) (changes_taken files roots (entry ∷ rest)) ≡ true
@@ -75,13 +75,13 @@ fit-split files roots entry rest false e more =
     ap (list_all (λ (changed : ℕ × Option (List ℕ)). fits_file files roots changed.0)) (taken-split files roots entry rest false e)
     ∙ more
 
-taken-fit : (files : Held) (roots : List SourceRoot) (batch : List (ℕ × ChangedFile))
+taken-fit : (files : FileTables) (roots : List SourceRoot) (batch : List (ℕ × ChangedFile))
     → list_all (λ changed. fits_file files roots changed.0) (changes_taken files roots batch) ≡ true
 taken-fit files roots [] = refl
 taken-fit files roots (entry ∷ rest) = fit-split files roots entry rest (fits_file files roots entry.0) refl (taken-fit files roots rest)
 
 -- so the whole change fits
-pub taken_fits : (files : Held) (change : FileChange) (batch : List (ℕ × ChangedFile))
+pub taken_fits : (files : FileTables) (change : FileChange) (batch : List (ℕ × ChangedFile))
     → change.roots ≡ None → change.files_changed ≡ changes_taken files [] batch → fits files change ≡ true
 taken_fits files change batch none taken =
     ap (λ r. list_all (λ changed. fits_file files (unwrap_or r []) changed.0) change.files_changed) none
@@ -89,7 +89,7 @@ taken_fits files change batch none taken =
     ∙ taken-fit files [] batch
 
 -- and so does one of no files
-pub none_fits : (files : Held) (change : FileChange) → change.files_changed ≡ [] → fits files change ≡ true
+pub none_fits : (files : FileTables) (change : FileChange) → change.files_changed ≡ [] → fits files change ≡ true
 none_fits files change none =
     ap (list_all (λ (changed : ℕ × Option (List ℕ)). fits_file files (unwrap_or change.roots []) changed.0)) none
 

@@ -9,7 +9,7 @@ use Rattle.vfs_core.specs.declared.changed_file.Change.TheVariants.{Create, Modi
 use Rattle.vfs_core.specs.declared.changed_file.ChangedFile.{ChangedFile}
 use Rattle.vfs_core.specs.Texts.{all_pass, contents_left, passes}
 use Rattle.input_db.specs.Change.{fits_file, text_given}
-use Rattle.source_files.specs.Files.{Held}
+use Rattle.source_files.specs.Files.{FileTables}
 use Rattle.source_files.specs.declared.source_root.SourceRoot.{SourceRoot}
 use Rattle.live_flush.specs.Refresh.{changes_taken, text_left}
 use Rattle.live_flush.proofs.Taken.{taken-split}
@@ -22,7 +22,7 @@ or-none : {X : Type 0} (x : Option X) → option_or x None ≡ x
 or-none None = refl
 or-none (Some x) = refl
 
-module _ (files : Held) (roots : List SourceRoot) (file : ℕ) where
+module _ (files : FileTables) (roots : List SourceRoot) (file : ℕ) where
   -- a batch without the file gives it none: the same by whether the first file has a root
   none-split : (entry : ℕ × ChangedFile) (rest : List (ℕ × ChangedFile)) (fits : Bool)
       → fits_file files roots entry.0 ≡ fits → nat_eq file entry.0 ≡ false

@@ -17,9 +17,9 @@ use Rattle.crate_graph.specs.Graph.{Graph}
 use Rattle.input_db.specs.Change.{IsChanged, fits_file}
 use Rattle.input_db.specs.Database.{Database}
 use Rattle.input_db.specs.FinishSteps.{IsSetInSteps}
-use Rattle.input_db.specs.Identity.{Id}
+use Rattle.crate_graph.specs.Extend.{Id}
 use Rattle.input_db.specs.declared.change.FileChange.{FileChange}
-use Rattle.source_files.specs.Files.{Held}
+use Rattle.source_files.specs.Files.{FileTables}
 use Rattle.source_files.specs.declared.source_root.SourceRoot.{SourceRoot}
 use Rattle.live_flush.specs.FileRoots.{root_lists, source_roots}
 use Rattle.live_flush.specs.declared.file_root.FileRoot.{FileRoot}
@@ -33,7 +33,7 @@ abbrev pub text_left : Change → Option (List ℕ)
 text_left change = option_and_then text_if (contents_left change)
 
 -- those changes whose file has a root, each with the text that it leaves
-abbrev pub changes_taken : Held → List SourceRoot → List (ℕ × ChangedFile) → List (ℕ × Option (List ℕ))
+abbrev pub changes_taken : FileTables → List SourceRoot → List (ℕ × ChangedFile) → List (ℕ × Option (List ℕ))
 changes_taken files roots batch =
     map (λ entry. (entry.0, text_left entry.1.change)) (filter (λ entry. fits_file files roots entry.0) batch)
 

@@ -47,10 +47,10 @@ use Rattle.live_project.specs.Project.{ProjectContent}
 
 module _ (P : ℕ → Type 0) where
   -- what holds of the number of each file
-  abbrev AllFiles : by_path.Files → Type 0
+  abbrev AllFiles : by_path.FileNumbers → Type 0
   AllFiles files = All (λ e. P e.1) files
 
-  insert-all : (files : by_path.Files) (path : List ℕ) (file : ℕ) → P file → AllFiles files → AllFiles (insert_entry path_eq files path file)
+  insert-all : (files : by_path.FileNumbers) (path : List ℕ) (file : ℕ) → P file → AllFiles files → AllFiles (insert_entry path_eq files path file)
   insert-all [] path file p all = All-cons (λ e. P e.1) (path, file) [] p all
   insert-all (e ∷ files) path file p all =
       let rest = All-tail (λ e. P e.1) e files all in
@@ -58,20 +58,20 @@ module _ (P : ℕ → Type 0) where
       (λ same. All-cons (λ e. P e.1) (e.0, file) files p rest)
       (λ other. All-cons (λ e. P e.1) e (insert_entry path_eq files path file) (All-head (λ e. P e.1) e files all) (insert-all files path file p rest))
 
-  with_live_file-all : (files : by_path.Files) (file : ℕ × PathContent) → P file.0 → AllFiles files → AllFiles (with_live_file files file)
+  with_live_file-all : (files : by_path.FileNumbers) (file : ℕ × PathContent) → P file.0 → AllFiles files → AllFiles (with_live_file files file)
   with_live_file-all files file p all =
       cond_both file.1.is_virtual files (by_path.with_file files file.1.text file.0) AllFiles
       (λ virtual. all) (λ real. insert-all files (by_path.path_key file.1.text) file.0 p all)
 
   -- files that are put in one after the other
-  put-all : (before : by_path.Files) (files : List (ℕ × PathContent)) → AllFiles before → All (λ file. P file.0) files → AllFiles (fold with_live_file before files)
+  put-all : (before : by_path.FileNumbers) (files : List (ℕ × PathContent)) → AllFiles before → All (λ file. P file.0) files → AllFiles (fold with_live_file before files)
   put-all before [] all each = all
   put-all before (file ∷ files) all each =
       put-all (with_live_file before file) files (with_live_file-all before file (All-head (λ f. P f.0) file files each) all) (All-tail (λ f. P f.0) file files each)
 
   -- ---- the rows of a project, and its crates
 
-  module _ (files : by_path.Files) (all : AllFiles files) (w : Workspace) where
+  module _ (files : by_path.FileNumbers) (all : AllFiles files) (w : Workspace) where
     root-of : (of : PackageData) (target : TargetData) → IfSome (root_file files w of target) P
     unfolding root_file
     root-of of target =
@@ -138,7 +138,7 @@ module _ (P : ℕ → Type 0) where
 
   -- ---- the crates of a JSON project, and that of a detached file
 
-  module _ (files : by_path.Files) (all : AllFiles files) where
+  module _ (files : by_path.FileNumbers) (all : AllFiles files) where
     json-row : (n : ℕ) (krate : document.Crate) → All (λ (row : json_rows.Row). P row.file) (option_to_list (json_rows.row_of files n krate))
     unfolding Rattle.pm_json_rows.specs.Rows.row_of
     json-row n krate = by (by_path.file_of files krate.root_module) (All-lookup P (path_eq (by_path.path_key krate.root_module)) files all)
@@ -176,7 +176,7 @@ module _ (P : ℕ → Type 0) where
         (λ more. tt) (λ few. alone-begins file shared (by_path.file_of files file) (All-lookup P (path_eq (by_path.path_key file)) files all))
     detached-begins file (Some w) shared limit = lowering-begins files all w shared limit
 
-  kind-begins : (files : by_path.Files) → AllFiles files → (kind : ProjectWorkspaceKind) (shared : CrateWorkspaceData) (limit : ℕ)
+  kind-begins : (files : by_path.FileNumbers) → AllFiles files → (kind : ProjectWorkspaceKind) (shared : CrateWorkspaceData) (limit : ℕ)
       → IfOk (kind_lowering files kind shared limit) (λ crates. All (λ krate. P krate.root) crates)
   kind-begins files all (Cargo cargo error scripts rustc) shared limit = lowering-begins files all cargo shared limit
   kind-begins files all (Json project) shared limit = json-begins files all project shared limit
@@ -228,7 +228,7 @@ abbrev IsFound : List (ℕ × PathContent) → ℕ → Type 0
 IsFound files number = (path : PathContent) × (lookup (nat_eq number) files ≡ Some path)
 
 -- each crate of a lowered project begins in a file that exists
-pub begin_in : (p : ProjectContent) (files : Files) (loader : by_path.Files) (limit : ℕ) (result : Result Graph LowerError)
+pub begin_in : (p : ProjectContent) (files : Files) (loader : by_path.FileNumbers) (limit : ℕ) (result : Result Graph LowerError)
     → loader ≡ files_by_path (existing_files files) → IsLowered limit result (lowered_by p loader)
     → IfOk result (λ graph. BeginIn (existing_files files) graph.crates)
 unfolding files_by_path

@@ -18,7 +18,7 @@ use Rattle.pm_packages.specs.declared.package.PackageDependency.{PackageDependen
 use Rattle.pm_packages.specs.declared.target.TargetData.{TargetData}
 use Rattle.pm_packages.proofs.UpdateLemmas.{length-changed}
 use Rattle.pm_reading.specs.Links.{linked_contents, linked_packages, with_links}
-use Rattle.pm_reading.specs.Nodes.{by_package, dependencies_of_kinds, kinds_of, known_place, link_of, links_of, nodes_of, place_of, place_or_refusal, take_dependency, take_node, with_kinds}
+use Rattle.pm_reading.specs.Nodes.{by_package, dependencies_of_kinds, kinds_of, known_place, link_of, links_of, nodes_of, place_of_package, place_or_refusal, take_dependency, take_node, with_kinds}
 use Rattle.pm_reading.specs.Packages.{absolute_path, contents_of, by_id, is_script, manifest_path, optional_path, root_of, take_package, take_target, target_with_root, with_package}
 use Rattle.pm_reading.specs.Reading.{Reading, ◌>>=◌, take_each}
 use Rattle.pm_reading.specs.declared.contents.Contents.{Contents}
@@ -118,7 +118,7 @@ module _ (members : List PackageId) (limits : Limits) where
   names_contents packages = names_each (take_package members limits) names_package (record { packages = []; targets = [] }) (sorted by_id packages)
 
 names_place : (packages : List PackageData) (id : List ℕ) → Names (known_place packages id)
-names_place packages id = by (place_of packages id)
+names_place packages id = by (place_of_package packages id)
   where
     by : (o : Option ℕ) → Names (place_or_refusal id o)
     by None = names_unknown id

@@ -33,7 +33,7 @@ parts-limit : (shared : CrateWorkspaceData) (all : List Part) (is_more : Bool) (
 parts-limit shared all true limit is = cc
 parts-limit shared all false limit is = named-limit shared all (slice_get (bad_names all) 0) limit is
 
-workspace-limit : (files : by_path.Files) (w : Workspace) (shared : CrateWorkspaceData) (most : ℕ) (limit : Limit) → lowering files w shared most ≡ Err (TooMany limit) → limit ≡ Crates
+workspace-limit : (files : by_path.FileNumbers) (w : Workspace) (shared : CrateWorkspaceData) (most : ℕ) (limit : Limit) → lowering files w shared most ≡ Err (TooMany limit) → limit ≡ Crates
 unfolding lowering
 workspace-limit files w shared most limit is = parts-limit shared (parts files w) (nat_lt most (length (rows_of_parts (parts files w)))) limit is
 
@@ -42,12 +42,12 @@ counted-limit : (is_more : Bool) (crates : List Crate) (limit : Limit) → cond 
 counted-limit true crates limit is = cc
 counted-limit false crates limit is = cc
 
-json-limit : (files : by_path.Files) (project : ProjectJson) (shared : CrateWorkspaceData) (most : ℕ) (limit : Limit) → json.lowering files project shared most ≡ Err (TooMany limit) → limit ≡ Crates
+json-limit : (files : by_path.FileNumbers) (project : ProjectJson) (shared : CrateWorkspaceData) (most : ℕ) (limit : Limit) → json.lowering files project shared most ≡ Err (TooMany limit) → limit ≡ Crates
 unfolding Rattle.pm_json_rows.specs.Lowering.lowering
 json-limit files project shared most limit is =
     counted-limit (nat_lt most (length (rows_among (rows_by_place files project)))) (json.crates_of files project shared) limit is
 
-detached-limit : (files : by_path.Files) (file : List ℕ) (cargo : Option Workspace) (shared : CrateWorkspaceData) (most : ℕ) (limit : Limit)
+detached-limit : (files : by_path.FileNumbers) (file : List ℕ) (cargo : Option Workspace) (shared : CrateWorkspaceData) (most : ℕ) (limit : Limit)
     → detached.lowering files file cargo shared most ≡ Err (TooMany limit) → limit ≡ Crates
 unfolding Rattle.pm_detached.specs.Lowering.within_limit
 detached-limit files file None shared most limit is =
@@ -55,7 +55,7 @@ detached-limit files file None shared most limit is =
     counted-limit (nat_lt most (length crates)) crates limit is
 detached-limit files file (Some w) shared most limit is = workspace-limit files w shared most limit is
 
-kind-limit : (files : by_path.Files) (kind : ProjectWorkspaceKind) (shared : CrateWorkspaceData) (most : ℕ) (limit : Limit) → kind_lowering files kind shared most ≡ Err (TooMany limit) → limit ≡ Crates
+kind-limit : (files : by_path.FileNumbers) (kind : ProjectWorkspaceKind) (shared : CrateWorkspaceData) (most : ℕ) (limit : Limit) → kind_lowering files kind shared most ≡ Err (TooMany limit) → limit ≡ Crates
 kind-limit files (Cargo cargo error scripts rustc) shared most limit is = workspace-limit files cargo shared most limit is
 kind-limit files (Json project) shared most limit is = json-limit files project shared most limit is
 kind-limit files (DetachedFile file script) shared most limit is = detached-limit files file (script_workspace script) shared most limit is

@@ -4,7 +4,7 @@ use Rattle.std.specs.Prelude.{◌≡◌, ℕ, List, [], fold, nat_eq, Some, Resu
 use Rattle.std.specs.List.{All}
 use Rattle.std.specs.Map.{lookup}
 use Rattle.crate_values.specs.declared.builder.CrateBuilder.{CrateBuilder}
-use Rattle.pm_loader.specs.Loader.{Files, with_file}
+use Rattle.pm_loader.specs.Loader.{FileNumbers, with_file}
 use Rattle.pm_lower.specs.ToCrateGraph.{kind_wants, project_lowering}
 use Rattle.pm_rows.specs.Lowering.{Crate}
 use Rattle.pm_rows.specs.WantedEdges.{Edge}
@@ -13,19 +13,19 @@ use Rattle.vfs_core.specs.VfsPath.{PathContent}
 use Rattle.live_project.specs.Project.{ProjectContent}
 
 -- the files of a loader, with one more under its number; a virtual path is in no loader
-abbrev pub with_live_file : Files → ℕ × PathContent → Files
+abbrev pub with_live_file : FileNumbers → ℕ × PathContent → FileNumbers
 with_live_file files file = if file.1.is_virtual then files else with_file files file.1.text file.0
 
 -- the loader of these files
-unfoldable pub files_by_path : List (ℕ × PathContent) → Files
+unfoldable pub files_by_path : List (ℕ × PathContent) → FileNumbers
 files_by_path files = fold with_live_file [] files
 
 -- the crates that the project has by the files of a loader, or why it has none
-abbrev pub lowered_by : ProjectContent → Files → Result (List Crate) LowerError
+abbrev pub lowered_by : ProjectContent → FileNumbers → Result (List Crate) LowerError
 lowered_by p files = project_lowering files p.sources.config.limits.crates p.workspace
 
 -- the edges that it wants between them
-abbrev pub wanted_by : ProjectContent → Files → List Edge
+abbrev pub wanted_by : ProjectContent → FileNumbers → List Edge
 wanted_by p files = kind_wants files p.workspace.kind
 
 -- the crates that the project has by these files, or why it has none

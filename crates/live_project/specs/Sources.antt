@@ -3,7 +3,7 @@
 use Rattle.std.specs.Prelude.{List, ℕ, [], fold, if◌then◌else◌}
 use Rattle.pm_sysroot.specs.Ask.{Means}
 use Rattle.trees.specs.MemoryTree.{with_file}
-use Rattle.trees.specs.Tree.{Files}
+use Rattle.trees.specs.Tree.{TreeFiles}
 use Rattle.vfs_core.specs.VfsPath.{PathContent}
 use Rattle.live_project.specs.declared.sources.Sources.{Sources}
 
@@ -18,9 +18,9 @@ means_of_sources s = record {
 }
 
 -- the files of a tree, with one more that lives; a virtual path is in no tree
-abbrev pub with_kept_file : Files → PathContent × List ℕ → Files
+abbrev pub with_kept_file : TreeFiles → PathContent × List ℕ → TreeFiles
 with_kept_file files file = if file.0.is_virtual then files else with_file file.0.text file.1 files
 
 -- the tree of the files that live
-unfoldable pub kept_files : List (PathContent × List ℕ) → Files
+unfoldable pub kept_files : List (PathContent × List ℕ) → TreeFiles
 kept_files files = fold with_kept_file [] files

@@ -1,6 +1,6 @@
 pub mod Causes
 pub mod Command
-pub mod Faulty
+pub mod Faults
 pub mod Nonce
 pub mod Runner
 pub mod Sink

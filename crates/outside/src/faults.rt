@@ -2,7 +2,7 @@
 
 ghost use Rattle.std.specs.Prelude.{◌≡◌, ◌≤◌, IsTrue};
 ghost use Rattle.outside.specs.Causes.{Rose};
-ghost use Rattle.outside.specs.Faulty.{FaultCounts, after_call, is_listed};
+ghost use Rattle.outside.specs.Faults.{FaultCounts, after_call, is_listed};
 
 use std::marker::Model;
 
@@ -16,7 +16,7 @@ pub(crate) struct Faults {
 }
 
 impl Model for Faults {
-    ghost use Rattle.outside.specs.Faulty.{FaultCounts};
+    ghost use Rattle.outside.specs.Faults.{FaultCounts};
 
     ghost Value = { FaultCounts };
 

@@ -4,7 +4,7 @@ ghost use Rattle.std.specs.Prelude.{◌≡◌, ℕ, List, [], length, Option, So
 ghost use Rattle.std.specs.Io.{WritesAtMost};
 ghost use Rattle.std.specs.Io.KnownBytes.{Appends, WriteAppends};
 ghost use Rattle.outside.specs.Causes.{WriteHasCause, WritesHaveCause};
-ghost use Rattle.outside.specs.Faulty.{Faulty, after_fault, after_service, fails_next};
+ghost use Rattle.outside.specs.Faults.{FaultyStream, after_fault, after_service, fails_next};
 ghost use Rattle.outside.specs.Sink.{AppendsPart};
 
 use crate::faults::Faults;
@@ -146,9 +146,9 @@ pub struct FaultSink {
 }
 
 impl Model for FaultSink {
-    ghost use Rattle.outside.specs.Faulty.{Faulty};
+    ghost use Rattle.outside.specs.Faults.{FaultyStream};
 
-    ghost Value = { Faulty };
+    ghost Value = { FaultyStream };
 
     ghost view = { λ s. record {
       bytes = s.sink;

@@ -4,7 +4,7 @@ ghost use Rattle.std.specs.Prelude.{◌≡◌, ℕ, List, Option, Some, Ok, Err,
 ghost use Rattle.std.specs.Io.{ReadsAtMost};
 ghost use Rattle.std.specs.Io.KnownBytes.{ReadConsumes};
 ghost use Rattle.outside.specs.Causes.{HasCause};
-ghost use Rattle.outside.specs.Faulty.{Faulty, after_fault, after_service, fails_next};
+ghost use Rattle.outside.specs.Faults.{FaultyStream, after_fault, after_service, fails_next};
 ghost use Rattle.outside.specs.Source.{read_count, left_after, buffer_after};
 
 use crate::faults::Faults;
@@ -91,9 +91,9 @@ pub struct FaultSource {
 }
 
 impl Model for FaultSource {
-    ghost use Rattle.outside.specs.Faulty.{Faulty};
+    ghost use Rattle.outside.specs.Faults.{FaultyStream};
 
-    ghost Value = { Faulty };
+    ghost Value = { FaultyStream };
 
     ghost view = { λ s. record {
       bytes = s.source;

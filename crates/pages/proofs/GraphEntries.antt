@@ -19,7 +19,8 @@ use Rattle.crate_graph.proofs.ExtendLemmas.{edge_crate, targets_within}
 use Rattle.crate_graph.proofs.GraphLemmas.{length-edges, slice_get_some}
 use Rattle.crate_graph.specs.Graph.{edges, target_of}
 use Rattle.input_db.specs.Database.{Database}
-use Rattle.input_db.specs.Identity.{Id, Table, data_of, input_in, number_in}
+use Rattle.crate_graph.specs.Extend.{Id}
+use Rattle.input_db.specs.Identity.{Table, data_of, input_in, number_in}
 use Rattle.input_db.specs.SetInDb.{HoldLastInputs, IsSetInDb, ShareWhereAlike, crate_at, listed_crates, number_at}
 use Rattle.input_db.specs.declared.crate_input.CrateInput.{CrateInput}
 use Rattle.pages.specs.Entries.{Node, Paths, dependency_cmp, dependency_entry, entries_listed, entries_of, entry_in, entry_of}

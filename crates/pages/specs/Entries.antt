@@ -10,7 +10,7 @@ use Rattle.base_values.specs.ByText.{text_cmp}
 use Rattle.base_values.specs.Sorted.{sorted}
 use Rattle.base_text.specs.Arena.{number_of}
 use Rattle.vfs_sets.specs.FileSet.{path_of}
-use Rattle.source_files.specs.Files.{Held, root_of_file}
+use Rattle.source_files.specs.Files.{FileTables, root_of_file}
 use Rattle.source_files.specs.SourceRoot.{set_of_root}
 use Rattle.crate_values.specs.declared.builder.CrateBuilder.{CrateBuilder}
 use Rattle.crate_values.specs.declared.crate_data.CrateData.{CrateData}
@@ -98,7 +98,7 @@ abbrev pub entries_listed : Paths → Database → List CrateEntry
 entries_listed paths db = distinct_entries (filter_map (entry_in paths db.crates) db.listed)
 
 -- the path of a file in its source root
-abbrev pub path_in : Held → Paths
+abbrev pub path_in : FileTables → Paths
 path_in files file =
     option_and_then (λ root. option_map (λ path. path.text) (path_of (set_of_root root) file)) (root_of_file files file)
 

@@ -14,7 +14,7 @@ use Rattle.base_text.specs.declared.arena.Idx.{Idx}
 use Rattle.base_values.specs.ByText.{text_cmp, value_at, with_value}
 use Rattle.pm_packages.specs.declared.package.PackageData.{PackageData}
 use Rattle.pm_packages.specs.declared.package.PackageTag.{PackageTag}
-use Rattle.pm_reading.specs.Nodes.{last_place, place_of}
+use Rattle.pm_reading.specs.Nodes.{last_place, place_of_package}
 use Rattle.pm_reading.proofs.PlaceLemmas.{last_place-within}
 use Rattle.pm_build.specs.Packages.{ById, IsIndexOf, place_under}
 
@@ -74,13 +74,13 @@ number_cond false id o = refl
 
 -- no packages stand under no ids
 pub index-none : (packages : List PackageData) → IsIndexOf (take 0 packages) []
-unfolding place_of
+unfolding place_of_package
 index-none packages id = refl
 
 -- the next package under its id
 pub index-more : (packages : List PackageData) (ids : ById) (n : ℕ) (p : PackageData) (id : Idx PackageTag) → n < length packages → p ≡ get_or packages n p
     → number_of id ≡ n → IsIndexOf (take n packages) ids → IsIndexOf (take (n + 1) packages) (with_value p.id.repr id ids)
-unfolding place_of
+unfolding place_of_package
 index-more packages ids n p id within here is before q =
     let passes : PackageData → Bool = λ r. bytes_eq r.id.repr q in
     let same : is_at (text_cmp q) p.id.repr ≡ passes p =
@@ -105,7 +105,7 @@ index-all packages ids n all is = subst (λ ps. IsIndexOf ps ids) (take_all n pa
 
 -- a package that is found is one of the workspace
 pub found_within : (packages : List PackageData) (ids : ById) (id : List ℕ) (o : Option (Idx PackageTag)) → IsIndexOf packages ids → value_at id ids ≡ o → IfSome o (λ found. number_of found < length packages)
-unfolding place_of
+unfolding place_of_package
 found_within packages ids id None is at = tt
 found_within packages ids id (Some found) is at =
     last_place-within (λ p. bytes_eq p.id.repr id) packages (number_of found) (sym (is id) ∙ ap (option_map number_of) at)

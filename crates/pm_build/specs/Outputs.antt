@@ -15,7 +15,7 @@ use Rattle.cargo_msgs.specs.declared.messages.Message.{Message}
 use Rattle.cargo_msgs.specs.declared.messages.Message.TheVariants as message
 use Rattle.pm_cargo.specs.Workspace.{Workspace}
 use Rattle.pm_packages.specs.declared.package.PackageData.{PackageData}
-use Rattle.pm_reading.specs.Nodes.{place_of}
+use Rattle.pm_reading.specs.Nodes.{place_of_package}
 use Rattle.pm_build.specs.Artifact.{output_after_artifact}
 use Rattle.pm_build.specs.Output.{default_output}
 use Rattle.pm_build.specs.Reading.{Reading, ◌>>=◌, take_each}
@@ -99,8 +99,8 @@ take_rendered s (Some text) = with_error s text
 
 -- one more message. Those of unknown packages are skipped, except what the compiler said
 abbrev pub take_message : List PackageData → BuildState → Message → Reading BuildState
-take_message packages s (message.CompilerArtifact a) = take_artifact s a (place_of packages a.package_id.repr)
-take_message packages s (message.BuildScriptExecuted script) = take_script s script (place_of packages script.package_id.repr)
+take_message packages s (message.CompilerArtifact a) = take_artifact s a (place_of_package packages a.package_id.repr)
+take_message packages s (message.BuildScriptExecuted script) = take_script s script (place_of_package packages script.package_id.repr)
 take_message packages s (message.CompilerMessage m) = Ok (take_rendered s (out-Diagnostic m.message).rendered)
 take_message packages s (message.BuildFinished end) = Ok s
 take_message packages s (message.TextLine line) = Ok s

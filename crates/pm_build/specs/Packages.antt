@@ -9,7 +9,7 @@ use Rattle.base_values.specs.ByText.{value_at}
 use Rattle.pm_cargo.specs.Workspace.{Workspace}
 use Rattle.pm_packages.specs.declared.package.PackageData.{PackageData}
 use Rattle.pm_packages.specs.declared.package.PackageTag.{PackageTag}
-use Rattle.pm_reading.specs.Nodes.{place_of}
+use Rattle.pm_reading.specs.Nodes.{place_of_package}
 
 -- packages under their ids
 abbrev pub ById : Type 0
@@ -21,7 +21,7 @@ place_under ids id = option_map number_of (value_at id ids)
 
 -- under each id stands its package
 abbrev pub IsIndexOf : List PackageData → ById → Type 0
-IsIndexOf packages ids = (id : List ℕ) → place_under ids id ≡ place_of packages id
+IsIndexOf packages ids = (id : List ℕ) → place_under ids id ≡ place_of_package packages id
 
 -- the packages behind some references
 abbrev pub lent_packages : List (Bor PackageData) → List PackageData

@@ -12,7 +12,7 @@ use Rattle.cargo_meta.specs.Answer.{line_text}
 use Rattle.pm_cargo.specs.Workspace.{Workspace}
 use Rattle.pm_packages.specs.contracts.package.PackageData as stored
 use Rattle.pm_packages.specs.declared.package.PackageData.{PackageData}
-use Rattle.pm_reading.specs.Nodes.{place_of}
+use Rattle.pm_reading.specs.Nodes.{place_of_package}
 use Rattle.pm_build.specs.Outputs.{BuildScripts, Outputs, build_scripts_code, outputs_among}
 use Rattle.pm_build.specs.Packages.{packages_of_all}
 use Rattle.pm_build.specs.Reading.{Reading, ◌>>=◌}
@@ -21,7 +21,7 @@ use Rattle.pm_build.specs.declared.output.BuildScriptOutput.{BuildScriptOutput}
 
 -- the output of an id, among the outputs of some packages
 abbrev pub output_of_id : List PackageData → Outputs → List ℕ → Option BuildScriptOutput
-output_of_id all outputs id = option_and_then (get outputs) (place_of all id)
+output_of_id all outputs id = option_and_then (get outputs) (place_of_package all id)
 
 -- outputs with one more, if there is one
 abbrev pub with_output : Outputs → ℕ → Option BuildScriptOutput → Outputs

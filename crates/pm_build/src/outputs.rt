@@ -3,7 +3,7 @@
 ghost use Rattle.std.specs.Prelude.{◌≡◌, fold, length, IfOk, OnOk};
 ghost use Rattle.std.specs.Str.Lines.{lines};
 ghost use Rattle.base_text.specs.Arena.{number_of};
-ghost use Rattle.pm_reading.specs.Nodes.{place_of};
+ghost use Rattle.pm_reading.specs.Nodes.{place_of_package};
 ghost use Rattle.cargo_diagnostics.specs.declared.diagnostic.Diagnostic.{out-Diagnostic};
 ghost use Rattle.pm_build.specs.Artifact.{output_after_artifact};
 ghost use Rattle.pm_build.specs.Outputs.{default_outputs, error_of, outputs_after, start_state, take_artifact, take_line, take_message, take_rendered, take_script, with_error, with_line};
@@ -138,7 +138,7 @@ impl OutputsBuilder {
         progress: &mut P,
     ) -> Result<(), BuildError>
         ensures { Leaves result self.new (take_artifact self.old artifact.now
-            (place_of (lent_packages packages.now.packages) artifact.now.package_id.repr)) }
+            (place_of_package (lent_packages packages.now.packages) artifact.now.package_id.repr)) }
     {
         let Some(package) = packages.find(&artifact.package_id) else {
             return Ok(());
@@ -160,7 +160,7 @@ impl OutputsBuilder {
         progress: &mut P,
     ) -> Result<(), BuildError>
         ensures { Leaves result self.new (take_script self.old script.old
-            (place_of (lent_packages packages.now.packages) script.old.package_id.repr)) }
+            (place_of_package (lent_packages packages.now.packages) script.old.package_id.repr)) }
     {
         let Some(package) = packages.find(&script.package_id) else {
             return Ok(());

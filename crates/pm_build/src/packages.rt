@@ -3,7 +3,7 @@
 ghost use Rattle.std.specs.Prelude.{◌≡◌, ◌∷◌, ◌<◌, ◌++◌, [], length, IfOk, IfSome, OnOk};
 ghost use Rattle.std.specs.Option.{option_map};
 ghost use Rattle.base_text.specs.Arena.{number_of};
-ghost use Rattle.pm_reading.specs.Nodes.{place_of};
+ghost use Rattle.pm_reading.specs.Nodes.{place_of_package};
 ghost use Rattle.pm_build.specs.Packages.{IsIndexOf, lent_packages, lent_workspaces, packages_of_all};
 
 use base_text::{Arena, ByText};
@@ -96,7 +96,7 @@ impl<'a> KnownPackages<'a> {
     /// The package of an id.
     pub(crate) fn find(&self, id: &PackageId) -> Option<Package>
         ensures place { option_map number_of result
-            ≡ place_of (lent_packages self.now.packages) id.now.repr }
+            ≡ place_of_package (lent_packages self.now.packages) id.now.repr }
         ensures within { IfSome result (λ found. number_of found < length self.now.packages) }
     {
         self.by_id.get(id.repr.as_str()).copied()

@@ -21,7 +21,7 @@ use Rattle.cargo_values.specs.declared.resolve.NodeDep.{NodeDep}
 use Rattle.pm_packages.specs.declared.package.PackageData.{PackageData}
 use Rattle.pm_packages.specs.Ids.{package_id}
 use Rattle.pm_reading.specs.Links.{dependencies_at, features_at, package_with_links, with_links}
-use Rattle.pm_reading.specs.Nodes.{by_package, known_place, last_place, link_of, links_of, place_of, place_or_refusal, take_dependency, take_node}
+use Rattle.pm_reading.specs.Nodes.{by_package, known_place, last_place, link_of, links_of, place_of_package, place_or_refusal, take_dependency, take_node}
 use Rattle.pm_reading.specs.Reading.{Reading, ◌>>=◌, take_each}
 use Rattle.pm_reading.specs.declared.nodes.Link.{Link}
 use Rattle.pm_reading.proofs.ReadingLemmas.{ok_from_bind, one_value}
@@ -126,10 +126,10 @@ module _ (packages : List PackageData) (place : ℕ) where
 
   -- a known place is that of the id
   known_place-id : (id : List ℕ) → known_place packages id ≡ Ok place → id_at ≡ id
-  unfolding place_of
-  known_place-id id is = by (place_of packages id) refl is
+  unfolding place_of_package
+  known_place-id id is = by (place_of_package packages id) refl is
     where
-      by : (o : Option ℕ) → place_of packages id ≡ o → place_or_refusal id o ≡ Ok place → id_at ≡ id
+      by : (o : Option ℕ) → place_of_package packages id ≡ o → place_or_refusal id o ≡ Ok place → id_at ≡ id
       by (Some n) at e =
           let same : place ≡ n = one_value place n (Ok place) refl (sym e) in
           (bytes_decides id_at id).0 (last_place-passes (λ (p : PackageData). p.id.repr) (λ i. bytes_eq i id) packages place [] (at ∙ ap Some (sym same)))

@@ -11,7 +11,7 @@ use Rattle.crate_values.specs.declared.origin.CrateOrigin.TheVariants.{Local}
 use Rattle.crate_values.specs.declared.target_kind.TargetKind.TheVariants.{Lib}
 use Rattle.crate_values.specs.declared.workspace_data.CrateWorkspaceData.{CrateWorkspaceData}
 use Rattle.pm_cargo.specs.Workspace.{Workspace}
-use Rattle.pm_loader.specs.Loader.{Files, file_of}
+use Rattle.pm_loader.specs.Loader.{FileNumbers, file_of}
 use Rattle.pm_rows.specs.Columns.{Columns}
 use Rattle.pm_rows.specs.Lowering as cargo
 use Rattle.pm_rows.specs.Rows.{parts}
@@ -56,11 +56,11 @@ within_limit limit crates = if nat_lt limit (length crates) then Err (TooMany Cr
 -- ---- with the project that Cargo reads it as
 
 -- the lowering of a file: that of its Cargo project alone, where it has one
-abbrev pub lowering : Files → List ℕ → Option Workspace → CrateWorkspaceData → ℕ → Result (List cargo.Crate) LowerError
+abbrev pub lowering : FileNumbers → List ℕ → Option Workspace → CrateWorkspaceData → ℕ → Result (List cargo.Crate) LowerError
 lowering files file None shared limit = within_limit limit (crates_of file shared (file_of files file))
 lowering files file (Some w) shared limit = cargo.lowering files w shared limit
 
 -- the edges that its rows want: a file alone wants none
-abbrev pub wanted_edges : Files → Option Workspace → List cargo_edges.Edge
+abbrev pub wanted_edges : FileNumbers → Option Workspace → List cargo_edges.Edge
 wanted_edges files None = []
 wanted_edges files (Some w) = cargo_edges.wanted_edges (parts files w)

@@ -9,7 +9,7 @@ use Rattle.crate_values.specs.declared.workspace_data.CrateWorkspaceData.{CrateW
 use Rattle.crate_graph.specs.Graph.{Graph}
 use Rattle.pm_json.specs.Queries.{crates_in}
 use Rattle.pm_json.specs.declared.project_json.ProjectJson.{ProjectJson}
-use Rattle.pm_loader.specs.Loader.{Files}
+use Rattle.pm_loader.specs.Loader.{FileNumbers}
 use Rattle.pm_rows.specs.Keeping.{AreBare, AreLowered, with_deps}
 use Rattle.pm_rows.specs.KeptEdges.{IsWithin, deps_of, kept_edges}
 use Rattle.pm_rows.specs.Lowering.{Crate, HasCrates, LacksCyclesAlone, crate_seen}
@@ -35,7 +35,7 @@ deps_from project shared kept n (r ∷ rs) numbers =
     ap (λ m. record (crate_of project shared [] r) { deps = deps_of kept m } ∷ with_deps kept (n + 1) (map (crate_of project shared []) rs)) head
     ∙ ap (λ cs. crate_of project shared kept r ∷ cs) (deps_from project shared kept (n + 1) rs tail)
 
-module _ (files : Files) (project : ProjectJson) (shared : CrateWorkspaceData) where
+module _ (files : FileNumbers) (project : ProjectJson) (shared : CrateWorkspaceData) where
   abbrev rows : List Row
   rows = rows_among (rows_by_place files project)
 

@@ -11,7 +11,7 @@ use Rattle.crate_graph.specs.Graph.{Graph}
 use Rattle.crate_values.specs.declared.workspace_data.CrateWorkspaceData.{CrateWorkspaceData}
 use Rattle.pm_json.specs.declared.krate.Crate.{Crate}
 use Rattle.pm_json.specs.declared.project_json.ProjectJson.{ProjectJson}
-use Rattle.pm_loader.specs.Loader.{Files, file_of}
+use Rattle.pm_loader.specs.Loader.{FileNumbers, file_of}
 use Rattle.pm_rows.specs.Lowering.{crate_seen}
 use Rattle.pm_json_rows.specs.Gathering.{AddsRows}
 use Rattle.pm_json_rows.specs.Lowering.{crate_of}
@@ -40,7 +40,7 @@ module _ (project : ProjectJson) (shared : CrateWorkspaceData) where
 -- ---- the rows of a document, as far as it is read
 
 -- what a loader says of a root module, by the files that it had first
-pub file_found : (files now : Files) (asked root : List ℕ) (file : Option ℕ) → file ≡ file_of now asked → now ≡ files → asked ≡ root → file ≡ file_of files root
+pub file_found : (files now : FileNumbers) (asked root : List ℕ) (file : Option ℕ) → file ≡ file_of now asked → now ≡ files → asked ≡ root → file ≡ file_of files root
 file_found files now asked root file found same path = found ∙ ap (λ fs. file_of fs asked) same ∙ ap (file_of files) path
 
 among-push : (rows : List (Option Row)) (row : Option Row) → rows_among (rows ++ row ∷ []) ≡ rows_among rows ++ option_to_list row
@@ -51,7 +51,7 @@ one_or_none : (n : ℕ) (krate : Crate) (file : Option ℕ) → length (option_t
 one_or_none n krate None = refl
 one_or_none n krate (Some f) = refl
 
-module _ (files : Files) (project : ProjectJson) (shared : CrateWorkspaceData) (all : List Crate) (old : Graph) where
+module _ (files : FileNumbers) (project : ProjectJson) (shared : CrateWorkspaceData) (all : List Crate) (old : Graph) where
   -- the rows of the crates before those that are left
   pub record Gathers (rest : List Crate) (new : Graph) (rows : List (Option Row)) : Type 0 where
     pub rows_are : rows ++ rows_from files (length new.crates) rest ≡ rows_from files (length old.crates) all
@@ -95,7 +95,7 @@ module _ (files : Files) (project : ProjectJson) (shared : CrateWorkspaceData) (
 
 -- ---- numbers
 
-module _ (files : Files) where
+module _ (files : FileNumbers) where
   numbers_more : (n : ℕ) (o : Option Row) (rest : ℕ → List Row) → ((r : Row) → o ≡ Some r → r.number ≡ n) → ((m : ℕ) → map (λ (r : Row). r.number) (rest m) ≡ range_with_len m (length (rest m)))
       → map (λ (r : Row). r.number) (option_to_list o ++ rest (n + length (option_to_list o))) ≡ range_with_len n (length (option_to_list o ++ rest (n + length (option_to_list o))))
   numbers_more n None rest is others =

@@ -3,7 +3,7 @@ use Rattle.std.specs.Prelude.{ℕ, List, map, length, Result, Ok, Err, nat_lt, i
 use Rattle.outside.specs.declared.limits.Limit.TheVariants.{Crates}
 use Rattle.crate_values.specs.declared.workspace_data.CrateWorkspaceData.{CrateWorkspaceData}
 use Rattle.pm_json.specs.declared.project_json.ProjectJson.{ProjectJson}
-use Rattle.pm_loader.specs.Loader.{Files}
+use Rattle.pm_loader.specs.Loader.{FileNumbers}
 use Rattle.pm_rows.specs.KeptEdges.{deps_of, kept_edges}
 use Rattle.pm_rows.specs.Lowering.{Crate}
 use Rattle.pm_rows.specs.WantedEdges.{Edge}
@@ -18,11 +18,11 @@ abbrev pub crate_of : ProjectJson → CrateWorkspaceData → List Edge → Row �
 crate_of project shared kept row = record { root = row.file; columns = columns_of project shared row.of; deps = deps_of kept row.number }
 
 -- the crates of a project: one for each row, in order, with the edges that are kept of those wanted
-unfoldable pub crates_of : Files → ProjectJson → CrateWorkspaceData → List Crate
+unfoldable pub crates_of : FileNumbers → ProjectJson → CrateWorkspaceData → List Crate
 crates_of files project shared =
     map (crate_of project shared (kept_edges (wanted_edges (rows_by_place files project)))) (rows_among (rows_by_place files project))
 
 -- the crates of a project, unless it has more rows than the limit
-unfoldable pub lowering : Files → ProjectJson → CrateWorkspaceData → ℕ → Result (List Crate) LowerError
+unfoldable pub lowering : FileNumbers → ProjectJson → CrateWorkspaceData → ℕ → Result (List Crate) LowerError
 lowering files project shared limit =
     if nat_lt limit (length (rows_among (rows_by_place files project))) then Err (TooMany Crates) else Ok (crates_of files project shared)

@@ -7,7 +7,7 @@ use Rattle.std.specs.Option.{option_and_then, option_map, option_to_list}
 use Rattle.pm_json.specs.Queries.{crates_in}
 use Rattle.pm_json.specs.declared.krate.Crate.{Crate}
 use Rattle.pm_json.specs.declared.project_json.ProjectJson.{ProjectJson}
-use Rattle.pm_loader.specs.Loader.{Files, file_of}
+use Rattle.pm_loader.specs.Loader.{FileNumbers, file_of}
 
 -- a row: a crate of a document that becomes a crate of a graph
 pub record Row : Type 0 where
@@ -23,16 +23,16 @@ abbrev pub row_in : ℕ → Crate → ℕ → Row
 row_in n krate file = record { number = n; of = krate; file = file }
 
 -- the row of a crate under a number: there is one where the file of its root module is live
-unfoldable pub row_of : Files → ℕ → Crate → Option Row
+unfoldable pub row_of : FileNumbers → ℕ → Crate → Option Row
 row_of files n krate = option_map (row_in n krate) (file_of files krate.root_module)
 
 -- of each crate its row, if it has one, numbered from n on
-abbrev pub rows_from : Files → ℕ → List Crate → List (Option Row)
+abbrev pub rows_from : FileNumbers → ℕ → List Crate → List (Option Row)
 rows_from files n [] = []
 rows_from files n (c ∷ cs) = row_of files n c ∷ rows_from files (n + length (option_to_list (row_of files n c))) cs
 
 -- of each crate of a project its row, if it has one, by the crate's place
-abbrev pub rows_by_place : Files → ProjectJson → List (Option Row)
+abbrev pub rows_by_place : FileNumbers → ProjectJson → List (Option Row)
 rows_by_place files project = rows_from files 0 (crates_in project)
 
 -- the rows alone, in their order

@@ -16,11 +16,11 @@ use Rattle.pm_load.specs.Loading.{Loading, Refuses, ◌>>=◌, of_document, of_j
 use Rattle.pm_load.specs.declared.load_error.LoadError.{LoadError}
 use Rattle.pm_load.proofs.LoadingLemmas.{refuses_document, refuses_first, refuses_json}
 use Rattle.pm_load.proofs.MetadataLemmas.{above}
-use Rattle.trees.specs.Tree.{Files}
+use Rattle.trees.specs.Tree.{TreeFiles}
 
 -- ---- the document
 
-module _ (files : Files) (path : List ℕ) where
+module _ (files : TreeFiles) (path : List ℕ) where
   -- there is no file
   pub text-refused : (e : LoadError) → Refuses e (document_text files path) → Refuses e (document_at files path)
   unfolding document_at
@@ -48,7 +48,7 @@ then_read : {T : Type 0} (member : Option (List ℕ)) (x : T) → (without_toolc
 then_read None x = refl
 then_read (Some member) x = refl
 
-module _ (path : List ℕ) (limits : Limits) (files : Files) where
+module _ (path : List ℕ) (limits : Limits) (files : TreeFiles) where
   -- there is no document
   pub content-refused : (e : LoadError) → Refuses e (document_at files path) → Refuses e (json_content path limits files)
   unfolding json_content

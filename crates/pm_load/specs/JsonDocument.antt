@@ -12,7 +12,7 @@ use Rattle.pm_load.specs.declared.load_error.LoadError.TheVariants.{Json, NoSuch
 use Rattle.pm_roots.specs.Roots.{directory_of}
 use Rattle.pm_sysroot.specs.Sysroot.{sysroot_of}
 use Rattle.pm_sysroot.specs.Toolchain.{Toolchain}
-use Rattle.trees.specs.Tree.{Files, file_text}
+use Rattle.trees.specs.Tree.{TreeFiles, file_text}
 
 -- ---- the document
 
@@ -22,11 +22,11 @@ text_or_missing path None = Err (NoSuchFile path)
 text_or_missing path (Some text) = Ok text
 
 -- the text of the file at the normal path; the refusal has the path as it is given
-abbrev pub document_text : Files → List ℕ → Loading (List ℕ)
+abbrev pub document_text : TreeFiles → List ℕ → Loading (List ℕ)
 document_text files path = text_or_missing path (file_text files path)
 
 -- the document at a path
-unfoldable pub document_at : Files → List ℕ → Loading ProjectJsonData
+unfoldable pub document_at : TreeFiles → List ℕ → Loading ProjectJsonData
 document_at files path = document_text files path >>= λ text. of_document (document project_at text)
 
 -- the first of the members that state a toolchain, if one does
@@ -51,7 +51,7 @@ project_of_document path limit stated =
     of_json_reading (json.project_of limit stated (Some path) (directory_of path)) >>= λ project. without_toolchain (toolchain_member stated) project
 
 -- the project at a path
-unfoldable pub json_content : List ℕ → Limits → Files → Loading ProjectJson
+unfoldable pub json_content : List ℕ → Limits → TreeFiles → Loading ProjectJson
 json_content path limits files = document_at files path >>= λ stated. project_of_document path limits.crates stated
 
 -- the toolchain that a project states

@@ -2,10 +2,10 @@
 use Rattle.std.proofs.Common.{◌≡◌, ℕ, cond, List, Some, ap, ◌∙◌, if◌then◌else◌}
 use Rattle.std.specs.Map.{lookup}
 use Rattle.base_text.specs.PathOrder.{path_eq}
-use Rattle.pm_loader.specs.Loader.{Files, file_of, path_key}
+use Rattle.pm_loader.specs.Loader.{FileNumbers, file_of, path_key}
 
 -- the file that was put in is found at its path, and others at theirs
-pub later_file : (before old now : Files) (path key : List ℕ) (file : ℕ) (asked : List ℕ) → key ≡ path_key path → before ≡ old
+pub later_file : (before old now : FileNumbers) (path key : List ℕ) (file : ℕ) (asked : List ℕ) → key ≡ path_key path → before ≡ old
     → lookup (path_eq (path_key asked)) now ≡ cond (path_eq key (path_key asked)) (Some file) (lookup (path_eq (path_key asked)) before)
     → file_of now asked ≡ (if path_eq (path_key path) (path_key asked) then Some file else file_of old asked)
 later_file before old now path key file asked key_is same_before found =

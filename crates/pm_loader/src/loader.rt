@@ -3,7 +3,7 @@
 ghost use Rattle.std.specs.Prelude.{◌≡◌, ℕ, List, [], IfOk, OnErr, OnOk, Some, if◌then◌else◌};
 ghost use Rattle.base_text.specs.AbsPath.{abs_text};
 ghost use Rattle.base_text.specs.PathOrder.{path_eq};
-ghost use Rattle.pm_loader.specs.Loader.{Files, file_of, path_key, with_file};
+ghost use Rattle.pm_loader.specs.Loader.{FileNumbers, file_of, path_key, with_file};
 
 use base_text::{AbsPath, AbsPathBuf, FileId};
 use indexmap::IndexMap;
@@ -13,7 +13,7 @@ use std::marker::Model;
 /// A finite map from normalized path to the number of a file.
 pub trait Loader {
     // The files that are live, by their paths.
-    ghost files: { Self → Files };
+    ghost files: { Self → FileNumbers };
 
     /// The number of the file at a path, once that is normalized, or None where there is none. The
     /// files stay as they are.
@@ -30,9 +30,9 @@ pub struct MapLoader {
 }
 
 impl Model for MapLoader {
-    ghost use Rattle.pm_loader.specs.Loader.{Files};
+    ghost use Rattle.pm_loader.specs.Loader.{FileNumbers};
 
-    ghost Value = { Files };
+    ghost Value = { FileNumbers };
 
     ghost view = { λ a. a.files.entries };
 }

@@ -6,7 +6,7 @@ use Rattle.pm_detached.specs.Lowering as detached
 use Rattle.pm_json_rows.specs.Lowering as json
 use Rattle.pm_json_rows.specs.Rows.{rows_by_place}
 use Rattle.pm_json_rows.specs.WantedEdges as json_edges
-use Rattle.pm_loader.specs.Loader.{Files}
+use Rattle.pm_loader.specs.Loader.{FileNumbers}
 use Rattle.pm_lower.specs.ProjectWorkspace.{script_workspace}
 use Rattle.pm_lower.specs.declared.project_workspace.ProjectWorkspace.{ProjectWorkspace}
 use Rattle.pm_lower.specs.declared.project_workspace.ProjectWorkspaceKind.{ProjectWorkspaceKind}
@@ -22,13 +22,13 @@ abbrev pub shared_of : ProjectWorkspace → CrateWorkspaceData
 shared_of p = record { target = p.target; toolchain = p.toolchain }
 
 -- the crates of a kind of project, or why there are none
-abbrev pub kind_lowering : Files → ProjectWorkspaceKind → CrateWorkspaceData → ℕ → Result (List Crate) LowerError
+abbrev pub kind_lowering : FileNumbers → ProjectWorkspaceKind → CrateWorkspaceData → ℕ → Result (List Crate) LowerError
 kind_lowering files (Cargo cargo error scripts rustc) shared limit = lowering files cargo shared limit
 kind_lowering files (Json project) shared limit = json.lowering files project shared limit
 kind_lowering files (DetachedFile file script) shared limit = detached.lowering files file (script_workspace script) shared limit
 
 -- the crates of a project with these live files and at most so many crates, or why there are none
-abbrev pub project_lowering : Files → ℕ → ProjectWorkspace → Result (List Crate) LowerError
+abbrev pub project_lowering : FileNumbers → ℕ → ProjectWorkspace → Result (List Crate) LowerError
 project_lowering files limit p = kind_lowering files p.kind (shared_of p) limit
 
 -- a call gives the graph of these crates, with something beside it, or their refusal
@@ -37,7 +37,7 @@ IsGraphOf limit (Ok found) crates = HasCrates limit found.0 crates
 IsGraphOf limit (Err error) crates = Refuses error crates
 
 -- the edges that a kind of project wants
-abbrev pub kind_wants : Files → ProjectWorkspaceKind → List Edge
+abbrev pub kind_wants : FileNumbers → ProjectWorkspaceKind → List Edge
 kind_wants files (Cargo cargo error scripts rustc) = wanted_edges (parts files cargo)
 kind_wants files (Json project) = json_edges.wanted_edges (rows_by_place files project)
 kind_wants files (DetachedFile file script) = detached.wanted_edges files (script_workspace script)

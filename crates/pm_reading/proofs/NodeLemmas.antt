@@ -13,7 +13,7 @@ use Rattle.pm_packages.specs.Ids.{package_id}
 use Rattle.pm_packages.specs.declared.package.DepKind.{DepKind}
 use Rattle.pm_packages.specs.declared.package.PackageData.{PackageData}
 use Rattle.pm_packages.specs.declared.package.PackageDependency.{PackageDependency}
-use Rattle.pm_reading.specs.Nodes.{by_package, dependencies_of_kinds, kinds_of, known_place, last_place, link_of, place_of, place_or_refusal, take_dependency, take_node, with_kinds}
+use Rattle.pm_reading.specs.Nodes.{by_package, dependencies_of_kinds, kinds_of, known_place, last_place, link_of, place_of_package, place_or_refusal, take_dependency, take_node, with_kinds}
 use Rattle.pm_reading.specs.Packages.{by_package_id}
 use Rattle.pm_reading.specs.Reading.{Refuses, ◌>>=◌, take_each}
 use Rattle.pm_reading.specs.declared.nodes.Link.{Link}
@@ -29,14 +29,14 @@ pub package_at : (packages : List PackageData) (i : ℕ) (p d : PackageData) →
 package_at packages i p d within is = get_or_default packages i d p within ∙ sym is
 
 module _ (packages : List PackageData) (id : List ℕ) where
-  by_order : place_of packages id ≡ last_place (λ p. is_eq (text_cmp p.id.repr id)) packages
-  unfolding place_of
+  by_order : place_of_package packages id ≡ last_place (λ p. is_eq (text_cmp p.id.repr id)) packages
+  unfolding place_of_package
   by_order = last_place-same (λ p. bytes_eq p.id.repr id) (λ p. is_eq (text_cmp p.id.repr id)) (λ p. texts_ties p.id.repr id) packages
 
   -- the place is one of the packages
-  pub place_of-within : (place : ℕ) → place_of packages id ≡ Some place → place < length packages
-  unfolding place_of
-  place_of-within place is = last_place-within (λ p. bytes_eq p.id.repr id) packages place is
+  pub place_of_package-within : (place : ℕ) → place_of_package packages id ≡ Some place → place < length packages
+  unfolding place_of_package
+  place_of_package-within place is = last_place-within (λ p. bytes_eq p.id.repr id) packages place is
 
   module _ (order : IsSorted by_package_id packages) where
     -- packages up to an id come before those past it
@@ -46,19 +46,19 @@ module _ (packages : List PackageData) (id : List ℕ) where
     module _ (end : ℕ) (bound : end ≤ length packages)
         (split : IsPartitionPoint (λ p. is_le (text_cmp p.id.repr id) ≡ true) (λ p. is_le (text_cmp p.id.repr id) ≡ false) packages end) where
       -- the last of the packages up to the id has it
-      pub place_of-last : 0 < end → ((d : PackageData) → is_eq (text_cmp (get_or packages (end - 1) d).id.repr id) ≡ true) → place_of packages id ≡ Some (end - 1)
-      place_of-last some here = by_order ∙ last_place-before_end nat_list_cmp_total (λ p. p.id.repr) packages id order end bound split some here
+      pub place_of_package-last : 0 < end → ((d : PackageData) → is_eq (text_cmp (get_or packages (end - 1) d).id.repr id) ≡ true) → place_of_package packages id ≡ Some (end - 1)
+      place_of_package-last some here = by_order ∙ last_place-before_end nat_list_cmp_total (λ p. p.id.repr) packages id order end bound split some here
 
       -- it has not
-      pub place_of-none : (0 < end → (d : PackageData) → is_eq (text_cmp (get_or packages (end - 1) d).id.repr id) ≡ false) → place_of packages id ≡ None
-      place_of-none other = by_order ∙ last_place-no_end nat_list_cmp_total (λ p. p.id.repr) packages id order end bound split other
+      pub place_of_package-none : (0 < end → (d : PackageData) → is_eq (text_cmp (get_or packages (end - 1) d).id.repr id) ≡ false) → place_of_package packages id ≡ None
+      place_of_package-none other = by_order ∙ last_place-no_end nat_list_cmp_total (λ p. p.id.repr) packages id order end bound split other
 
   -- the id is known
-  pub known_place-some : (place : ℕ) → place_of packages id ≡ Some place → known_place packages id ≡ Ok place
+  pub known_place-some : (place : ℕ) → place_of_package packages id ≡ Some place → known_place packages id ≡ Ok place
   known_place-some place is = ap (place_or_refusal id) is
 
   -- the id is that of no package
-  pub known_place-none : (copy : List ℕ) → place_of packages id ≡ None → copy ≡ id → known_place packages id ≡ Err (UnknownPackage copy)
+  pub known_place-none : (copy : List ℕ) → place_of_package packages id ≡ None → copy ≡ id → known_place packages id ≡ Err (UnknownPackage copy)
   known_place-none copy none same = ap (place_or_refusal id) none ∙ ap (λ t. Err (UnknownPackage t)) (sym same)
 
 -- ---- one more entry

@@ -10,11 +10,11 @@ use Rattle.pm_packages.specs.declared.package.DepKind.{DepKind}
 use Rattle.pm_packages.specs.declared.package.PackageData.{PackageData}
 use Rattle.pm_packages.specs.declared.package.PackageDependency.{PackageDependency}
 use Rattle.pm_reading.specs.Links.{dependencies_at}
-use Rattle.pm_reading.specs.Nodes.{by_package, dependencies_of_kinds, kinds_of, known_place, link_of, links_of, place_of, place_or_refusal, take_dependency, take_node, with_kinds}
+use Rattle.pm_reading.specs.Nodes.{by_package, dependencies_of_kinds, kinds_of, known_place, link_of, links_of, place_of_package, place_or_refusal, take_dependency, take_node, with_kinds}
 use Rattle.pm_reading.specs.Presence.{IsLinkWithin}
 use Rattle.pm_reading.specs.Reading.{take_each}
 use Rattle.pm_reading.specs.declared.nodes.Link.{Link}
-use Rattle.pm_reading.proofs.NodeLemmas.{place_of-within}
+use Rattle.pm_reading.proofs.NodeLemmas.{place_of_package-within}
 use Rattle.pm_reading.proofs.ReadingLemmas.{ok_from_bind, one_value, take_each-keeps}
 
 -- ---- links
@@ -22,10 +22,10 @@ use Rattle.pm_reading.proofs.ReadingLemmas.{ok_from_bind, one_value, take_each-k
 module _ (packages : List PackageData) where
   -- a known place is that of a package
   pub known_place-within : (id : List ℕ) (place : ℕ) → known_place packages id ≡ Ok place → place < length packages
-  known_place-within id place is = by (place_of packages id) refl is
+  known_place-within id place is = by (place_of_package packages id) refl is
     where
-      by : (o : Option ℕ) → place_of packages id ≡ o → place_or_refusal id o ≡ Ok place → place < length packages
-      by (Some p) at e = place_of-within packages id place (at ∙ ap Some (one_value p place (Ok p) refl e))
+      by : (o : Option ℕ) → place_of_package packages id ≡ o → place_or_refusal id o ≡ Ok place → place < length packages
+      by (Some p) at e = place_of_package-within packages id place (at ∙ ap Some (one_value p place (Ok p) refl e))
       by None at e = cc
 
   kinds-within : (place : ℕ) (name : List ℕ) (kinds : List DepKind) → place < length packages → All (λ d. number_of d.pkg < length packages) (with_kinds place name kinds)

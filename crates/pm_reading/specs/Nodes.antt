@@ -34,8 +34,8 @@ last_place p [] = None
 last_place p (x ∷ xs) = option_or (option_map suc (last_place p xs)) (if p x then Some 0 else None)
 
 -- the place of the package of an id: where several packages have one id, the last of them counts
-unfoldable pub place_of : List PackageData → List ℕ → Option ℕ
-place_of packages id = last_place (λ p. bytes_eq p.id.repr id) packages
+unfoldable pub place_of_package : List PackageData → List ℕ → Option ℕ
+place_of_package packages id = last_place (λ p. bytes_eq p.id.repr id) packages
 
 -- the place, or the refusal where the id is that of no package
 abbrev pub place_or_refusal : List ℕ → Option ℕ → Reading ℕ
@@ -44,7 +44,7 @@ place_or_refusal id None = Err (UnknownPackage id)
 
 -- the place of the package of an id, which must be known
 abbrev pub known_place : List PackageData → List ℕ → Reading ℕ
-known_place packages id = place_or_refusal id (place_of packages id)
+known_place packages id = place_or_refusal id (place_of_package packages id)
 
 -- ---- kinds
 

@@ -6,7 +6,7 @@ ghost use Rattle.std.specs.Ordering.{is_le};
 ghost use Rattle.base_values.specs.ByText.{text_cmp};
 ghost use Rattle.std.specs.List.Sorted.{IsSorted};
 ghost use Rattle.base_values.specs.Sorted.{sorted};
-ghost use Rattle.pm_reading.specs.Nodes.{by_package, has_kind, is_kind, kinds_of, known_place, link_of, links_of, place_of, take_dependency, with_kinds};
+ghost use Rattle.pm_reading.specs.Nodes.{by_package, has_kind, is_kind, kinds_of, known_place, link_of, links_of, place_of_package, take_dependency, with_kinds};
 ghost use Rattle.pm_reading.specs.Packages.{by_package_id};
 ghost use Rattle.pm_reading.specs.Reading.{Gives, Leaves, take_each};
 
@@ -50,9 +50,9 @@ fn is_at_most(package: &PackageData, id: &PackageId) -> bool
 
 // The place of the package of an id, among packages in the order of their ids. Of several packages
 // of one id it is the last.
-fn place_of(packages: &[PackageData], id: &PackageId) -> Option<usize>
+fn place_of_package(packages: &[PackageData], id: &PackageId) -> Option<usize>
     requires { IsSorted by_package_id packages.now }
-    ensures { result ≡ place_of packages.now id.now.repr }
+    ensures { result ≡ place_of_package packages.now id.now.repr }
 {
     let end = packages.partition_point(|package| is_at_most(package, id));
     if end == 0 {
@@ -75,7 +75,7 @@ fn known_place(
     requires { IsSorted by_package_id packages.now }
     ensures { Gives result (known_place packages.now id.now.repr) }
 {
-    match place_of(packages, id) {
+    match place_of_package(packages, id) {
         Some(place) => Ok(place),
         None => Err(WorkspaceError::UnknownPackage(id.repr.try_clone(alloc)?)),
     }

@@ -11,7 +11,7 @@ use Rattle.pm_cargo.specs.Workspace.{Workspace}
 use Rattle.pm_rows.specs.Gathering.{AddsRows, edges_between}
 use Rattle.pm_rows.specs.Keeping.{AreBare, AreLowered}
 use Rattle.pm_rows.specs.KeptEdges.{IsWithin, kept_edges}
-use Rattle.pm_loader.specs.Loader.{Files}
+use Rattle.pm_loader.specs.Loader.{FileNumbers}
 use Rattle.pm_rows.specs.Lowering.{Crate, HasCrates, LacksCyclesAlone, crate_of, crate_seen, crates_of, lowering, named_crates}
 use Rattle.pm_rows.specs.Refusal.{IfBadName, IfTooMany, Refuses}
 use Rattle.pm_rows.specs.Rows.{Owner, owners, owners_from, parts, rows_of, rows_of_parts}
@@ -23,7 +23,7 @@ use Rattle.pm_rows.proofs.LoweredLemmas.{crates_with_deps, lacks_cycles_alone}
 use Rattle.pm_rows.proofs.UnrankedLemmas.{wanted_are_gathered}
 use Rattle.pm_rows.proofs.WithinLemmas.{are_numbered, wanted_within}
 
-module _ (files : Files) (w : Workspace) (shared : CrateWorkspaceData) where
+module _ (files : FileNumbers) (w : Workspace) (shared : CrateWorkspaceData) where
   count_is : length (rows_of_parts (parts files w)) ≡ length (rows_of (owners files w))
   count_is = ap length (append-nil (rows_of (owners files w)))
 

@@ -11,7 +11,7 @@ use Rattle.pm_packages.specs.declared.package.PackageDependency.{PackageDependen
 use Rattle.pm_packages.specs.declared.target.TargetData.{TargetData}
 use Rattle.pm_packages.specs.declared.target.TargetTag.{TargetTag}
 use Rattle.pm_cargo.specs.Workspace.{Workspace}
-use Rattle.pm_loader.specs.Loader.{Files}
+use Rattle.pm_loader.specs.Loader.{FileNumbers}
 use Rattle.pm_rows.specs.Ranks.{AreInOrder, IsBefore, less, then_less}
 use Rattle.pm_rows.specs.Rows.{Owner, Row, cargo, library, live_target, live_targets, rows_from, owner, owners, owners_from, parts}
 use Rattle.pm_rows.specs.WantedEdges.{Edge, RankedEdge, by_place, first_edges, is_delayed, is_for, last, later_edges, with_rank, ranked_edges, agree, to_library, to_owner, to_package, uses_library, wanted_of_part}
@@ -196,7 +196,7 @@ part_order q w os all =
 
 -- ---- the places of a package's rows
 
-module _ (files : Files) (w : Workspace) (of : PackageData) where
+module _ (files : FileNumbers) (w : Workspace) (of : PackageData) where
   live_above : (m k : ℕ) (ids : List (Idx TargetTag)) → m ≤ k → All (λ t. m ≤ t.0) (live_targets files w of (enumerate_from k ids))
   unfolding live_targets
   live_above m k [] h = All-nil (λ t. m ≤ t.0)
@@ -236,10 +236,10 @@ module _ (files : Files) (w : Workspace) (of : PackageData) where
   unfolding owner
   owner_ascends n = numbered_ascend n (live_targets files w of (enumerate_from 0 of.targets)) (live_ascend 0 of.targets)
 
-owners_ascend : (files : Files) (w : Workspace) (n : ℕ) (ps : List PackageData) → All (λ o. Ascend o.rows) (owners_from files w n ps)
+owners_ascend : (files : FileNumbers) (w : Workspace) (n : ℕ) (ps : List PackageData) → All (λ o. Ascend o.rows) (owners_from files w n ps)
 owners_ascend files w n [] = All-nil (λ o. Ascend o.rows)
 owners_ascend files w n (p ∷ ps) = All-cons (λ o. Ascend o.rows) (owner files w n p) _ (owner_ascends files w p n) (owners_ascend files w (n + length (owner files w n p).rows) ps)
 
 -- the ranks of what a workspace's rows want ascend
-pub ranks_ascend : (files : Files) (w : Workspace) → AreInOrder (ranked_edges (parts files w))
+pub ranks_ascend : (files : FileNumbers) (w : Workspace) → AreInOrder (ranked_edges (parts files w))
 ranks_ascend files w = subst AreInOrder (sym (append-nil (wanted_of_part (cargo 1 w (owners files w))))) (part_order 1 w (owners files w) (owners_ascend files w 0 w.packages))

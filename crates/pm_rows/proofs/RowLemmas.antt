@@ -15,7 +15,7 @@ use Rattle.pm_packages.specs.declared.package.PackageData.{PackageData}
 use Rattle.pm_packages.specs.declared.target.TargetData.{TargetData}
 use Rattle.pm_packages.specs.declared.target.TargetTag.{TargetTag}
 use Rattle.pm_cargo.specs.Workspace.{Workspace}
-use Rattle.pm_loader.specs.Loader.{Files}
+use Rattle.pm_loader.specs.Loader.{FileNumbers}
 use Rattle.pm_rows.specs.Gathering.{AddsRows, files_of, found_target, found_targets, owner_by, owners_by}
 use Rattle.pm_rows.specs.Lowering.{crate_of, crate_seen}
 use Rattle.pm_rows.specs.Refusal.{IfTooMany}
@@ -188,7 +188,7 @@ slice_get-behind : {A : Type 0} (xs : List A) (x : A) (rest : List A) → slice_
 slice_get-behind [] x rest = refl
 slice_get-behind (y ∷ ys) x rest = slice_get-behind ys x rest
 
-module _ (files : Files) (w : Workspace) where
+module _ (files : FileNumbers) (w : Workspace) where
   found_is_live : (of : PackageData) (id : Idx TargetTag) → found_target w (Some id) (option_map (λ t. t.1) (live_target files w of id)) ≡ live_target files w of id
   unfolding found_target live_target
   found_is_live of id = found_again (slice_get w.targets (number_of id)) (root_file files w of)

@@ -6,7 +6,7 @@ use Rattle.base_text.specs.Arena.{number_of}
 use Rattle.pm_packages.specs.declared.package.PackageDependency.{PackageDependency}
 use Rattle.pm_cargo.specs.Workspace.{Workspace}
 use Rattle.pm_rows.specs.Gathering.{to_dependencies, to_dependency, to_own_library, edges_between}
-use Rattle.pm_loader.specs.Loader.{Files}
+use Rattle.pm_loader.specs.Loader.{FileNumbers}
 use Rattle.pm_rows.specs.Rows.{Owner, Row, cargo, library, owners, parts}
 use Rattle.pm_rows.specs.WantedEdges.{Edge, RankedEdge, by_place, first_edges, last, later_edges, with_rank, to_library, to_owner, wanted_edges, wanted_of_part}
 
@@ -51,5 +51,5 @@ part_unranked q w os =
     ∙ ap (λ es. flat_map to_own_library os ++ flat_map (to_dependencies false os) os ++ es) (map_by_place (λ (r : RankedEdge). r.edge) (later_edges q 3 true os) (to_dependencies true os) (later_unranked q 3 true os) 0 os)
 
 -- what a workspace's rows want is what is gathered of them
-pub wanted_are_gathered : (files : Files) (w : Workspace) → wanted_edges (parts files w) ≡ edges_between (owners files w)
+pub wanted_are_gathered : (files : FileNumbers) (w : Workspace) → wanted_edges (parts files w) ≡ edges_between (owners files w)
 wanted_are_gathered files w = ap (map (λ (r : RankedEdge). r.edge)) (append-nil (wanted_of_part (cargo 1 w (owners files w)))) ∙ part_unranked 1 w (owners files w)

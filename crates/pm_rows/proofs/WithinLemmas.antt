@@ -11,7 +11,7 @@ use Rattle.pm_packages.specs.declared.target.TargetData.{TargetData}
 use Rattle.pm_cargo.specs.Workspace.{Workspace}
 use Rattle.pm_rows.specs.Gathering.{AreNumbered, found_targets, owner_by, owners_by, to_dependencies, to_dependency, to_own_library, edges_between}
 use Rattle.pm_rows.specs.KeptEdges.{IsWithin}
-use Rattle.pm_loader.specs.Loader.{Files}
+use Rattle.pm_loader.specs.Loader.{FileNumbers}
 use Rattle.pm_rows.specs.Rows.{Owner, Row, is_lib, library, live_targets, rows_from, owner, owners, owners_from, rows_of}
 use Rattle.pm_rows.specs.WantedEdges.{is_delayed, is_for, agree, to_library, to_owner, to_package, uses_library}
 
@@ -25,11 +25,11 @@ numbers_of : (of : PackageData) (n : ℕ) (ts : List (ℕ × TargetData × ℕ))
 numbers_of of n [] = refl
 numbers_of of n (t ∷ ts) = ap (λ ns. n ∷ ns) (numbers_of of (n + 1) ts)
 
-owner_numbers : (files : Files) (w : Workspace) (n : ℕ) (p : PackageData) → map (λ r. r.number) (owner files w n p).rows ≡ range_with_len n (length (owner files w n p).rows)
+owner_numbers : (files : FileNumbers) (w : Workspace) (n : ℕ) (p : PackageData) → map (λ r. r.number) (owner files w n p).rows ≡ range_with_len n (length (owner files w n p).rows)
 unfolding owner
 owner_numbers files w n p = numbers_of p n (live_targets files w p (enumerate_from 0 p.targets))
 
-numbers_from : (files : Files) (w : Workspace) (n : ℕ) (ps : List PackageData) → map (λ r. r.number) (rows_of (owners_from files w n ps)) ≡ range_with_len n (length (rows_of (owners_from files w n ps)))
+numbers_from : (files : FileNumbers) (w : Workspace) (n : ℕ) (ps : List PackageData) → map (λ r. r.number) (rows_of (owners_from files w n ps)) ≡ range_with_len n (length (rows_of (owners_from files w n ps)))
 numbers_from files w n [] = refl
 numbers_from files w n (p ∷ ps) =
     let rows = (owner files w n p).rows in
@@ -52,7 +52,7 @@ numbers_by w n (p ∷ ps) (f ∷ fs) =
 pub are_numbered_by : (w : Workspace) (ps : List PackageData) (fs : List (List (Option ℕ))) → AreNumbered (rows_of (owners_by w 0 ps fs))
 are_numbered_by w ps fs = numbers_by w 0 ps fs
 
-pub are_numbered : (files : Files) (w : Workspace) → AreNumbered (rows_of (owners files w))
+pub are_numbered : (files : FileNumbers) (w : Workspace) → AreNumbered (rows_of (owners files w))
 are_numbered files w = numbers_from files w 0 w.packages
 
 all_left : {X : Type 0} (P : X → Type 0) (xs ys : List X) → All P (xs ++ ys) → All P xs

@@ -12,7 +12,7 @@ use Rattle.pm_packages.specs.declared.package.PackageDependency.{PackageDependen
 use Rattle.pm_packages.specs.declared.target.TargetData.{TargetData}
 use Rattle.pm_packages.specs.declared.target.TargetTag.{TargetTag}
 use Rattle.pm_cargo.specs.Workspace.{Workspace}
-use Rattle.pm_loader.specs.Loader.{Files}
+use Rattle.pm_loader.specs.Loader.{FileNumbers}
 use Rattle.pm_rows.specs.Lowering.{crate_of, crate_seen}
 use Rattle.pm_rows.specs.Rows.{Owner, Row, library, live_target, rows_from}
 use Rattle.pm_rows.specs.WantedEdges.{Edge, to_library, to_owner}
@@ -20,11 +20,11 @@ use Rattle.pm_rows.specs.WantedEdges.{Edge, to_library, to_owner}
 -- ---- rows
 
 -- the files that the crates of a package's targets begin in, by target
-unfoldable pub files_of : Files → Workspace → PackageData → List (Option ℕ)
+unfoldable pub files_of : FileNumbers → Workspace → PackageData → List (Option ℕ)
 files_of files w of = map (λ id. option_map (λ t. t.1) (live_target files w of id)) of.targets
 
 -- these are the files of the targets of all packages
-abbrev pub AreFilesOf : Files → Workspace → List (List (Option ℕ)) → Type 0
+abbrev pub AreFilesOf : FileNumbers → Workspace → List (List (Option ℕ)) → Type 0
 AreFilesOf live w files = files ≡ map (files_of live w) w.packages
 
 -- a target with the file that its crate begins in, where there are both

@@ -13,7 +13,7 @@ use Rattle.crate_graph.specs.Graph.{Graph, edges, target_of}
 use Rattle.pm_cargo.specs.Workspace.{Workspace}
 use Rattle.pm_rows.specs.Columns.{Columns, columns_of, columns_seen}
 use Rattle.pm_rows.specs.KeptEdges.{deps_of, kept_edges}
-use Rattle.pm_loader.specs.Loader.{Files}
+use Rattle.pm_loader.specs.Loader.{FileNumbers}
 use Rattle.pm_rows.specs.Refusal.{Refuses}
 use Rattle.pm_rows.specs.Rows.{Part, Row, cargo, parts, rows_of, rows_of_parts}
 use Rattle.pm_rows.specs.WantedEdges.{Dep, Edge, bad_names, wanted_edges}
@@ -53,7 +53,7 @@ lowered_parts shared limit parts =
     if nat_lt limit (length (rows_of_parts parts)) then Err (TooMany Crates) else named_crates shared parts (slice_get (bad_names parts) 0)
 
 -- the lowering of a Cargo workspace
-unfoldable pub lowering : Files → Workspace → CrateWorkspaceData → ℕ → Result (List Crate) LowerError
+unfoldable pub lowering : FileNumbers → Workspace → CrateWorkspaceData → ℕ → Result (List Crate) LowerError
 lowering files w shared limit = lowered_parts shared limit (parts files w)
 
 -- ---- graphs

@@ -12,7 +12,7 @@ use Rattle.pm_packages.specs.declared.package.PackageData.{PackageData}
 use Rattle.pm_packages.specs.declared.target.TargetData.{TargetData}
 use Rattle.pm_packages.specs.declared.target.TargetTag.{TargetTag}
 use Rattle.pm_cargo.specs.Workspace.{Workspace}
-use Rattle.pm_loader.specs.Loader.{Files, file_of}
+use Rattle.pm_loader.specs.Loader.{FileNumbers, file_of}
 
 -- ---- kinds of targets
 
@@ -60,11 +60,11 @@ unfoldable pub may_be_row : Workspace → PackageData → TargetData → Bool
 may_be_row w of target = is_lib target.kind || (of.is_member && not w.is_sysroot)
 
 -- the file that a target's crate begins in: the target has a row where the file of its root is live
-unfoldable pub root_file : Files → Workspace → PackageData → TargetData → Option ℕ
+unfoldable pub root_file : FileNumbers → Workspace → PackageData → TargetData → Option ℕ
 root_file files w of target = if may_be_row w of target then file_of files target.root else None
 
 -- a target with the file that its crate begins in
-unfoldable pub live_target : Files → Workspace → PackageData → Idx TargetTag → Option (TargetData × ℕ)
+unfoldable pub live_target : FileNumbers → Workspace → PackageData → Idx TargetTag → Option (TargetData × ℕ)
 live_target files w of id = option_and_then (λ target. option_map (λ file. (target, file)) (root_file files w of target)) (slice_get w.targets (number_of id))
 
 -- the row of a target at a place, under a number
@@ -72,7 +72,7 @@ abbrev pub row_at : PackageData → ℕ × TargetData × ℕ → ℕ → Row
 row_at of t n = record { number = n; of = of; place = t.0; target = t.1; file = t.2 }
 
 -- the targets of a package that have a row, each with its place and its file
-unfoldable pub live_targets : Files → Workspace → PackageData → List (ℕ × Idx TargetTag) → List (ℕ × TargetData × ℕ)
+unfoldable pub live_targets : FileNumbers → Workspace → PackageData → List (ℕ × Idx TargetTag) → List (ℕ × TargetData × ℕ)
 live_targets files w of ids = flat_map (λ id. option_to_list (option_map (λ t. (id.0, t.0, t.1)) (live_target files w of id.1))) ids
 
 -- the rows of some targets, numbered from n on
@@ -81,11 +81,11 @@ rows_from of n [] = []
 rows_from of n (t ∷ ts) = row_at of t n ∷ rows_from of (n + 1) ts
 
 -- a package with its rows, numbered from n on
-unfoldable pub owner : Files → Workspace → ℕ → PackageData → Owner
+unfoldable pub owner : FileNumbers → Workspace → ℕ → PackageData → Owner
 owner files w n of = record { of = of; rows = rows_from of n (live_targets files w of (enumerate_from 0 of.targets)) }
 
 -- packages with their rows, numbered from n on
-abbrev pub owners_from : Files → Workspace → ℕ → List PackageData → List Owner
+abbrev pub owners_from : FileNumbers → Workspace → ℕ → List PackageData → List Owner
 owners_from files w n [] = []
 owners_from files w n (p ∷ ps) = owner files w n p ∷ owners_from files w (n + length (owner files w n p).rows) ps
 
@@ -116,9 +116,9 @@ abbrev pub rows_of_parts : List Part → List Row
 rows_of_parts parts = flat_map rows_of_part parts
 
 -- the packages of a Cargo workspace with their rows, the first part with rows
-abbrev pub owners : Files → Workspace → List Owner
+abbrev pub owners : FileNumbers → Workspace → List Owner
 owners files w = owners_from files w 0 w.packages
 
 -- the parts of a project that has no sysroot: its workspace alone
-abbrev pub parts : Files → Workspace → List Part
+abbrev pub parts : FileNumbers → Workspace → List Part
 parts files w = cargo 1 w (owners files w) ∷ []

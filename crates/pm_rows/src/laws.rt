@@ -4,7 +4,7 @@ ghost use Rattle.std.specs.Prelude.{◌≡◌, ℕ, List};
 ghost use Rattle.std.specs.List.{All};
 ghost use Rattle.pm_cargo.specs.Workspace.{Workspace};
 ghost use Rattle.pm_rows.specs.KeptEdges.{AreKept, IsWithin, kept_edges};
-ghost use Rattle.pm_loader.specs.Loader.{Files};
+ghost use Rattle.pm_loader.specs.Loader.{FileNumbers};
 ghost use Rattle.pm_rows.specs.Ranks.{AreInOrder};
 ghost use Rattle.pm_rows.specs.Rows.{parts};
 ghost use Rattle.pm_rows.specs.WantedEdges.{Edge, ranked_edges};
@@ -20,5 +20,5 @@ pub fn kept_edges_close_no_cycle()
 
 /// The wanted edges stand in the order of their ranks, and no two have one rank.
 pub fn wanted_edges_are_ranked()
-    ensures { (files : Files) (w : Workspace) → AreInOrder (ranked_edges (parts files w)) }
+    ensures { (files : FileNumbers) (w : Workspace) → AreInOrder (ranked_edges (parts files w)) }
 {}

@@ -1,7 +1,7 @@
 //! A Cargo workspace as an acyclic graph of crates.
 
 ghost use Rattle.std.specs.Prelude.{◌≡◌, length, IfOk};
-ghost use Rattle.pm_loader.specs.Loader.{Files};
+ghost use Rattle.pm_loader.specs.Loader.{FileNumbers};
 ghost use Rattle.pm_rows.specs.Gathering.{AreFilesOf};
 ghost use Rattle.pm_rows.specs.Lowering.{IsLowered, LacksCyclesAlone, lowering};
 ghost use Rattle.pm_rows.specs.Rows.{parts};
@@ -47,10 +47,10 @@ fn graph_of(
     limits: &Limits,
 ) -> Result<CrateGraphBuilder, LowerError>
     requires { length files.now ≡ length workspace.now.packages }
-    ensures lowers { (live : Files) → AreFilesOf live workspace.now files.now
+    ensures lowers { (live : FileNumbers) → AreFilesOf live workspace.now files.now
         → IsLowered limits.now.crates result
         (lowering live workspace.now shared.now.value limits.now.crates) }
-    ensures missing { (live : Files) → AreFilesOf live workspace.now files.now
+    ensures missing { (live : FileNumbers) → AreFilesOf live workspace.now files.now
         → IfOk result (λ graph. LacksCyclesAlone
         (wanted_edges (parts live workspace.now)) graph.crates) }
 {

@@ -4,19 +4,19 @@ use Rattle.outside.specs.declared.command.Output.{Output}
 use Rattle.outside.specs.declared.command.Question.{Question}
 use Rattle.pm_config.specs.Tools.{Variables}
 use Rattle.pm_config.specs.declared.tool.Tools.{Tools}
-use Rattle.trees.specs.Tree.{Files}
+use Rattle.trees.specs.Tree.{TreeFiles}
 use Rattle.pm_sysroot.specs.declared.ask.Ask.{Ask}
 
 -- the recorded answers, the files of the tree, the names of the tools, the variables of the process, and those set or removed beside them
 pub record Means : Type 0 where
   pub answers : List (Question × Output)
-  pub files : Files
+  pub files : TreeFiles
   pub tools : Tools
   pub process_env : List (List ℕ × List ℕ)
   pub extra_env : Variables
 
 -- what an `Ask` stands for, by what its runner answers and its tree holds
-abbrev pub means_of : {R T : Type 0} → (R → List (Question × Output)) → (T → Files) → Ask R T → Means
+abbrev pub means_of : {R T : Type 0} → (R → List (Question × Output)) → (T → TreeFiles) → Ask R T → Means
 means_of answers files ask = record {
   answers = answers ask.runner.now;
   files = files ask.tree.now;

@@ -6,7 +6,7 @@ use Rattle.outside.specs.declared.command.CommandLine.{CommandLine}
 use Rattle.pm_config.specs.Tools.{tool_command}
 use Rattle.pm_config.specs.declared.tool.Tool.{Tool}
 use Rattle.pm_config.specs.declared.tool_root.ToolRoot.{ToolRoot}
-use Rattle.trees.specs.Tree.{Files, holds_path}
+use Rattle.trees.specs.Tree.{TreeFiles, holds_path}
 use Rattle.pm_sysroot.specs.Ask.{Means}
 use Rattle.pm_sysroot.specs.Toolchain.{Toolchain}
 use Rattle.pm_sysroot.specs.declared.rust_lib_src.RustLibSrcWorkspace.TheVariants.{Empty}
@@ -20,11 +20,11 @@ abbrev pub empty_sysroot : Toolchain
 empty_sysroot = sysroot_of None None
 
 -- a path, where the tree holds it
-abbrev pub held_path : Files → List ℕ → Option (List ℕ)
+abbrev pub held_path : TreeFiles → List ℕ → Option (List ℕ)
 held_path files path = if holds_path files path then Some path else None
 
 -- the path of `rustc` below a directory, where the tree holds it
-abbrev pub rustc_below : Files → Option (List ℕ) → Option (List ℕ)
+abbrev pub rustc_below : TreeFiles → Option (List ℕ) → Option (List ℕ)
 rustc_below files None = None
 rustc_below files (Some root) = held_path files (path_text (components_with_tail root (codes "bin/rustc")))
 

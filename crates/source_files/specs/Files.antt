@@ -18,7 +18,7 @@ use Rattle.source_files.specs.declared.inputs.SourceRootInput.{SourceRootInput}
 use Rattle.source_files.specs.declared.source_root.SourceRoot.{SourceRoot}
 
 -- what is held, by number
-pub record Held : Type 0 where
+pub record FileTables : Type 0 where
   -- the texts of files
   pub texts : map.FinMap nat_cmp FileText
   -- the source roots
@@ -27,8 +27,8 @@ pub record Held : Type 0 where
   pub file_roots : map.FinMap nat_cmp FileSourceRootInput
 
 -- what is held is stored as the three maps
-abbrev pub held_code : Coded Held
-held_code =
+abbrev pub file_tables_code : Coded FileTables
+file_tables_code =
     code_by
     (map.FinMap nat_cmp FileText
     × (map.FinMap nat_cmp SourceRootInput × map.FinMap nat_cmp FileSourceRootInput))
@@ -39,33 +39,33 @@ held_code =
     (λ p. record { texts = p.0; roots = p.1.0; file_roots = p.1.1 }) (λ _. refl)
 
 -- no texts and no roots
-abbrev pub no_files : Held
+abbrev pub no_files : FileTables
 no_files = record { texts = map.empty; roots = map.empty; file_roots = map.empty }
 
 -- the text of a file, where it has one
-abbrev pub text_of : Held → ℕ → Option FileText
+abbrev pub text_of : FileTables → ℕ → Option FileText
 text_of files file = map.get files.texts file
 
 -- a source root, where it is there
-abbrev pub root_of : Held → ℕ → Option SourceRootInput
+abbrev pub root_of : FileTables → ℕ → Option SourceRootInput
 root_of files root = map.get files.roots root
 
 -- the source root of a file, where it has one
-abbrev pub file_root_of : Held → ℕ → Option FileSourceRootInput
+abbrev pub file_root_of : FileTables → ℕ → Option FileSourceRootInput
 file_root_of files file = map.get files.file_roots file
 
 -- the source root that a file is in, where it is there
-abbrev pub root_of_file : Held → ℕ → Option SourceRoot
+abbrev pub root_of_file : FileTables → ℕ → Option SourceRoot
 root_of_file files file =
     option_and_then (λ place. option_map (λ input. input.source_root) (root_of files place.source_root_id))
     (file_root_of files file)
 
 -- how durable the text of a file is to be: by the root that it is in, where that is there
-abbrev pub durability_of_file : Held → ℕ → Durability
+abbrev pub durability_of_file : FileTables → ℕ → Durability
 durability_of_file files file = unwrap_or (option_map text_durability (root_of_file files file)) Low
 
 -- the file beside another one, by the root of that one
-abbrev pub resolved_from : Held → ℕ → List ℕ → Option ℕ
+abbrev pub resolved_from : FileTables → ℕ → List ℕ → Option ℕ
 resolved_from files anchor tail =
     option_and_then (λ root. resolved_file (set_of_root root) anchor tail) (root_of_file files anchor)
 
@@ -82,7 +82,7 @@ abbrev pub stored_place : ℕ → Durability → FileSourceRootInput
 stored_place root durability = record { source_root_id = root; durability = durability }
 
 -- the files, with a text for a file
-abbrev pub with_text : Held → ℕ → List ℕ → Durability → Held
+abbrev pub with_text : FileTables → ℕ → List ℕ → Durability → FileTables
 with_text files file text durability =
     record files { texts = map.insert files.texts file (stored_text file text durability) }
 
@@ -92,30 +92,30 @@ kept_durability None = Low
 kept_durability (Some text) = text.durability
 
 -- the files, with a text for a file, as durable as the one that was there
-abbrev pub with_same_durability : Held → ℕ → List ℕ → Held
+abbrev pub with_same_durability : FileTables → ℕ → List ℕ → FileTables
 with_same_durability files file text = with_text files file text (kept_durability (text_of files file))
 
 -- the files, with a source root
-abbrev pub with_root : Held → ℕ → SourceRoot → Durability → Held
+abbrev pub with_root : FileTables → ℕ → SourceRoot → Durability → FileTables
 with_root files root source_root durability =
     record files { roots = map.insert files.roots root (stored_root source_root durability) }
 
 -- the files, with a source root for a file
-abbrev pub with_file_root : Held → ℕ → ℕ → Durability → Held
+abbrev pub with_file_root : FileTables → ℕ → ℕ → Durability → FileTables
 with_file_root files file root durability =
     record files { file_roots = map.insert files.file_roots file (stored_place root durability) }
 
 -- one text is set, and each other is as it was
-abbrev pub SetsText : Held → Held → ℕ → FileText → Type 0
+abbrev pub SetsText : FileTables → FileTables → ℕ → FileText → Type 0
 SetsText old new file text =
     (other : ℕ) → text_of new other ≡ (if other == file then Some text else text_of old other)
 
 -- one source root is set, and each other is as it was
-abbrev pub SetsRoot : Held → Held → ℕ → SourceRootInput → Type 0
+abbrev pub SetsRoot : FileTables → FileTables → ℕ → SourceRootInput → Type 0
 SetsRoot old new root input =
     (other : ℕ) → root_of new other ≡ (if other == root then Some input else root_of old other)
 
 -- the source root of one file is set, and that of each other is as it was
-abbrev pub SetsFileRoot : Held → Held → ℕ → FileSourceRootInput → Type 0
+abbrev pub SetsFileRoot : FileTables → FileTables → ℕ → FileSourceRootInput → Type 0
 SetsFileRoot old new file place =
     (other : ℕ) → file_root_of new other ≡ (if other == file then Some place else file_root_of old other)

@@ -23,11 +23,11 @@ pub struct Files {
 }
 
 impl Model for Files {
-    ghost use Rattle.source_files.specs.Files.{Held, held_code};
+    ghost use Rattle.source_files.specs.Files.{FileTables, file_tables_code};
 
-    ghost Value = { Held };
+    ghost Value = { FileTables };
 
-    ghost coded = { held_code };
+    ghost coded = { file_tables_code };
 
     ghost view = { λ a. record { texts = a.texts; roots = a.roots; file_roots = a.file_roots } };
 }

@@ -17,7 +17,7 @@ use Rattle.base_values.proofs.SortedLists.{has-fold, has-insert_key, sorted-fold
 use Rattle.base_values.specs.ByText.{text_cmp}
 use Rattle.base_text.specs.Paths.{components, normal}
 use Rattle.base_text.proofs.Names.{components_are_names, AreNames, IsName}
-use Rattle.trees.specs.Tree.{Files, entry_name, entry_names, is_above, names_in}
+use Rattle.trees.specs.Tree.{TreeFiles, entry_name, entry_names, is_above, names_in}
 use Rattle.trees.proofs.Fronts.{entry_name_parts, is_some-entry_name}
 
 -- texts that tie are the same
@@ -35,7 +35,7 @@ sorted-with_name None names sorted = sorted
 sorted-with_name (Some name) names sorted = sorted-insert_key nat_list_cmp_total names name sorted
 
 -- names that are put in their places are in order
-pub entry_names-sorted : (files : Files) (directory : List (List ℕ)) → IsStrictlySortedBy text_cmp (entry_names files directory)
+pub entry_names-sorted : (files : TreeFiles) (directory : List (List ℕ)) → IsStrictlySortedBy text_cmp (entry_names files directory)
 unfolding entry_names IsStrictlySortedBy
 entry_names-sorted files directory = sorted-fold nat_list_cmp_total [] (filter_map (λ file. entry_name directory (components file.0)) files) tt
 
@@ -51,7 +51,7 @@ fold-with_name (Some name) names =
     ∙ sym (has-insert_key nat_list_cmp_total q name (fold (insert_key text_cmp) [] names)))
 
 -- so the names are those of the later files with that of the first put in
-pub entry_names-cons : (file : List ℕ × List ℕ) (files : Files) (directory : List (List ℕ))
+pub entry_names-cons : (file : List ℕ × List ℕ) (files : TreeFiles) (directory : List (List ℕ))
     → entry_names (file ∷ files) directory ≡ with_name (entry_name directory (components file.0)) (entry_names files directory)
 unfolding entry_names
 entry_names-cons file files directory = fold-with_name (entry_name directory (components file.0)) (filter_map (λ file. entry_name directory (components file.0)) files)
@@ -72,7 +72,7 @@ all-with_name P (Some name) names here all = put names all
         ]
 
 -- what holds of the name behind a directory in each file holds of the names of its entries
-pub entry_names-all : (P : List ℕ → Type 0) (files : Files) (directory : List (List ℕ)) → AllByRecursion (λ key. (name : List ℕ) → entry_name directory (components key) ≡ Some name → P name) (keys_of files)
+pub entry_names-all : (P : List ℕ → Type 0) (files : TreeFiles) (directory : List (List ℕ)) → AllByRecursion (λ key. (name : List ℕ) → entry_name directory (components key) ≡ Some name → P name) (keys_of files)
     → AllByRecursion P (entry_names files directory)
 entry_names-all P [] directory all = unfold entry_names in tt
 entry_names-all P (file ∷ files) directory all =
@@ -96,7 +96,7 @@ non_empty-with_name (Some name) (x ∷ xs) =
     ]
 
 -- a directory has an entry exactly where it is above a file
-non_empty-entry_names : (files : Files) (directory : List (List ℕ)) → list_any (λ file. is_above directory (components file.0)) files ≡ non_empty (entry_names files directory)
+non_empty-entry_names : (files : TreeFiles) (directory : List (List ℕ)) → list_any (λ file. is_above directory (components file.0)) files ≡ non_empty (entry_names files directory)
 unfolding non_empty
 non_empty-entry_names [] directory = unfold entry_names in refl
 non_empty-entry_names (file ∷ files) directory =
@@ -104,11 +104,11 @@ non_empty-entry_names (file ∷ files) directory =
     ∙ sym (ap non_empty (entry_names-cons file files directory) ∙ non_empty-with_name (entry_name directory (components file.0)) (entry_names files directory))
 
 -- so where it has no entry it is none, and else it lists them
-pub names_in-none : (files : Files) (path : List ℕ) → entry_names files (normal path) ≡ [] → names_in files path ≡ None
+pub names_in-none : (files : TreeFiles) (path : List ℕ) → entry_names files (normal path) ≡ [] → names_in files path ≡ None
 unfolding names_in non_empty
 names_in-none files path none = cond-false _ _ _ (non_empty-entry_names files (normal path) ∙ ap non_empty none)
 
-pub names_in-some : (files : Files) (path : List ℕ) (names : List (List ℕ)) → names ≡ entry_names files (normal path) → 0 < length names → names_in files path ≡ Some names
+pub names_in-some : (files : TreeFiles) (path : List ℕ) (names : List (List ℕ)) → names ≡ entry_names files (normal path) → 0 < length names → names_in files path ≡ Some names
 unfolding names_in non_empty
 names_in-some files path [] e some = absurd (omega (arith, some))
 names_in-some files path (x ∷ xs) e some = cond-true _ _ _ (non_empty-entry_names files (normal path) ∙ ap non_empty (sym e)) ∙ ap Some (sym e)
@@ -123,10 +123,10 @@ entry_name-IsName directory path name e =
     let parts = entry_name_parts directory (components path) name e in
     name_behind directory parts.0 name (subst (λ (names : List (List ℕ)). AreNames names) parts.1 (components_are_names path))
 
-pub entry_names-AreNames : (files : Files) (directory : List (List ℕ)) → AreNames (entry_names files directory)
+pub entry_names-AreNames : (files : TreeFiles) (directory : List (List ℕ)) → AreNames (entry_names files directory)
 entry_names-AreNames files directory = entry_names-all IsName files directory (each files)
   where
-    each : (files : Files) → AllByRecursion (λ key. (name : List ℕ) → entry_name directory (components key) ≡ Some name → IsName name) (keys_of files)
+    each : (files : TreeFiles) → AllByRecursion (λ key. (name : List ℕ) → entry_name directory (components key) ≡ Some name → IsName name) (keys_of files)
     each [] = tt
     each (file ∷ files) = (entry_name-IsName directory file.0, each files)
 

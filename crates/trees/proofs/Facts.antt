@@ -6,12 +6,12 @@ use Rattle.std.specs.List.{filter_map, list_any}
 use Rattle.base_values.proofs.SortedLists.{has, has-fold}
 use Rattle.base_values.specs.ByText.{text_cmp}
 use Rattle.base_text.specs.Paths.{components, is_prefix, normal}
-use Rattle.trees.specs.Tree.{Files, entry_name, entry_names, file_text, holds_path, is_above, names_in}
+use Rattle.trees.specs.Tree.{TreeFiles, entry_name, entry_names, file_text, holds_path, is_above, names_in}
 use Rattle.trees.proofs.Fronts.{is_prefix-behind}
 use Rattle.base_values.proofs.Basics.{or_second}
 
 -- a file that is read is held
-pub holds_path-file_text : (files : Files) (path text : List ℕ) → file_text files path ≡ Some text → holds_path files path ≡ true
+pub holds_path-file_text : (files : TreeFiles) (path text : List ℕ) → file_text files path ≡ Some text → holds_path files path ≡ true
 unfolding file_text holds_path
 holds_path-file_text [] path text e = cc
 holds_path-file_text (file ∷ files) path text e = by (pointwise bytes_eq (normal path) (components file.0)) refl e (holds_path-file_text files path text)
@@ -35,7 +35,7 @@ is_prefix-above directory file e =
       | false ↦ λ h. h
     ]) e
 
-held_above : (files : Files) (directory : List (List ℕ)) → list_any (λ file. is_above directory (components file.0)) files ≡ true → list_any (λ file. is_prefix directory (components file.0)) files ≡ true
+held_above : (files : TreeFiles) (directory : List (List ℕ)) → list_any (λ file. is_above directory (components file.0)) files ≡ true → list_any (λ file. is_prefix directory (components file.0)) files ≡ true
 held_above [] directory e = e
 held_above (file ∷ files) directory e = by (is_above directory (components file.0)) refl e (held_above files directory)
   where
@@ -47,7 +47,7 @@ held_above (file ∷ files) directory e = by (is_above directory (components fil
     by true above found rest = ap (λ b. b || others) (is_prefix-above directory (components file.0) above)
     by false other found rest = or_second _ others (rest found)
 
-pub holds_path-names_in : (files : Files) (path : List ℕ) (names : List (List ℕ)) → names_in files path ≡ Some names → holds_path files path ≡ true
+pub holds_path-names_in : (files : TreeFiles) (path : List ℕ) (names : List (List ℕ)) → names_in files path ≡ Some names → holds_path files path ≡ true
 unfolding names_in holds_path
 holds_path-names_in files path names e = held_above files (normal path) (by (list_any (λ file. is_above (normal path) (components file.0)) files) e)
   where
@@ -56,6 +56,6 @@ holds_path-names_in files path names e = held_above files (normal path) (by (lis
     by false found = cc
 
 -- the names of a directory's entries are those right behind it in files
-pub has-entry_names : (name : List ℕ) (files : Files) (directory : List (List ℕ)) → has text_cmp name (entry_names files directory) ≡ has text_cmp name (filter_map (λ file. entry_name directory (components file.0)) files)
+pub has-entry_names : (name : List ℕ) (files : TreeFiles) (directory : List (List ℕ)) → has text_cmp name (entry_names files directory) ≡ has text_cmp name (filter_map (λ file. entry_name directory (components file.0)) files)
 unfolding entry_names
 has-entry_names name files directory = has-fold nat_list_cmp_total name [] (filter_map (λ file. entry_name directory (components file.0)) files)

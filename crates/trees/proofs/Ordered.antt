@@ -1,4 +1,4 @@
--- Files in the order of their paths: what the first one from a path on says of all of them.
+-- TreeFiles in the order of their paths: what the first one from a path on says of all of them.
 use Rattle.std.proofs.Common.{◌≡◌, ℕ, zero, suc, Bool, true, false, cond, not, ◌&&◌, ◌||◌, List, [], ◌∷◌, ◌++◌, drop, length, Ordering, refl, sym, ap, ◌∙◌, Option, Some, None, append-nil, arith}
 use Rattle.std.proofs.lemmas.Bool.{true≢false, false≢true, cond-true, cond-false, lt-ltb}
 use Rattle.std.specs.Cmp.Lexicographic.{slice_cmp, nat_list_cmp_total}
@@ -16,7 +16,7 @@ use Rattle.base_text.specs.PathOrder.{path_cmp}
 use Rattle.base_text.specs.Paths.{components, is_prefix, normal}
 use Rattle.base_text.proofs.Prefixes.{is_prefix_parts}
 use Rattle.trees.specs.MemoryTree.{first_after, first_from}
-use Rattle.trees.specs.Tree.{Files, entry_name, entry_names, holds_path}
+use Rattle.trees.specs.Tree.{TreeFiles, entry_name, entry_names, holds_path}
 use Rattle.trees.proofs.EntryNames.{entry_names-all, entry_names-cons, texts_same, with_name}
 use Rattle.trees.proofs.Fronts.{begins_between, entry_name-behind, entry_name_parts, front_not_above, is_prefix-behind, slice_cmp-behind}
 
@@ -60,11 +60,11 @@ module _ (front : List (List ℕ)) (path : List ℕ) (is : components path ≡ f
           let begins = begins_between nat_list_cmp_total texts_same front (components key) rest low high in
           absurd (false≢true (sym other ∙ ap (is_prefix front) begins ∙ is_prefix-behind front (drop (length front) (components key))))
 
-  none_begins : (files : Files) → AllByRecursion (λ key. is_prefix front (components key) ≡ false) (keys_of files) → list_any (λ file. is_prefix front (components file.0)) files ≡ false
+  none_begins : (files : TreeFiles) → AllByRecursion (λ key. is_prefix front (components key) ≡ false) (keys_of files) → list_any (λ file. is_prefix front (components file.0)) files ≡ false
   none_begins [] all = refl
   none_begins (file ∷ files) all = (λ i. all.0 i || none_begins files all.1 i)
 
-  pub first_begins : (files : Files) → IsStrictlySortedBy path_cmp (keys_of files)
+  pub first_begins : (files : TreeFiles) → IsStrictlySortedBy path_cmp (keys_of files)
       → list_any (λ file. is_prefix front (components file.0)) files ≡ option_map_or (λ key. is_prefix front (components key)) (first_from path files) false
   unfolding IsStrictlySortedBy
   first_begins [] sorted = refl
@@ -86,17 +86,17 @@ module _ (front : List (List ℕ)) (path : List ℕ) (is : components path ≡ f
           ap (λ b. b || list_any (λ file. is_prefix front (components file.0)) files) (not_here (is_prefix front (components file.0)) refl before) ∙ rest
 
 -- so whether a path is held is seen by the first file from its normal path on
-pub holds_path-first : (files : Files) (path key : List ℕ) → components key ≡ normal path → IsStrictlySortedBy path_cmp (keys_of files)
+pub holds_path-first : (files : TreeFiles) (path key : List ℕ) → components key ≡ normal path → IsStrictlySortedBy path_cmp (keys_of files)
     → holds_path files path ≡ option_map_or (λ file. is_prefix (components key) (components file)) (first_from key files) false
 unfolding holds_path
 holds_path-first files path key is sorted =
     first_begins (normal path) key is files sorted ∙ ap (λ parts. option_map_or (λ file. is_prefix parts (components file)) (first_from key files) false) (sym is)
 
 -- the first file from a path on is the first of those that a range gives
-pub first_from-range : (path : List ℕ) (files found : Files) → found ≡ entries_between path_cmp (Included path) Unbounded files → first_from path files ≡ option_map (λ file. file.0) (slice_get found 0)
+pub first_from-range : (path : List ℕ) (files found : TreeFiles) → found ≡ entries_between path_cmp (Included path) Unbounded files → first_from path files ≡ option_map (λ file. file.0) (slice_get found 0)
 first_from-range path files found e = each_one files ∙ ap (λ found. option_map (λ file. file.0) (slice_get found 0)) (sym e)
   where
-    each_one : (files : Files) → first_from path files ≡ option_map (λ file. file.0) (slice_get (entries_between path_cmp (Included path) Unbounded files) 0)
+    each_one : (files : TreeFiles) → first_from path files ≡ option_map (λ file. file.0) (slice_get (entries_between path_cmp (Included path) Unbounded files) 0)
     each_one [] = refl
     each_one (file ∷ files) =
         elim (is_le (path_cmp path file.0)) as (λ b. cond b (Some file.0) (first_from path files)
@@ -199,7 +199,7 @@ module _ (directory : List (List ℕ)) (name start : List ℕ) (is : components 
           cc
 
   -- so the first path from the start on has the first name behind the name, if it is an entry
-  pub first_behind : (files : Files) → IsStrictlySortedBy path_cmp (keys_of files)
+  pub first_behind : (files : TreeFiles) → IsStrictlySortedBy path_cmp (keys_of files)
       → first_after name (entry_names files directory) ≡ option_and_then (λ key. entry_name directory (components key)) (first_from start files)
   unfolding IsStrictlySortedBy with_name
   first_behind [] sorted = unfold entry_names in refl

@@ -14,7 +14,7 @@ use Rattle.std.specs.declared.cmp.Ordering.TheVariants.{Less, Equal, Greater}
 use Rattle.base_values.specs.ByText.{text_cmp}
 use Rattle.base_text.specs.PathOrder.{path_cmp, path_cmp_total, path_ties}
 use Rattle.base_text.specs.Paths.{components, is_prefix, normal}
-use Rattle.trees.specs.Tree.{Files, file_text, holds_path}
+use Rattle.trees.specs.Tree.{TreeFiles, file_text, holds_path}
 use Rattle.trees.proofs.EntryNames.{texts_same}
 use Rattle.base_values.proofs.Basics.{or_swap, or_again}
 
@@ -23,7 +23,7 @@ same_components : (x y : List ℕ) → path_cmp x y ≡ Equal → components x �
 same_components x y = slice_cmp-IsAntisymmetric texts_same (components x) (components y)
 
 -- a test of components passes for one of the files once the new one passes or one passed before
-any-insert_entry : (test : List (List ℕ) → Bool) (files : Files) (path text : List ℕ)
+any-insert_entry : (test : List (List ℕ) → Bool) (files : TreeFiles) (path text : List ℕ)
     → list_any (λ file. test (components file.0)) (insert_entry path_cmp files path text) ≡ (test (components path) || list_any (λ file. test (components file.0)) files)
 any-insert_entry test [] path text = refl
 any-insert_entry test (file ∷ files) path text =
@@ -36,7 +36,7 @@ any-insert_entry test (file ∷ files) path text =
           ∙ or_swap (test (components file.0)) (test (components path)) (list_any (λ file. test (components file.0)) files)
     ] refl
 
-pub holds_path-insert_entry : (files : Files) (path text given asked : List ℕ) → components path ≡ normal given
+pub holds_path-insert_entry : (files : TreeFiles) (path text given asked : List ℕ) → components path ≡ normal given
     → holds_path (insert_entry path_cmp files path text) asked ≡ (is_prefix (normal asked) (normal given) || holds_path files asked)
 unfolding holds_path
 holds_path-insert_entry files path text given asked is =
@@ -44,13 +44,13 @@ holds_path-insert_entry files path text given asked is =
     ∙ ap (λ parts. is_prefix (normal asked) parts || list_any (λ file. is_prefix (normal asked) (components file.0)) files) is
 
 -- the text of a file is found by the order of paths
-pub file_text-get : (files : Files) (path key : List ℕ) → components key ≡ normal path → lookup (is_at (path_cmp key)) files ≡ file_text files path
+pub file_text-get : (files : TreeFiles) (path key : List ℕ) → components key ≡ normal path → lookup (is_at (path_cmp key)) files ≡ file_text files path
 unfolding file_text
 file_text-get files path key is =
     (λ i. lookup (λ file. sym (path_ties key file) i) files) ∙ ap (λ parts. lookup (λ file. pointwise bytes_eq parts (components file)) files) is
 
 -- a test that distinguishes paths finds the new text where it passes for its path, and else what it found before
-lookup-insert_entry : (parts : List (List ℕ)) (files : Files) (path text : List ℕ)
+lookup-insert_entry : (parts : List (List ℕ)) (files : TreeFiles) (path text : List ℕ)
     → lookup (λ file. pointwise bytes_eq parts (components file)) (insert_entry path_cmp files path text)
     ≡ cond (pointwise bytes_eq parts (components path)) (Some text) (lookup (λ file. pointwise bytes_eq parts (components file)) files)
 lookup-insert_entry parts [] path text = refl
@@ -87,36 +87,36 @@ lookup-insert_entry parts (file ∷ files) path text =
         let no : Greater ≡ Equal = sym above ∙ tie in
         cc
 
-pub file_text-insert_entry : (files : Files) (path text given asked : List ℕ) → components path ≡ normal given
+pub file_text-insert_entry : (files : TreeFiles) (path text given asked : List ℕ) → components path ≡ normal given
     → file_text (insert_entry path_cmp files path text) asked ≡ cond (pointwise bytes_eq (normal asked) (normal given)) (Some text) (file_text files asked)
 unfolding file_text
 file_text-insert_entry files path text given asked is =
     lookup-insert_entry (normal asked) files path text ∙ ap (λ parts. cond (pointwise bytes_eq (normal asked) parts) (Some text) (file_text files asked)) is
 
 -- a path above all others goes last
-pub insert_entry-last : (files : Files) (path text : List ℕ) → AllByRecursion (λ key. path_cmp key path ≡ Less) (keys_of files) → insert_entry path_cmp files path text ≡ files ++ (path, text) ∷ []
+pub insert_entry-last : (files : TreeFiles) (path text : List ℕ) → AllByRecursion (λ key. path_cmp key path ≡ Less) (keys_of files) → insert_entry path_cmp files path text ≡ files ++ (path, text) ∷ []
 insert_entry-last [] path text all = refl
 insert_entry-last (file ∷ files) path text all =
     let above : path_cmp path file.0 ≡ Greater = path_cmp_total.antisymm path file.0 ∙ ap ordering_reverse all.0 in
     ap (λ r. match_ordering r ((path, text) ∷ file ∷ files) ((file.0, text) ∷ files) (file ∷ insert_entry path_cmp files path text)) above
     ∙ ap (λ rest. file ∷ rest) (insert_entry-last files path text all.1)
 
-below_middle : (first : List ℕ) (files : Files) (file : List ℕ × List ℕ) (more : Files) → AllByRecursion (λ key. path_cmp first key ≡ Less) (keys_of (files ++ file ∷ more)) → path_cmp first file.0 ≡ Less
+below_middle : (first : List ℕ) (files : TreeFiles) (file : List ℕ × List ℕ) (more : TreeFiles) → AllByRecursion (λ key. path_cmp first key ≡ Less) (keys_of (files ++ file ∷ more)) → path_cmp first file.0 ≡ Less
 below_middle first [] file more all = all.0
 below_middle first (x ∷ files) file more all = below_middle first files file more all.1
 
 -- among paths in order each is above those before it
-pub above_front : (front : Files) (file : List ℕ × List ℕ) (more : Files) → IsStrictlySortedBy path_cmp (keys_of (front ++ file ∷ more)) → AllByRecursion (λ key. path_cmp key file.0 ≡ Less) (keys_of front)
+pub above_front : (front : TreeFiles) (file : List ℕ × List ℕ) (more : TreeFiles) → IsStrictlySortedBy path_cmp (keys_of (front ++ file ∷ more)) → AllByRecursion (λ key. path_cmp key file.0 ≡ Less) (keys_of front)
 unfolding IsStrictlySortedBy
 above_front [] file more sorted = tt
 above_front (x ∷ front) file more sorted = (below_middle x.0 front file more sorted.0, above_front front file more sorted.1)
 
 -- one more file of a copy that is made in order
-pub copied_one_more : (all copy new left rest : Files) (path text key value : List ℕ) → IsStrictlySortedBy path_cmp (keys_of all) → copy ++ left ≡ all → left ≡ (path, text) ∷ rest → key ≡ path → value ≡ text
+pub copied_one_more : (all copy new left rest : TreeFiles) (path text key value : List ℕ) → IsStrictlySortedBy path_cmp (keys_of all) → copy ++ left ≡ all → left ≡ (path, text) ∷ rest → key ≡ path → value ≡ text
     → new ≡ insert_entry path_cmp copy key value → new ++ rest ≡ all
 copied_one_more all copy new left rest path text key value sorted so_far step same_key same_value put =
     let whole : copy ++ (path, text) ∷ rest ≡ all = ap (λ files. copy ++ files) (sym step) ∙ so_far in
-    let P : Files → Type 0 = λ files. IsStrictlySortedBy path_cmp (keys_of files) in
+    let P : TreeFiles → Type 0 = λ files. IsStrictlySortedBy path_cmp (keys_of files) in
     let above = above_front copy (path, text) rest (subst P (sym whole) sorted) in
     let added : new ≡ copy ++ (path, text) ∷ [] = put ∙ (λ i. insert_entry path_cmp copy (same_key i) (same_value i)) ∙ insert_entry-last copy path text above in
     ap (λ files. files ++ rest) added ∙ append_assoc copy ((path, text) ∷ []) rest ∙ whole

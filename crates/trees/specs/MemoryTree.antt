@@ -8,10 +8,10 @@ use Rattle.std.specs.Ordering.{is_le, is_lt}
 use Rattle.base_values.specs.ByText.{text_cmp}
 use Rattle.base_text.specs.PathOrder.{path_cmp}
 use Rattle.base_text.specs.Paths.{is_component, is_slash, normal, path_text}
-use Rattle.trees.specs.Tree.{Files}
+use Rattle.trees.specs.Tree.{TreeFiles}
 
 -- the files with a text at the normal path, in place of an earlier one or as a new file in its place
-abbrev pub with_file : List ℕ → List ℕ → Files → Files
+abbrev pub with_file : List ℕ → List ℕ → TreeFiles → TreeFiles
 with_file path text files = insert_entry path_cmp files (path_text (normal path)) text
 
 -- two paths are the same once they are normal
@@ -19,7 +19,7 @@ abbrev pub is_same_file : List ℕ → List ℕ → Bool
 is_same_file path other = pointwise bytes_eq (normal path) (normal other)
 
 -- the first file that does not come before a path
-abbrev pub first_from : List ℕ → Files → Option (List ℕ)
+abbrev pub first_from : List ℕ → TreeFiles → Option (List ℕ)
 first_from path files = find (λ file. is_le (path_cmp path file)) (keys_of files)
 
 -- the first of some names that comes after a name

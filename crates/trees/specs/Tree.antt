@@ -8,11 +8,11 @@ use Rattle.base_values.specs.ByText.{text_cmp}
 use Rattle.base_text.specs.Paths.{components, is_prefix, normal}
 
 -- the path and the text of each file
-abbrev pub Files : Type 0
-Files = List (List ℕ × List ℕ)
+abbrev pub TreeFiles : Type 0
+TreeFiles = List (List ℕ × List ℕ)
 
 -- a path is a file or a directory: the components of its normal path begin those of a file
-unfoldable pub holds_path : Files → List ℕ → Bool
+unfoldable pub holds_path : TreeFiles → List ℕ → Bool
 holds_path files path = list_any (λ file. is_prefix (normal path) (components file.0)) files
 
 -- a directory is above a file: its components begin those of the file, which has more
@@ -24,14 +24,14 @@ unfoldable pub entry_name : List (List ℕ) → List (List ℕ) → Option (List
 entry_name directory file = if is_above directory file then slice_get file (length directory) else None
 
 -- the names of the entries of a directory, in the order of their bytes and each once
-unfoldable pub entry_names : Files → List (List ℕ) → List (List ℕ)
+unfoldable pub entry_names : TreeFiles → List (List ℕ) → List (List ℕ)
 entry_names files directory = fold (insert_key text_cmp) [] (filter_map (λ file. entry_name directory (components file.0)) files)
 
 -- the names of the entries of a path, where it is a directory
-unfoldable pub names_in : Files → List ℕ → Option (List (List ℕ))
+unfoldable pub names_in : TreeFiles → List ℕ → Option (List (List ℕ))
 names_in files path =
     if list_any (λ file. is_above (normal path) (components file.0)) files then Some (entry_names files (normal path)) else None
 
 -- the text of the file at the normal path
-unfoldable pub file_text : Files → List ℕ → Option (List ℕ)
+unfoldable pub file_text : TreeFiles → List ℕ → Option (List ℕ)
 file_text files path = lookup (λ file. pointwise bytes_eq (normal path) (components file)) files

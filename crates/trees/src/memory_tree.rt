@@ -27,9 +27,9 @@ pub struct MemoryTree {
 }
 
 impl Model for MemoryTree {
-    ghost use Rattle.trees.specs.Tree.{Files};
+    ghost use Rattle.trees.specs.Tree.{TreeFiles};
 
-    ghost Value = { Files };
+    ghost Value = { TreeFiles };
 
     ghost view = { λ a. a.files.entries };
 }

@@ -2,7 +2,7 @@
 
 ghost use Rattle.std.specs.Prelude.{◌≡◌, IfOk};
 ghost use Rattle.base_text.specs.AbsPath.{abs_text};
-ghost use Rattle.trees.specs.Tree.{Files, holds_path, names_in, file_text};
+ghost use Rattle.trees.specs.Tree.{TreeFiles, holds_path, names_in, file_text};
 
 use base_text::{AbsPath, Items, Text};
 use std::alloc::{AllocError, Global};
@@ -10,7 +10,7 @@ use std::alloc::{AllocError, Global};
 /// A finite map from normal paths to texts. A directory is a path above a file, so none is empty.
 pub trait Tree {
     // The path and the text of each file.
-    ghost files: { Self → Files };
+    ghost files: { Self → TreeFiles };
 
     /// Whether the path is a file or a directory.
     fn holds(&self, alloc: Global, path: AbsPath<'_>) -> Result<bool, AllocError>

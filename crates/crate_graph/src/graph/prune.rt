@@ -7,9 +7,9 @@ ghost use Rattle.std.specs.Option.{option_map};
 ghost use Rattle.base_text.specs.Arena.{number_of};
 ghost use Rattle.graph_base.specs.Kept.{IsClosed, is_named, kept_below, kept_rows};
 ghost use Rattle.graph_order.specs.Order.{IsOrderOf};
-ghost use Rattle.graph_order.specs.Suborder.{kept_nodes};
+ghost use Rattle.graph_order.specs.Suborder.{kept_nodes, new_number};
 ghost use Rattle.crate_graph.specs.Graph.{edges, row_of, target_of};
-ghost use Rattle.crate_graph.specs.Prune.{KeepsNamed, Stays, kept_crates, new_number, number_at};
+ghost use Rattle.crate_graph.specs.Prune.{KeepsNamed, Stays, kept_crates, number_at};
 ghost use Rattle.crate_graph.specs.Prune.{renumbered_crate};
 
 use crate::graph::CrateGraphBuilder;

@@ -4,7 +4,7 @@ use Rattle.std.specs.Prelude.{slice_get}
 use Rattle.base_text.specs.Arena.{number_of}
 use Rattle.base_text.specs.contracts.arena.IdxOrd.TheImpl as numbers
 use Rattle.crate_values.specs.contracts.crate_data.CrateTag.{the_row}
-use Rattle.input_db.specs.Identity.{Id}
+use Rattle.crate_graph.specs.Extend.{Id}
 use Rattle.input_db.proofs.lowering.ids_of_numbers.Given as goal
 
 abbrev pub invariant-loop-number : goal.invariant-loop-number

@@ -9,7 +9,7 @@ pub returns-in-Ok-clause-complete : goal.returns-in-Ok-clause-complete
 returns-in-Ok-clause-complete g c = λ s h all known faultless. zero_completes _ all (c.in-Ok.ensures.complete s h all known faultless)
 
 pub returns-in-Err-clause-err : goal.returns-in-Err-clause-err
-returns-in-Err-clause-err g c = λ _. record { error = c.in-Err.error; told = sym c.status.ensures; text = c.tell.ensures; fails = c.in-Err.ensures.err }
+returns-in-Err-clause-err g c = λ _. record { error = c.in-Err.error; reports = sym c.status.ensures; text = c.tell.ensures; fails = c.in-Err.ensures.err }
 
 pub returns-in-Err-clause-cause : goal.returns-in-Err-clause-cause
 returns-in-Err-clause-cause g c =

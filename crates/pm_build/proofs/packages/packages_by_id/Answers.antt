@@ -7,7 +7,7 @@ use Rattle.std.specs.List.{enumerate_from}
 use Rattle.base_text.specs.Arena.{number_of}
 use Rattle.base_values.specs.ByText.{with_value}
 use Rattle.pm_packages.specs.declared.package.PackageData.{PackageData}
-use Rattle.pm_reading.specs.Nodes.{place_of}
+use Rattle.pm_reading.specs.Nodes.{place_of_package}
 use Rattle.pm_build.specs.Packages.{lent_packages, place_under}
 use Rattle.pm_build.proofs.SharedLemmas.{numbered_turn}
 use Rattle.pm_build.proofs.PackageLemmas.{index-all, index-more, index-none}
@@ -29,7 +29,7 @@ loop-number-preserved c =
     let more = index-more (lent_packages lent) c.loop-number.by_id k p c.in-Some.number at.0 at.2 at.1 c.loop-number.invariant in
     λ id. ap (λ ids. place_under ids id) (c.in_ok-insert.ensures.ok ∙ ap (λ t. with_value t c.in-Some.number c.loop-number.by_id) key)
     ∙ more id
-    ∙ ap (λ n. place_of (take n (lent_packages lent)) id) count
+    ∙ ap (λ n. place_of_package (take n (lent_packages lent)) id) count
 
 pub returns : goal.returns
 returns c =

@@ -1,7 +1,7 @@
 use Rattle.std.proofs.Common.{◌≡◌, ◌↔◌, ℕ, Bool, false, Result, Ok, Err, IfErr, IsErrOf, IsTrue, sym, ap, ◌∙◌}
 use Rattle.outside.specs.declared.sink.SinkError.{SinkError}
 use Rattle.outside.specs.declared.sink.SinkError.TheVariants.{Failed, OutOfMemory}
-use Rattle.outside.specs.Faulty.{fails_next}
+use Rattle.outside.specs.Faults.{fails_next}
 use Rattle.outside.proofs.sink.FaultSinkByteSink.write.Goals as goal
 
 -- out of memory is not a failure

@@ -4,7 +4,7 @@ use Rattle.base_text.specs.AbsPath.{abs_text}
 use Rattle.base_text.specs.Paths.{components, normal}
 use Rattle.std.proofs.lemmas.Bool.{eqb-true, eqb-false}
 use Rattle.trees.specs.MemoryTree.{first_after}
-use Rattle.trees.specs.Tree.{Files, entry_names}
+use Rattle.trees.specs.Tree.{TreeFiles, entry_names}
 use Rattle.trees.proofs.EntryNames.{entry_names-AreNames, entry_names-sorted, names_in-none, names_in-some}
 use Rattle.trees.proofs.Listing.{names_after, names_after-end, names_after-first, names_after-none}
 use Rattle.trees.proofs.memory_tree.MemoryTreeTree.lists.Goals as goal
@@ -18,7 +18,7 @@ loop-names-init c =
     )
 
 -- the name that was found is the first behind the last one
-found_next : (files : Files) (directory text last name : List ℕ) (found : Option (List ℕ)) → text ≡ directory → found ≡ first_after last (entry_names files (components text)) → found ≡ Some name
+found_next : (files : TreeFiles) (directory text last name : List ℕ) (found : Option (List ℕ)) → text ≡ directory → found ≡ first_after last (entry_names files (components text)) → found ≡ Some name
     → names_after last (entry_names files (components directory)) ≡ name ∷ names_after name (entry_names files (components directory))
 found_next files directory text last name found same first is =
     names_after-first last name _ (entry_names-sorted files (components directory)) (ap (λ t. first_after last (entry_names files (components t))) (sym same) ∙ sym first ∙ is)
@@ -42,7 +42,7 @@ loop-names-preserved c =
     )
 
 -- where none is left, the names so far are all
-all_listed : (files : Files) (directory text last path : List ℕ) (so_far : List (List ℕ)) (found : Option (List ℕ)) → text ≡ directory → components directory ≡ normal path
+all_listed : (files : TreeFiles) (directory text last path : List ℕ) (so_far : List (List ℕ)) (found : Option (List ℕ)) → text ≡ directory → components directory ≡ normal path
     → found ≡ first_after last (entry_names files (components text)) → found ≡ None → so_far ++ names_after last (entry_names files (components directory)) ≡ entry_names files (components directory)
     → so_far ≡ entry_names files (normal path)
 all_listed files directory text last path so_far found same parts first none whole =

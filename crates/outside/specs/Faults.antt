@@ -4,22 +4,22 @@ use Rattle.std.specs.List.{list_any}
 use Rattle.outside.specs.Causes.{next_count}
 
 -- what a source has left or a sink holds, the failing numbers, the calls so far, and those that failed
-pub record Faulty : Type 0 where
+pub record FaultyStream : Type 0 where
   pub bytes : List ℕ
   pub failing : List ℕ
   pub calls : ℕ
   pub faults : ℕ
 
 -- the number of the next call is listed
-abbrev pub fails_next : Faulty → Bool
+abbrev pub fails_next : FaultyStream → Bool
 fails_next s = list_any (λ n. n == s.calls) s.failing
 
 -- after a call that failed
-abbrev pub after_fault : Faulty → Faulty
+abbrev pub after_fault : FaultyStream → FaultyStream
 after_fault s = record s { calls = next_count s.calls; faults = next_count s.faults }
 
 -- after a call that did not fail and left these bytes
-abbrev pub after_service : Faulty → List ℕ → Faulty
+abbrev pub after_service : FaultyStream → List ℕ → FaultyStream
 after_service s bytes = record s { bytes = bytes; calls = next_count s.calls }
 
 -- the failing numbers, the calls so far, and those that failed
