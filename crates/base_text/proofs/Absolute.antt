@@ -1,5 +1,5 @@
 -- Which texts are absolute: those that begin with a slash.
-use Rattle.std.proofs.Common.{◌≡◌, ℕ, List, Bool, true, false, get_or, inl, inr}
+use Rattle.std.proofs.Common.{◌≡◌, ℕ, List, true, false, get_or, inl, inr}
 use Rattle.std.proofs.lemmas.Bool.{cases_eq, eq-eqb, ne_eqb}
 use Rattle.base_text.specs.Paths.{is_absolute}
 

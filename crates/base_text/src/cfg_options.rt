@@ -1,6 +1,6 @@
 //! The conditional compilation that a crate is built with: an ordered set of atoms.
 
-ghost use Rattle.std.specs.Prelude.{◌≡◌, ◌↔◌, [], IfOk, OnOk, OnErr, IsTrue, Contains, ◌⊎◌};
+ghost use Rattle.std.specs.Prelude.{◌≡◌, ◌↔◌, [], OnOk, OnErr, IsTrue, Contains, ◌⊎◌};
 ghost use Rattle.std.specs.Prelude.{◌<◌, remove, vec_len, not};
 ghost use Rattle.std.specs.List.{list_any};
 ghost use Rattle.std.specs.Ordering.{eq_by_cmp};

@@ -1,6 +1,6 @@
 //! A span, and the expansion of a macro that it comes from, which holds spans again.
 
-ghost use Rattle.std.specs.Prelude.{◌≡◌, IfOk, option_map, refl};
+ghost use Rattle.std.specs.Prelude.{◌≡◌, IfOk, option_map};
 ghost use Rattle.serde_json.specs.View.{view};
 ghost use Rattle.json_fields.specs.Nested.{GivesAt};
 ghost use Rattle.json_fields.specs.Outcome.{Gives};

@@ -18,7 +18,7 @@ use lib.Dec.{T as Holds}
 use mir.Syntax.{named}
 use mir.Val.{Val, vptr, vcons, vnil, of_list}
 use base.Logic.{SProp, ent, emp, sep, wand, via, ex_i}
-use base.Fml.{Lft, Share, feq, fsep, fex, flft, fauth, fres, fobs, fbor}
+use base.Fml.{Lft, Share, feq, fsep, fex, flft, fauth, fres}
 use contract.Monad.{fact, fact_i}
 use types.Logic.{Logic, sem}
 use types.Kit.{‵, raw, ◌$◌, ◌∵◌, !, qed, done, by, each, assume, move, keep, use0, use1, group, join, fsplit3, fjoin, fpack, feq_i, frame}

@@ -1,5 +1,5 @@
 -- the command that asks for metadata: the words of `cargo metadata`, by what was set
-use Rattle.std.specs.Prelude.{◌≡◌, ℕ, List, [], ◌∷◌, ◌++◌, Bool, true, false, if◌then◌else◌, codes, map, Option, Some, None, unwrap_or}
+use Rattle.std.specs.Prelude.{◌≡◌, ℕ, List, [], ◌∷◌, ◌++◌, Bool, true, false, if◌then◌else◌, codes, Option, Some, None, unwrap_or}
 use Rattle.std.specs.List.{join_by}
 use Rattle.base_values.specs.ByText.{with_value}
 use Rattle.outside.specs.declared.command.CommandLine.{CommandLine}

@@ -6,7 +6,6 @@ ghost use Rattle.std.specs.Iterator.{YieldsFirstBy, item_count};
 ghost use Rattle.std.specs.List.{range_with_len};
 ghost use Rattle.std.specs.Option.{option_map};
 ghost use Rattle.base_text.specs.Arena.{number_of};
-ghost use Rattle.graph_base.specs.Reach.{IsAcyclic};
 ghost use Rattle.crate_values.specs.Builder.{crate_of};
 ghost use Rattle.crate_graph.specs.Graph.{AddsCrate, IsWellMade, attribute, edges};
 ghost use Rattle.graph_order.specs.Order.{IsOrderOf, empty_order, with_next_node};

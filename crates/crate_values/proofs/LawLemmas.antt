@@ -1,5 +1,5 @@
 -- Equality of crates, field by field.
-use Rattle.std.proofs.Common.{◌≡◌, ℕ, List, [], ◌∷◌, Bool, true, false, ◌&&◌, map, refl, sym, ap, ◌∙◌}
+use Rattle.std.proofs.Common.{◌≡◌, ℕ, List, [], ◌∷◌, Bool, true, ◌&&◌, map, refl, sym, ap, ◌∙◌}
 use Rattle.std.specs.Prelude.{bytes_eq, nat_eq, ◌↔◌}
 use Rattle.std.proofs.lemmas.Bool.{eqb-true, eq-eqb}
 use Rattle.base_text.specs.declared.edition.Edition.{Edition}
@@ -16,7 +16,6 @@ use Rattle.crate_values.specs.declared.target_kind.TargetKind.{TargetKind}
 use Rattle.base_values.specs.Equality.{IsContentEquality}
 use Rattle.crate_values.specs.Laws.{HasCleanPath, IsContentEqualityOn}
 use Rattle.std.specs.Cmp.Lexicographic.{pointwise, pointwise_decides, bytes_decides}
-use Rattle.std.proofs.lemmas.Bool.{false≢true}
 use Rattle.base_text.specs.Paths.{IsClean, components, path_text}
 use Rattle.base_text.specs.PathOrder.{path_eq}
 use Rattle.base_values.proofs.Basics.{and_both, and_first, and_second}

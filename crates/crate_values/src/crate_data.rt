@@ -1,6 +1,6 @@
 //! The data that identifies a crate, over any type of number by which it names others.
 
-ghost use Rattle.std.specs.Prelude.{◌≡◌, ◌↔◌, true, false, map, IfOk};
+ghost use Rattle.std.specs.Prelude.{◌≡◌, ◌↔◌, true, false, IfOk};
 ghost use Rattle.crate_values.specs.CrateData.{prelude_of, sysroot_of};
 
 use crate::names::CrateName;

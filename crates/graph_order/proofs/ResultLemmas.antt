@@ -1,5 +1,5 @@
 -- What is said of an answer, from what is said of another, or of the same in other words.
-use Rattle.std.proofs.Common.{◌≡◌, true, false, Option, Some, None, is_some, refl, sym, ◌∙◌}
+use Rattle.std.proofs.Common.{◌≡◌, true, Option, Some, None, is_some, refl, sym, ◌∙◌}
 use Rattle.std.specs.Prelude.{Result, Ok, Err, IfOk, IfSome, OnErr, OnOk}
 
 pub then_ok : {T E : Type 0} (P Q : Type 0) (r : Result T E) → (P → Q) → OnOk r P → OnOk r Q

@@ -7,7 +7,7 @@ ghost use Rattle.std.specs.Option.{IfNone};
 ghost use Rattle.std.specs.Ordering.{nat_cmp};
 ghost use Rattle.graph_base.specs.Edges.{row};
 ghost use Rattle.graph_base.specs.Reach.{IsPathBack};
-ghost use Rattle.graph_order.specs.Search.{AreLinked, Follows, IsLabelling, IsLedBy, IsNextBelow};
+ghost use Rattle.graph_order.specs.Search.{AreLinked, Follows, IsLabelling, IsLedBy, IsNextBelow, first_edges};
 ghost use Rattle.graph_order.specs.Search.{IsSearched, IsVisited, LeadUp, NoneBelow, RisesWith, visit_by};
 
 use graph_base::Graph;

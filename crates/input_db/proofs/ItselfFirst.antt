@@ -1,11 +1,10 @@
 -- A crate before the others of a list: what such a list contains, and that it has each once.
-use Rattle.std.proofs.Common.{◌≡◌, ◌↔◌, ℕ, zero, suc, ◌+◌, ◌<◌, Bool, true, false, not, cond, nat_eq, List, [], ◌∷◌}
+use Rattle.std.proofs.Common.{◌≡◌, ◌↔◌, ℕ, zero, suc, ◌<◌, not, nat_eq, List, ◌∷◌}
 use Rattle.std.proofs.Common.{get_or, inl, inr, length, refl, sym, subst, arith}
 use Rattle.std.specs.List.{Contains}
 use Rattle.std.proofs.lemmas.Bool.{cases_eq}
 use Rattle.std.proofs.lemmas.Bool.Decides.{nat_tests}
 use Rattle.std.proofs.lemmas.List.Elements.{filter_passes}
-use Rattle.std.proofs.lemmas.List.Kept.{AllPairs-from_increasing, IsStrictlyIncreasing-filter}
 use Rattle.graph_base.proofs.FinishLemmas.{contains_cases, contains_other}
 use Rattle.graph_base.specs.Edges.{IsAscending}
 use Rattle.graph_base.specs.Reach.{Reaches, itself}

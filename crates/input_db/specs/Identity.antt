@@ -10,14 +10,12 @@ use Rattle.std.specs.Option.{option_map, option_map_or}
 use Rattle.indexmap.specs.IndexMap.{insert_entry}
 use Rattle.base_text.specs.Arena.{number_of}
 use Rattle.base_text.specs.Paths.{IsClean}
-use Rattle.base_text.specs.declared.arena.Idx.{Idx}
 use Rattle.base_text.specs.declared.cfg.CfgAtom.{CfgAtom}
 use Rattle.crate_graph.specs.Extend.{Id}
 use Rattle.crate_values.specs.Builder.{workspace_of}
 use Rattle.crate_values.specs.Laws.{renamed_crate}
 use Rattle.crate_values.specs.declared.builder.CrateBuilder.{CrateBuilder}
 use Rattle.crate_values.specs.declared.crate_data.CrateData.{CrateData}
-use Rattle.crate_values.specs.declared.crate_data.CrateTag.{CrateTag}
 use Rattle.input_db.specs.contracts.crate_input.UniqueCrateDataPartialEq.TheImpl as identities
 use Rattle.input_db.specs.contracts.crate_input.CrateInputPartialEq.TheImpl as inputs
 use Rattle.input_db.specs.declared.crate_input.CrateInput.{CrateInput}

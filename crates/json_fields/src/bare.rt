@@ -1,6 +1,6 @@
 //! The bare version: no pre-release, no build metadata, and the third number may be left out.
 
-ghost use Rattle.std.specs.Prelude.{◌≡◌, ◌==◌, ◌||◌, IfOk, Ok, count_by, string_bytes};
+ghost use Rattle.std.specs.Prelude.{◌≡◌, ◌==◌, ◌||◌, IfOk, Ok, count_by};
 ghost use Rattle.semver.specs.Identifiers.{parts_text};
 ghost use Rattle.semver.specs.Parse.{version_parts};
 ghost use Rattle.json_fields.specs.Versions.{GivesBare, bare_of, bare_parts, first_mark, full_version_text, or_not_version, version_text};

@@ -1,6 +1,6 @@
 //! A map from text as an object, read by ascending key.
 
-ghost use Rattle.std.specs.Prelude.{◌≡◌, IfOk, refl};
+ghost use Rattle.std.specs.Prelude.{◌≡◌, refl};
 ghost use Rattle.serde_json.specs.View.{view, members_view};
 ghost use Rattle.json_fields.specs.Fields.{map_at, members_from};
 ghost use Rattle.json_fields.specs.Outcome.{Gives, below_key};

@@ -1,6 +1,6 @@
 //! The place of the first miss, composed on the way out: a key or a position goes before what is below it.
 
-ghost use Rattle.std.specs.Prelude.{◌≡◌, ◌++◌, ◌∷◌, codes, decimal, Ok, IfOk};
+ghost use Rattle.std.specs.Prelude.{◌≡◌, ◌++◌, ◌∷◌, decimal, Ok, IfOk};
 ghost use Rattle.json_fields.specs.Outcome.{Gives, Reading, below_key, below_position, whole_place_of};
 
 use base_text::{Text, TryClone};

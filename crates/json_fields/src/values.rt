@@ -1,6 +1,6 @@
 //! The plain kinds of value: a text, true or false, a number, a value or null, and a list.
 
-ghost use Rattle.std.specs.Prelude.{◌≡◌, [], ◌∷◌, Ok, Err, IfOk, refl};
+ghost use Rattle.std.specs.Prelude.{◌≡◌, ◌∷◌, Ok, refl};
 ghost use Rattle.serde_json.specs.Data.{boolean, string, number, unsigned};
 ghost use Rattle.serde_json.specs.View.{items_view};
 ghost use Rattle.json_fields.specs.Fields.{flag_at, items_from, list_at, number_at, option_at, text_at};

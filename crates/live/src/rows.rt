@@ -1,6 +1,6 @@
 //! The rows of the table of texts. Each file number has one, with the text of its file where that lives.
 
-ghost use Rattle.std.specs.Prelude.{◌≡◌, ◌++◌, ◌<◌, ◌∷◌, [], IfOk, IsErrOf, OnErr, OnOk, None, true, vec_len, vec_capacity};
+ghost use Rattle.std.specs.Prelude.{◌≡◌, ◌++◌, ◌<◌, ◌∷◌, [], IsErrOf, OnErr, OnOk, None, true, vec_len, vec_capacity};
 ghost use Rattle.std.proofs.Common.{set};
 ghost use Rattle.vfs_core.specs.Files.{IsFullFor, bytes_of, is_change_at, number_of};
 ghost use Rattle.std.specs.Option.{option_copied};

@@ -1,7 +1,6 @@
 //! The page that a database shows, as JSON text.
 
 ghost use Rattle.std.specs.Prelude.{◌≡◌, ◌∷◌, ◌++◌, [], false, IfOk, OnOk, map, string_bytes};
-ghost use Rattle.serde_json.specs.Data.{item, no_items};
 ghost use Rattle.serde_json.specs.View.{items_view, view};
 ghost use Rattle.serde_json.specs.Written.{compact_text, has_float};
 ghost use Rattle.pages.specs.Page.{dependency_data, entry_data, numbers_listed, page_data, page_of, paths_shown, roots_listed, set_data, set_shown, texts_data};

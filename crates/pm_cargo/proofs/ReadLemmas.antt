@@ -1,5 +1,5 @@
 -- A document is read step by step: the first step that is refused refuses the workspace, and else the workspace holds what each step gave.
-use Rattle.std.proofs.Common.{◌≡◌, ℕ, List, Bool, Option, Ok, Err, ap, refl, sym, ◌∙◌}
+use Rattle.std.proofs.Common.{◌≡◌, ℕ, List, Bool, Option, Ok, Err, ap, refl, ◌∙◌}
 use Rattle.outside.specs.declared.limits.Limits.{Limits}
 use Rattle.cargo_meta.specs.declared.metadata.Metadata.{Metadata}
 use Rattle.pm_reading.specs.Links.{linked_contents}

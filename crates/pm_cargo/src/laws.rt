@@ -1,7 +1,6 @@
 //! Laws that users of workspaces rest on. Each is a function that does nothing: its contract is the law.
 
-ghost use Rattle.std.specs.Prelude.{◌≡◌, ℕ, Bool, List, Ok};
-ghost use Rattle.outside.specs.declared.limits.Limits.{Limits};
+ghost use Rattle.std.specs.Prelude.{◌≡◌};
 ghost use Rattle.cargo_meta.specs.declared.metadata.Metadata.{Metadata};
 ghost use Rattle.pm_cargo.specs.Shuffle.{IsReadAlike, IsShuffle};
 

@@ -15,7 +15,7 @@ use Rattle.pm_config.specs.declared.metadata_config.CargoMetadataConfig.{CargoMe
 use Rattle.pm_config.specs.declared.tool_root.ToolRoot.{ToolRoot}
 use Rattle.pm_fetch.specs.Fetch.{Fetch, fetch_by, fetch_of}
 use Rattle.pm_fetch.specs.Options.{full_options, options_of, platform_words}
-use Rattle.pm_fetch.specs.Questions.{full_question, light_question, question}
+use Rattle.pm_fetch.specs.Questions.{full_question, question}
 use Rattle.pm_fetch.specs.Settings.{settings_of}
 
 -- the command with its options asks the full question

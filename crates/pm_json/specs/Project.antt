@@ -6,7 +6,7 @@ use Rattle.pm_json_data.specs.declared.project_json_data.ProjectJsonData.{Projec
 use Rattle.pm_json_data.specs.declared.project_json_data.ProjectJsonData.TheFolds.{fold-ProjectJsonData}
 use Rattle.pm_json_data.specs.declared.project_json_data.ProjectJsonData.TheOpen.{ProjectJsonData-F}
 use Rattle.pm_json.specs.Crates.{absolute_from, crates_of}
-use Rattle.pm_json.specs.Refusals.{Reading, ◌>>=◌, under}
+use Rattle.pm_json.specs.Refusals.{Reading, under, ◌>>=◌}
 use Rattle.pm_json.specs.declared.project_json.ProjectJson.{ProjectJson}
 use Rattle.pm_json.specs.declared.project_json.ProjectJson.TheViews.{roll-ProjectJson}
 use Rattle.pm_json.specs.declared.workspace_json_error.WorkspaceJsonError.TheVariants.{TooMany}

@@ -1,5 +1,5 @@
 -- a table's rows are read one after another, from what each reads
-use Rattle.std.proofs.Common.{◌≡◌, ◌∙◌, ap, sym, subst, Result, Ok, Err}
+use Rattle.std.proofs.Common.{◌≡◌, sym, subst, Result, Ok, Err}
 use Rattle.std.specs.Result.{IsErrAnd}
 use Rattle.json_fields.specs.Laws.Rows.{Gives-then}
 use Rattle.json_fields.specs.Outcome.{Gives, Reading, ◌>>=◌}

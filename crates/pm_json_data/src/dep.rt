@@ -1,7 +1,6 @@
 //! The crates that a crate depends on, each under a name.
 
-ghost use Rattle.std.specs.Prelude.{◌≡◌, ◌==◌, string_bytes};
-ghost use Rattle.crate_values.specs.Names.{has_dash};
+ghost use Rattle.std.specs.Prelude.{◌≡◌, ◌==◌};
 ghost use Rattle.pm_json_data.specs.Dep.{crate_name_of, dep_at, dep_data, dep_data-present};
 ghost use Rattle.pm_json_data.specs.laws.Dep.{crate_name-again, dep-round_trips};
 

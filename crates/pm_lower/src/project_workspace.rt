@@ -2,7 +2,7 @@
 
 ghost use Rattle.std.specs.Prelude.{◌≡◌, ◌-◌, ◌^◌, length, min, IfOk, option_copied};
 ghost use Rattle.base_text.specs.AbsPath.{abs_text};
-ghost use Rattle.pm_lower.specs.Equality.{equal_except_builds, equal_kinds, equal_scripts};
+ghost use Rattle.pm_lower.specs.Equality.{equal_except_builds, equal_kinds};
 ghost use Rattle.pm_lower.specs.ProjectWorkspace as spec;
 ghost use Rattle.pm_lower.specs.ProjectWorkspace.{is_json_kind, json_buildfiles, kind_buildfiles, kind_manifest, kind_manifest_or_root};
 ghost use Rattle.pm_lower.specs.ProjectWorkspace.{kind_root, package_count, rustc_packages, script_packages, script_workspace};

@@ -1,6 +1,6 @@
 //! The directory of a toolchain, by which its tools are started.
 
-ghost use Rattle.std.specs.Prelude.{◌≡◌, IfOk, None, option_copied};
+ghost use Rattle.std.specs.Prelude.{◌≡◌, IfOk, None};
 ghost use Rattle.std.specs.Option.{option_map};
 ghost use Rattle.base_text.specs.AbsPath.{abs_text};
 ghost use Rattle.pm_sysroot.specs.Ask.{means_of};

@@ -1,7 +1,7 @@
 //! The environment that a configuration gives.
 
 ghost use Rattle.std.specs.Prelude.{◌≡◌, IfOk, OnOk, option_copied, string_bytes, unwrap_or};
-ghost use Rattle.std.specs.Option.{option_and_then, option_map};
+ghost use Rattle.std.specs.Option.{option_map};
 ghost use Rattle.toml.specs.Data.{as_table, get};
 ghost use Rattle.toml.specs.View.{table_view, view};
 ghost use Rattle.pm_sysroot.specs.Ask.{means_of};

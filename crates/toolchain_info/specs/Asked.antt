@@ -1,7 +1,6 @@
 -- How a question is asked: of cargo, and failing that of the compiler; or of one tool alone.
-use Rattle.std.specs.Prelude.{◌≡◌, ℕ, List, codes, Option, Some, None, Result, Ok, Err}
+use Rattle.std.specs.Prelude.{◌≡◌, ℕ, List, codes, Result, Ok, Err}
 use Rattle.std.specs.Option.{ok_or, option_and_then, option_or}
-use Rattle.outside.specs.declared.command.CommandLine.{CommandLine}
 use Rattle.outside.specs.declared.command.Output.{Output}
 use Rattle.outside.specs.declared.command.Question.{Question}
 use Rattle.cargo_meta.specs.Answer.{line_text}

@@ -1,5 +1,5 @@
 -- What is asked of: a compiler in a directory, or the cargo of a manifest in the manifest's directory.
-use Rattle.std.specs.Prelude.{ℕ, List, [], Option, Some, None, codes, unwrap_or}
+use Rattle.std.specs.Prelude.{ℕ, List, [], Option, None, codes, unwrap_or}
 use Rattle.std.specs.Option.{option_copied}
 use Rattle.base_text.specs.AbsPath.{abs_text}
 use Rattle.base_text.specs.Paths.{parent_text}

@@ -1,16 +1,13 @@
 //! The questions that the tools of a toolchain are asked.
 
 ghost use Rattle.std.specs.Prelude.{◌≡◌, IfOk, option_copied};
-ghost use Rattle.pm_config.specs.declared.tool.Tool.TheVariants.{Cargo as cargo};
 ghost use Rattle.pm_sysroot.specs.Ask.{means_of};
-ghost use Rattle.pm_sysroot.specs.Questions.{question, with_variable};
-ghost use Rattle.toolchain_info.specs.Config.{dir_of, sysroot_of};
+ghost use Rattle.pm_sysroot.specs.Questions.{question};
 ghost use Rattle.toolchain_info.specs.Questions as spec;
-ghost use Rattle.toolchain_info.specs.Questions.{for_manifest, with_bootstrap};
 
 use crate::query_config::QueryConfig;
 use crate::words::{cargo_cfg_words, cargo_spec_words, rustc_cfg_words, rustc_spec_words};
-use base_text::{CommandLine, Runner, Text, Version};
+use base_text::{CommandLine, Runner, Version};
 use pm_config::Tool;
 use pm_sysroot::{Ask, set_variable, words_of};
 use std::alloc::{AllocError, Global};

@@ -1,6 +1,6 @@
 //! Changes of files, of which a batch holds one for each file.
 
-ghost use Rattle.std.specs.Prelude.{◌≡◌, option_map};
+ghost use Rattle.std.specs.Prelude.{◌≡◌};
 ghost use Rattle.vfs_core.specs.Batch.{exists_after, is_creation, is_creation_or_deletion, is_modification, kind_of_change, merged_change};
 ghost use Rattle.vfs_core.specs.FileState.{state_by};
 

@@ -2,7 +2,7 @@
 use Rattle.std.proofs.Common.{◌≡◌, ◌⊎◌, ℕ, Bool, true, false, List, Option, Some, None, MatchOption, if◌then◌else◌, option_map, subst, true≢false, [], ◌∷◌, ◌++◌, length, drop, refl, sym, ap, ◌∙◌, inl, inr, append_assoc, append-nil, lit<}
 use Rattle.std.proofs.Math.Seq.{drop-append_seam}
 use Rattle.std.proofs.lemmas.List.Elements.{All-contains, All-push, Contains-append_left, Contains-append_right}
-use Rattle.std.specs.List.{All, Contains}
+use Rattle.std.specs.List.{All}
 use Rattle.base_text.specs.Paths.{components, is_prefix}
 use Rattle.base_text.proofs.Prefixes.{is_prefix_from, is_prefix_parts}
 use Rattle.base_text.specs.AbsPath.{abs_text}

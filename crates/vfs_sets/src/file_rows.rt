@@ -1,6 +1,6 @@
 //! The files of a set that has few: a list of rows, which is searched from its front.
 
-ghost use Rattle.std.specs.Prelude.{◌≡◌, IfOk, OnErr, OnOk, IsTrue, length};
+ghost use Rattle.std.specs.Prelude.{◌≡◌, OnErr, OnOk, IsTrue, length};
 ghost use Rattle.std.specs.Option.{option_copied};
 ghost use Rattle.vfs_sets.specs.FileSet.{empty_set, file_at, path_of, set_of, with_file};
 ghost use Rattle.vfs_sets.specs.Rows.{rows_content, HasRoomFor};

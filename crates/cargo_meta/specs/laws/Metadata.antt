@@ -1,15 +1,14 @@
 -- what is read of a metadata document is read again from what is written of it
-use Rattle.std.specs.Prelude.{◌≡◌, ◌≤◌, List, suc, max, cond, codes, refl, Option, Some, None, Ok}
+use Rattle.std.specs.Prelude.{◌≡◌, ◌≤◌, List, max, cond, codes, refl, Option, Some, None, Ok}
 use Rattle.std.proofs.Common.{arith}
 use Rattle.serde_json.specs.Data.{members_depth, null}
 use Rattle.json_fields.specs.Laws.Rows.{required_member-set_member, optional_member-set_member, default_member-set_member, required_member-set_unless_null, optional_member-set_unless_null, default_member-set_unless_null, optional_member-no_members, default_member-no_members, null-or_not}
 use Rattle.json_fields.specs.Laws.RoundTrips.{AreWithin, and_then, any-round_trips, at_last, default_member-kept, list-round_trips, no_members-written, number-round_trips, optional_member-kept, required_member-kept, set_member-written, set_unless_null-written, table-round_trips, text-round_trips}
 use Rattle.json_fields.specs.Outcome.{Reading}
 use Rattle.json_fields.specs.RoundTrip.{RoundTrips}
-use Rattle.json_fields.specs.Fields.{list_at, option_at}
 use Rattle.json_fields.specs.Written.{is_null, list_data, option_data}
 use Rattle.cargo_meta.specs.Metadata.{metadata_at, metadata_data, metadata_from, metadata_members}
-use Rattle.cargo_values.specs.Names.{package_id_at, package_id_data}
+use Rattle.cargo_values.specs.Names.{package_id_data}
 use Rattle.cargo_values.specs.Resolve.{resolve_data-present}
 use Rattle.cargo_values.specs.declared.names.PackageId.{PackageId}
 use Rattle.cargo_values.specs.laws.Names.{package_id-round_trips}

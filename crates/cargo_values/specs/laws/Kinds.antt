@@ -1,5 +1,5 @@
 -- kinds and editions are read again from their texts
-use Rattle.std.specs.Prelude.{◌≡◌, ◌≤◌, max, ℕ, List, [], ◌∷◌, Ok, refl}
+use Rattle.std.specs.Prelude.{◌≡◌, max, ℕ, List, Ok, refl}
 use Rattle.std.specs.Result.{IfOk}
 use Rattle.std.proofs.Common.{ap, arith}
 use Rattle.serde_json.specs.Data.{Data, null, boolean, number, string, array, object, depth}

@@ -1,5 +1,5 @@
 -- what is read of a resolved graph's document is read again from what is written of it
-use Rattle.std.specs.Prelude.{◌≤◌, suc, max, codes, refl}
+use Rattle.std.specs.Prelude.{◌≤◌, max, codes, refl}
 use Rattle.std.proofs.Common.{arith}
 use Rattle.serde_json.specs.Data.{members_depth}
 use Rattle.json_fields.specs.Fields.{default_member, optional_member, required_member}

@@ -1,5 +1,5 @@
 -- what is read of a target's document is read again from what is written of it
-use Rattle.std.specs.Prelude.{◌≤◌, suc, max, codes, true, refl}
+use Rattle.std.specs.Prelude.{◌≤◌, max, codes, true, refl}
 use Rattle.std.proofs.Common.{arith}
 use Rattle.serde_json.specs.Data.{members_depth}
 use Rattle.json_fields.specs.Fields.{default_member, required_member}

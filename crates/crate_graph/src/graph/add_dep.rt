@@ -2,7 +2,7 @@
 //! among the ranks between them decides.
 
 ghost use Rattle.std.specs.Prelude.{◌≡◌, ◌+◌, ◌-◌, ◌<◌, ◌≤◌, [], ◌∷◌, ◌++◌, length, map, take};
-ghost use Rattle.std.specs.Prelude.{IfErr, IfOk, OnErr, OnOk};
+ghost use Rattle.std.specs.Prelude.{IfErr, OnErr, OnOk};
 ghost use Rattle.base_text.specs.Arena.{number_of};
 ghost use Rattle.graph_base.specs.Reach.{IsPathBack, Reaches};
 ghost use Rattle.graph_order.specs.Insertion.{most_visits};

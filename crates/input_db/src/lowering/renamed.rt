@@ -2,7 +2,6 @@
 
 ghost use Rattle.std.specs.Prelude.{◌≡◌, ◌<◌, IfOk, if◌then◌else◌, length, map};
 ghost use Rattle.std.specs.List.{All};
-ghost use Rattle.base_text.specs.Arena.{number_of};
 ghost use Rattle.crate_graph.specs.Graph.{target_of};
 ghost use Rattle.crate_values.specs.Laws.{renamed_dependency};
 ghost use Rattle.input_db.specs.Identity.{full_identity, data_of, input_of, number_in, root_identity};

@@ -1,9 +1,7 @@
 -- an atom of conditional compilation is read again from its text, which is the text that it was read from
-use Rattle.std.proofs.Common.{◌≡◌, ◌∙◌, ◌≤◌, ◌<◌, ◌+◌, ◌-◌, ◌||◌, not, ℕ, suc, List, [], ◌∷◌, ◌++◌, Bool, true, false, cond, length, get_or, take, drop, Option, Some, None, Ok, refl, sym, ap, arith, append_assoc}
+use Rattle.std.proofs.Common.{◌≡◌, ◌∙◌, ◌≤◌, ◌+◌, ◌-◌, ◌||◌, not, ℕ, suc, List, [], ◌∷◌, ◌++◌, Bool, true, false, cond, length, get_or, take, drop, Option, Some, None, Ok, refl, sym, ap, arith, append_assoc}
 use Rattle.std.proofs.lemmas.Bool.{eqb-true}
 use Rattle.std.proofs.lemmas.Bool.Decides.{nat_tests}
-use Rattle.std.proofs.lemmas.Grind.{common_steps}
-use Rattle.std.proofs.lemmas.List.{take_more}
 use Rattle.std.specs.List.{after_first, before_first, list_any, position_or_len}
 use Rattle.std.specs.Prelude.{slice_range}
 use Rattle.std.specs.Option.{option_map}

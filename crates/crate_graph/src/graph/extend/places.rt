@@ -17,7 +17,7 @@ pub(super) struct Places {
 }
 
 impl Model for Places {
-    ghost use Rattle.std.specs.Prelude.{ℕ, List, None, slice_index_or};
+    ghost use Rattle.std.specs.Prelude.{ℕ, List, None};
     ghost use Rattle.std.specs.BTreeMap as tree;
     ghost use Rattle.std.specs.Ordering.{nat_cmp};
     ghost use Rattle.crate_graph.specs.Places as seen;

@@ -1,5 +1,5 @@
 use Rattle.graph_base.specs.Edges.{row}
-use Rattle.graph_order.specs.Search.{Follows}
+use Rattle.graph_order.specs.Search.{Follows, first_edges}
 use Rattle.graph_order.proofs.search.follow.Given as goal
 
 abbrev pub invariant-loop-edge : goal.invariant-loop-edge

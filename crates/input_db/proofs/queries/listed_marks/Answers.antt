@@ -1,4 +1,4 @@
-use Rattle.std.proofs.Common.{◌≡◌, ◌<◌, ◌∙◌, arith, get_or, length, length-set, subst, sym, true}
+use Rattle.std.proofs.Common.{◌≡◌, ◌<◌, ◌∙◌, arith, get_or, length-set, subst, sym, true}
 use Rattle.std.proofs.lemmas.List.{take_all}
 use Rattle.input_db.specs.Queries.{AreListed}
 use Rattle.input_db.proofs.Dependents.{listed_more}

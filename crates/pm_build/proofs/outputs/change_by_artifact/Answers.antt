@@ -1,4 +1,4 @@
-use Rattle.std.proofs.Common.{◌≡◌, ◌∙◌, ap, sym}
+use Rattle.std.proofs.Common.{◌∙◌, ap, sym}
 use Rattle.std.specs.Option.{option_copied_mut}
 use Rattle.base_text.specs.Arena.{number_of}
 use Rattle.pm_build.specs.Artifact.{output_after_artifact}

@@ -1,7 +1,7 @@
-use Rattle.std.proofs.Common.{◌≡◌, ◌+◌, ◌∙◌, Ok, ap, drop, sym}
+use Rattle.std.proofs.Common.{◌+◌, ◌∙◌, Ok, ap, drop, sym}
 use Rattle.std.proofs.lemmas.Result.{err_from_is_err_and}
 use Rattle.pm_build.specs.Script.{atoms_of}
-use Rattle.pm_build.proofs.ScriptLemmas.{before-all, before-more, before-none, before-refused, with_before}
+use Rattle.pm_build.proofs.ScriptLemmas.{before-all, before-more, before-refused, with_before}
 use Rattle.pm_build.proofs.script.atoms_of.Goals as goal
 
 pub loop-text-preserved : goal.loop-text-preserved

@@ -1,4 +1,4 @@
-use Rattle.std.proofs.Common.{◌≡◌, ◌++◌, take, drop, Ok}
+use Rattle.std.proofs.Common.{◌≡◌, drop}
 use Rattle.pm_build.specs.Script.{atoms_of}
 use Rattle.pm_build.proofs.ScriptLemmas.{with_before}
 use Rattle.pm_build.proofs.script.atoms_of.Given as goal

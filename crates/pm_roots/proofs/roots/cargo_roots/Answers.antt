@@ -1,4 +1,4 @@
-use Rattle.std.proofs.Common.{◌≡◌, ◌++◌, ◌∷◌, [], length, map, ap, ◌∙◌}
+use Rattle.std.proofs.Common.{◌++◌, ◌∷◌, [], length, map, ap, ◌∙◌}
 use Rattle.base_text.specs.Arena.{number_of}
 use Rattle.pm_roots.specs.Roots.{root_of}
 use Rattle.pm_roots.proofs.RootLemmas.{length_seen, map-enumerate_all, map-seen_more, next_number, roots_more}

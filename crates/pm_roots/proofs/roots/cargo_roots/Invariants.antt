@@ -1,4 +1,4 @@
-use Rattle.std.proofs.Common.{◌≡◌, ◌++◌, ℕ, length, map, take}
+use Rattle.std.proofs.Common.{◌≡◌, ◌++◌, length, map, take}
 use Rattle.std.specs.List.{enumerate_from, range_with_len}
 use Rattle.base_text.specs.Arena.{number_of}
 use Rattle.pm_roots.specs.Roots.{root_of}

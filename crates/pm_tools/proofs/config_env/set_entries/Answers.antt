@@ -1,4 +1,4 @@
-use Rattle.std.proofs.Common.{◌≡◌, ◌∙◌, ◌∷◌, [], Some, None, option_copied, string_bytes, ap, refl, rules}
+use Rattle.std.proofs.Common.{◌≡◌, ◌∷◌, [], Some, None, option_copied, string_bytes, ap, refl, rules}
 use Rattle.toml.specs.View.{members_view, view}
 use Rattle.config_origins.specs.Statements.{origin_root}
 use Rattle.pm_sysroot.specs.Ask.{means_of}

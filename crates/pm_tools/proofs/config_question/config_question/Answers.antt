@@ -6,7 +6,7 @@ use Rattle.outside.specs.declared.command.CommandLine.{CommandLine}
 use Rattle.pm_config.specs.declared.tool.Tool.TheVariants.{Cargo}
 use Rattle.pm_sysroot.specs.Ask.{means_of}
 use Rattle.pm_sysroot.specs.Questions.{question, with_variable}
-use Rattle.pm_tools.specs.ConfigQuestion.{config_question, config_words, directory_of}
+use Rattle.pm_tools.specs.ConfigQuestion.{config_words, directory_of}
 use Rattle.pm_tools.proofs.config_question.config_question.Goals as goal
 
 pub returns : goal.returns

@@ -1,8 +1,8 @@
-use Rattle.std.proofs.Common.{◌≡◌, ◌∙◌, ◌+◌, ◌++◌, [], ◌∷◌, Some, true, ap, length, subst, sym, take, true≢false}
+use Rattle.std.proofs.Common.{◌≡◌, ◌∙◌, ◌+◌, ◌++◌, [], ◌∷◌, true, ap, subst, sym, take, true≢false}
 use Rattle.std.proofs.lemmas.List.{take_more}
 use Rattle.base_text.specs.AbsPath.{abs_text}
 use Rattle.base_text.specs.Paths.{components, is_prefix}
-use Rattle.vfs_loader.specs.Entries.{IsBelow, longer}
+use Rattle.vfs_loader.specs.Entries.{longer}
 use Rattle.vfs_loader.proofs.PrefixLemmas.{IsLongestSoFar, longest_above-next, longest_above-other}
 use Rattle.vfs_loader.proofs.entry.longest_above.Goals as goal
 use Rattle.vfs_loader.proofs.entry.longest_above.Goals.{then-starts_with, else-starts_with}

@@ -1,8 +1,7 @@
-use Rattle.std.proofs.Common.{IsTrue, ap, subst, sym, ◌∙◌}
+use Rattle.std.proofs.Common.{ap, sym, ◌∙◌}
 use Rattle.std.specs.List.{list_any}
 use Rattle.base_text.specs.AbsPath.{abs_text}
 use Rattle.base_text.specs.PathOrder.{path_eq}
-use Rattle.vfs_loader.specs.Entries.{EntryHoldsFile}
 use Rattle.vfs_loader.proofs.entry.Entry.contains_file.Goals as goal
 
 pub returns-in-Files : goal.returns-in-Files
