@@ -9,6 +9,7 @@ pub mod Room
 pub mod Running
 pub mod Slots
 pub mod Listed
+pub mod FlushPage
 pub mod Flushed
 pub mod Unwritten
 pub mod Turns

@@ -26,7 +26,7 @@ use Rattle.live_flush.specs.declared.file_root.FileRoot.{FileRoot}
 use Rattle.live_project.specs.Crates.{files_by_path, with_live_file}
 use Rattle.live_project.specs.Sources.{kept_files, with_kept_file}
 use Rattle.live.specs.Page.{Flush, LiveFile, crates_of_flush, page, paths_of_flush, roots_by}
-use Rattle.live.proofs.Flushed.{nodes-seen}
+use Rattle.live.proofs.FlushPage.{nodes-seen}
 use Rattle.live_plain.specs.Account.{IsPage, paths_in}
 use Rattle.live.proofs.Existing.{numbered, numbered_texts, texted}
 use Rattle.std.proofs.lemmas.List.{length-map, map-append, take_all, take_more}

@@ -7,7 +7,7 @@ use Rattle.crate_graph.specs.Graph.{Graph}
 use Rattle.pages.specs.Entries.{distinct_entries, entries_of, entry_cmp, node_of}
 use Rattle.pages.specs.contracts.crate_entry.CrateEntryPartialEq.TheImpl as equality
 use Rattle.pages.specs.contracts.crate_entry.CrateEntryOrd.TheImpl.Laws as order
-use Rattle.live.proofs.Flushed.{entries-none}
+use Rattle.live.proofs.FlushPage.{entries-none}
 use Rattle.live_plain.specs.Account.{crates_in, paths_in}
 use Rattle.live_plain.proofs.entries.entries.Goals as goal
 
