@@ -1,7 +1,7 @@
 //! What a crate is made of: names, dependencies, origins, kinds, channels, targets and toolchains.
 
-use crate::agreement::agreement_answer;
 use base_text::{Text, TryClone};
+use case_values::agreement_answer;
 use cases::{Case, Fault, List, Object, error_answer, text_answer};
 use crate_graph::target::{Arch, TargetData, TargetLoadError};
 use crate_graph::{

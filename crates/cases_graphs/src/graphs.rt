@@ -1,11 +1,11 @@
 //! Graphs of crates: what crates reach, and which crates are left.
 
-use crate::agreement::agreement_answer;
 use crate::closure::agrees_on_all;
 use crate::edges::{counted_edges, edges, ranks, roots};
 use crate::joining::{join, ranks_of_joined};
 use base_text::TryClone;
 use case_graph::graph_of;
+use case_values::agreement_answer;
 use cases::{Case, Fault, List, Object, number_of};
 use crate_graph::{CrateBuilder, CrateBuilderId, CrateGraphBuilder};
 use serde_json::Value;

@@ -1,10 +1,8 @@
 //! Cases of what a crate is made of, of graphs of crates, and of databases that hold them.
 #![tactic(auto)]
 
-mod agreement;
 mod closure;
 mod crates;
-mod database;
 mod edges;
 mod envs;
 mod graphs;
@@ -24,7 +22,7 @@ impl<R: AllocGlobal> Family<R> for GraphFamily {
             "crates.jsonl" => crates::answer(rt.alloc(), case),
             "envs.jsonl" => envs::answer(rt.alloc(), case),
             "graphs.jsonl" => graphs::answer(rt.alloc(), case),
-            _ => database::answer(rt.alloc(), file, case),
+            _ => case_databases::answer(rt.alloc(), file, case),
         }
     }
 }

@@ -1,7 +1,7 @@
 //! Absolute paths.
 
-use crate::bounds::hash_of;
 use base_text::{AbsPath, AbsPathBuf, PathError, RelPath, TryClone};
+use case_values::hash_of;
 use cases::{Case, Fault, List, Object, error_answer, optional_answer, text_answer};
 use serde_json::Value;
 use std::alloc::Global;

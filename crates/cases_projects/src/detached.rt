@@ -3,7 +3,7 @@
 use crate::loaders::live_loader;
 use crate::lowerings::{graph_answer, limits_of, workspace_data};
 use crate::roots::out_dirs_of;
-use crate::values::{manifest_of, paths_of, roots_answer, workspace_of};
+use case_workspaces::{manifest_of, paths_of, roots_answer, workspace_of};
 use cases::{Case, Fault};
 use pm_cargo::CargoWorkspace;
 use pm_detached::{detached_roots, lower_detached};

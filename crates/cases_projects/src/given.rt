@@ -2,10 +2,10 @@
 
 ghost use Rattle.std.specs.Prelude.{◌≡◌};
 
-use crate::values::{path_of, paths_of};
 use base_text::{Items, Limits, RecordedRunner, Text};
 use case_lines::{optional_path, optional_text, runner_of, variables};
 use case_tools::usual_tools;
+use case_workspaces::{path_of, paths_of};
 use cases::{Case, Fault, number_of, texts_of_pair};
 use crate_graph::Env;
 use pm_config::{CargoConfig, Tools};

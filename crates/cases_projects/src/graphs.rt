@@ -2,8 +2,8 @@
 
 use crate::loaders::live_loader;
 use crate::projects::has_no_rustc;
-use crate::values::{limit_name, with_text};
 use base_text::{Limits, RecordedRunner};
+use case_workspaces::{limit_name, with_text};
 use cases::{Case, Fault, List};
 use crate_graph::{CrateBuilder, CrateGraphBuilder, ProcMacroPaths};
 use pm_lower::{LowerError, ProjectWorkspace};

@@ -2,8 +2,8 @@
 
 use crate::loaders::live_loader;
 use crate::lowerings::{graph_answer, limits_of, workspace_data};
-use crate::values::{path_of, paths_of, roots_answer};
 use base_text::Limits;
+use case_workspaces::{path_of, paths_of, roots_answer};
 use cases::{Case, Fault};
 use pm_json::ProjectJson;
 use pm_json_data::ProjectJsonData;

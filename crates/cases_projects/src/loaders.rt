@@ -2,8 +2,8 @@
 
 ghost use Rattle.std.specs.Prelude.{◌≤◌};
 
-use crate::values::path_of;
 use base_text::{AbsPath, FileId};
+use case_workspaces::path_of;
 use cases::{Case, Fault, file_number_of, pair_of, text_of};
 use pm_loader::{Loader, MapLoader};
 use serde_json::Value;

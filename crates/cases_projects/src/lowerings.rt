@@ -4,8 +4,8 @@ mod columns;
 mod crates;
 
 use crate::loaders::live_loader;
-use crate::values::{limit_name, workspace_of};
 use base_text::{Limits, Text};
+use case_workspaces::{limit_name, workspace_of};
 use cases::{Case, Fault, Object, number_of};
 use crate_graph::target::TargetLoadError;
 use crate_graph::{CrateGraphBuilder, CrateWorkspaceData};

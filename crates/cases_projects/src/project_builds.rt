@@ -2,12 +2,12 @@
 
 use crate::given::{Given, configure};
 use crate::projects::{answer_question, cargo_of, load_project, project_manifest_of};
-use crate::values::path_of;
-use crate::workspace_builds::build_config::command_of;
-use crate::workspace_builds::outputs::{refusal_answer, result_answer};
 use base_text::TryClone;
 use case_lines::output_of;
 use case_tools::Lines;
+use case_workspaces::path_of;
+use case_workspaces::workspace_builds::build_config::command_of;
+use case_workspaces::workspace_builds::outputs::{refusal_answer, result_answer};
 use cases::{Case, Fault, List, Object, text_of};
 use pm_build::WorkspaceBuildScripts;
 use pm_config::{CargoConfig, InvocationStrategy, Quiet};

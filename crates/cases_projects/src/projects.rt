@@ -1,13 +1,13 @@
 //! Loads the project of a case, and asks it what the case asks.
 
 ghost use Rattle.std.specs.Prelude.{IsTrue};
-ghost use Rattle.pm_lower.specs.ToRoots.{HasNoRustc, KindHasNoRustc};
+ghost use Rattle.pm_lower.specs.ToRoots.{HasNoRustc};
 
 use crate::given::{Given, configure};
 use crate::graphs;
-use crate::values::{limit_name, path_of, paths_answer, roots_answer, with_text};
 use base_text::{CfgAtom, Items, RecordedRunner, Text, Version, write_cfg};
 use case_tools::Lines;
+use case_workspaces::{limit_name, path_of, paths_answer, roots_answer, with_text};
 use cases::{Case, Fault, List, error_answer, optional_answer, text_answer};
 use crate_graph::Env;
 use crate_graph::target::{Arch, TargetLoadResult};

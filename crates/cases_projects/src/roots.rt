@@ -1,7 +1,7 @@
 //! The roots of a workspace.
 
-use crate::values::{path_of, paths_of, roots_answer, workspace_of};
 use base_text::{AbsPathBuf, ArenaMap, Items, TryClone};
+use case_workspaces::{path_of, paths_of, roots_answer, workspace_of};
 use cases::{Case, Fault, number_of, pair_of, text_of};
 use pm_cargo::{CargoWorkspace, Package, PackageTag};
 use pm_roots::{PackageRoot, cargo_roots};

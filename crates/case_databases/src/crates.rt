@@ -2,7 +2,7 @@
 
 ghost use Rattle.std.specs.Prelude.{◌<◌, length};
 
-use crate::database::roots::identity_with_data;
+use crate::roots::identity_with_data;
 use base_text::{CfgAtom, CfgOptions, Edition, FileId, write_cfg};
 use cases::{Fault, List, Object};
 use input_db::{Crate, Durability, InputDb, SourceDatabase, UniqueCrateData, all_crates};

@@ -1,6 +1,6 @@
 //! The pages that a database shows after changes.
 
-use crate::database::changes::make_given;
+use crate::changes::make_given;
 use base_text::TryClone;
 use cases::{Case, Fault, List, text_answer};
 use input_db::{InputDb, Nonce};

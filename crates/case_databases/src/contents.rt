@@ -1,7 +1,7 @@
 //! What a database has of the files and roots below eight.
 
-use crate::agreement::is_copied;
 use base_text::FileId;
+use case_values::is_copied;
 use cases::{Fault, List, Object};
 use input_db::{
     Durability, FileText, Files, InputDb, Nonce, SourceDatabase, SourceRoot, SourceRootId,

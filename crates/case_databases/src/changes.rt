@@ -2,9 +2,9 @@
 
 ghost use Rattle.std.specs.Prelude.{◌<◌, ◌^◌, IfSome, IsTrue, length};
 
-use crate::database::contents::contents;
-use crate::database::graphs::crates_of;
-use crate::database::making::change_of;
+use crate::contents::contents;
+use crate::graphs::crates_of;
+use crate::making::change_of;
 use base_text::{Items, TryClone};
 use cases::{Case, Fault, List, text_answer};
 use input_db::{Crate, CratesIdMap, FileChange, InputDb, Nonce, SourceDatabase, SourceRoot};

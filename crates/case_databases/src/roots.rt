@@ -1,8 +1,8 @@
 //! What is asked of the crates of a database: which are in a source root, which reach one, the channel of a toolchain, and how
 //! identities and inputs compare.
 
-use crate::database::changes::make_given;
-use crate::database::graphs::store_one;
+use crate::changes::make_given;
+use crate::graphs::store_one;
 use base_text::{FileId, TryClone};
 use cases::{Case, Fault, List, Object, file_number_of, number_of, optional_answer, texts_of_pair};
 use crate_graph::ReleaseChannel;

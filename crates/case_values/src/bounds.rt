@@ -6,6 +6,18 @@ use serde_json::Value;
 use std::alloc::{AllocError, Global};
 use std::hash::{DefaultHasher, Hash, Hasher};
 
+/// Whether a value is at most each of the others.
+pub fn is_least<T: Ord>(value: &T, others: &[T]) -> bool {
+    others.iter().all(|other| value <= other)
+}
+
+/// The hash of a value.
+pub fn hash_of<T: Hash>(value: &T) -> u64 {
+    let mut hasher = DefaultHasher::new();
+    value.hash(&mut hasher);
+    hasher.finish()
+}
+
 /// Whether two values are hashed alike, compare as equal, and are equal.
 pub fn agreement_answer<T: Ord + Hash>(alloc: Global, left: &T, right: &T) -> Result<Value, Fault> {
     List::new(alloc)
@@ -21,10 +33,4 @@ pub fn is_copied<T: TryClone + PartialEq + Drop>(
     value: &T,
 ) -> Result<bool, AllocError> {
     Ok(value.try_clone(alloc)? == *value)
-}
-
-fn hash_of<T: Hash>(value: &T) -> u64 {
-    let mut hasher = DefaultHasher::new();
-    value.hash(&mut hasher);
-    hasher.finish()
 }

@@ -1,6 +1,6 @@
 //! Graphs that are set in a database one after another.
 
-use crate::database::crates::{numbers, view};
+use crate::crates::{numbers, view};
 use case_graph::graph_of;
 use cases::{Case, Fault, List};
 use crate_graph::CrateGraphBuilder;

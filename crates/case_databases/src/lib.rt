@@ -1,5 +1,6 @@
 //! Graphs that are set in a database one after another, changes of roots and texts, setters, what is asked of crates, the pages
 //! that databases show, and their nonces.
+#![tactic(auto)]
 
 mod changes;
 mod contents;

@@ -1,7 +1,7 @@
 //! Setters of a database, one after another.
 
-use crate::database::contents::{contents, texts};
-use crate::database::making::root_of;
+use crate::contents::{contents, texts};
+use crate::making::root_of;
 use base_text::{FileId, TryClone};
 use cases::{Case, Fault, Object, file_number_of, number_of};
 use input_db::{Durability, Files, InputDb, Nonce, SourceDatabase, SourceRootId};
