@@ -83,7 +83,8 @@ pub fn write_all<K: ByteSink>(sink: &mut K, piece: &[u8]) -> Result<(), SinkErro
     Ok(())
 }
 
-/// A sink of bytes in memory, seen as what was written. It takes whole pieces and never fails.
+/// A sink of bytes in memory, seen as what was written. It takes whole pieces, and refuses one only
+/// when memory runs out: it never answers `Failed`.
 #[derive(Debug, Drop)]
 pub struct MemorySink {
     written: Vec<u8>,
