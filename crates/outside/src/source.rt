@@ -1,10 +1,10 @@
 //! Where bytes come from.
 
-ghost use Rattle.std.specs.Prelude.{◌≡◌, ℕ, List, Option, Some, Ok, Err, if◌then◌else◌};
+ghost use Rattle.std.specs.Prelude.{◌≡◌, ◌++◌, ⊤, ℕ, List, Option, Some, Ok, Err, IfOk, take, if◌then◌else◌};
 ghost use Rattle.std.specs.Io.{ReadsAtMost};
 ghost use Rattle.std.specs.Io.KnownBytes.{ReadConsumes};
 ghost use Rattle.outside.specs.Causes.{HasCause};
-ghost use Rattle.outside.specs.Faults.{FaultyStream, after_fault, after_service, fails_next};
+ghost use Rattle.outside.specs.Faults.{FaultyStream, GivesOnce, after_fault, after_service, fails_next};
 ghost use Rattle.outside.specs.Source.{read_count, left_after, buffer_after};
 
 use crate::faults::Faults;
@@ -22,11 +22,16 @@ pub trait ByteSource {
     // How often a read failed. The count stops at the greatest u64.
     ghost faults: { Self → ℕ };
 
+    // What a call of `read` that did not fail does: the source before it, the bytes that it gave, and
+    // the source after it.
+    ghost read_gives: { Self → List ℕ → Self → Type 0 } = { λ _ _ _. ⊤ };
+
     /// Reads the front of what is left. No byte in a buffer that has room is the end.
     fn read(&mut self, buf: &mut [u8]) -> Result<usize, Failed>
         ensures bound { ReadsAtMost result buf.new }
         ensures bytes { ReadConsumes (left self.old) (left self.new) result buf.new }
-        ensures cause { HasCause (faults self.old) (faults self.new) result };
+        ensures cause { HasCause (faults self.old) (faults self.new) result }
+        ensures gives { IfOk result (λ count. read_gives self.old (take count buf.new) self.new) };
 
     fn faults(&self) -> u64
         ensures { result ≡ faults self.now };
@@ -62,10 +67,13 @@ impl ByteSource for MemorySource {
 
     ghost faults = { λ _. 0 };
 
+    ghost read_gives = { λ old bytes new. old ≡ bytes ++ new };
+
     fn read(&mut self, buf: &mut [u8]) -> Result<usize, Failed>
         ensures bound { ReadsAtMost result buf.new }
         ensures bytes { ReadConsumes (Some self.old) (Some self.new) result buf.new }
         ensures cause { HasCause 0 0 result }
+        ensures gives { IfOk result (λ count. self.old ≡ take count buf.new ++ self.new) }
         ensures count { result ≡ Ok (read_count self.old buf.old) }
         ensures rest { self.new ≡ left_after self.old buf.old }
         ensures buffer { buf.new ≡ buffer_after self.old buf.old }
@@ -124,10 +132,13 @@ impl ByteSource for FaultSource {
 
     ghost faults = { λ s. s.faults };
 
+    ghost read_gives = { GivesOnce };
+
     fn read(&mut self, buf: &mut [u8]) -> Result<usize, Failed>
         ensures bound { ReadsAtMost result buf.new }
         ensures bytes { ReadConsumes (Some self.old.bytes) (Some self.new.bytes) result buf.new }
         ensures cause { HasCause self.old.faults self.new.faults result }
+        ensures gives { IfOk result (λ count. GivesOnce self.old (take count buf.new) self.new) }
         ensures answer { result ≡ (if fails_next self.old then Err (record {})
             else Ok (read_count self.old.bytes buf.old)) }
         ensures next { self.new ≡ (if fails_next self.old then after_fault self.old
