@@ -1,5 +1,5 @@
 -- Sources and sinks in memory of which chosen calls fail: the calls are numbered from 0, and the failing numbers listed.
-use Rattle.std.specs.Prelude.{◌≡◌, ℕ, ◌==◌, ◌++◌, Bool, List, if◌then◌else◌}
+use Rattle.std.specs.Prelude.{◌≡◌, ℕ, ◌==◌, ◌++◌, Bool, List, Option, Some, None, if◌then◌else◌}
 use Rattle.std.specs.List.{list_any}
 use Rattle.outside.specs.Causes.{next_count}
 
@@ -22,10 +22,10 @@ after_fault s = record s { calls = next_count s.calls; faults = next_count s.fau
 abbrev pub after_service : FaultyStream → List ℕ → FaultyStream
 after_service s bytes = record s { bytes = bytes; calls = next_count s.calls }
 
--- one call gave these bytes of a source, and did not fail
-pub record GivesOnce (old : FaultyStream) (bytes : List ℕ) (new : FaultyStream) : Type 0 where
-  pub front : old.bytes ≡ bytes ++ new.bytes
-  pub counts : new ≡ after_service old new.bytes
+-- what one read does: it gives the front of what is left, or fails, and is counted
+abbrev pub GivesOnce : FaultyStream → Option (List ℕ) → FaultyStream → Type 0
+GivesOnce old (Some bytes) new = (old.bytes ≡ bytes ++ new.bytes) × (new ≡ after_service old new.bytes)
+GivesOnce old None new = new ≡ after_fault old
 
 -- the failing numbers, the calls so far, and those that failed
 pub record FaultCounts : Type 0 where

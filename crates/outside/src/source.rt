@@ -1,11 +1,11 @@
 //! Where bytes come from.
 
-ghost use Rattle.std.specs.Prelude.{◌≡◌, ◌++◌, ⊤, ℕ, List, Option, Some, Ok, Err, IfOk, take, if◌then◌else◌};
+ghost use Rattle.std.specs.Prelude.{◌≡◌, ⊤, ℕ, List, Option, Some, Ok, Err, if◌then◌else◌};
 ghost use Rattle.std.specs.Io.{ReadsAtMost};
 ghost use Rattle.std.specs.Io.KnownBytes.{ReadConsumes};
 ghost use Rattle.outside.specs.Causes.{HasCause};
 ghost use Rattle.outside.specs.Faults.{FaultyStream, GivesOnce, after_fault, after_service, fails_next};
-ghost use Rattle.outside.specs.Source.{read_count, left_after, buffer_after};
+ghost use Rattle.outside.specs.Source.{GivesFront, buffer_after, bytes_read, left_after, read_count};
 
 use crate::faults::Faults;
 use std::marker::Model;
@@ -22,16 +22,16 @@ pub trait ByteSource {
     // How often a read failed. The count stops at the greatest u64.
     ghost faults: { Self → ℕ };
 
-    // What a call of `read` that did not fail does: the source before it, the bytes that it gave, and
-    // the source after it.
-    ghost read_gives: { Self → List ℕ → Self → Type 0 } = { λ _ _ _. ⊤ };
+    // What a call of `read` does: the source before it, the bytes that it gave or none where it failed,
+    // and the source after it.
+    ghost read_gives: { Self → Option (List ℕ) → Self → Type 0 } = { λ _ _ _. ⊤ };
 
     /// Reads the front of what is left. No byte in a buffer that has room is the end.
     fn read(&mut self, buf: &mut [u8]) -> Result<usize, Failed>
         ensures bound { ReadsAtMost result buf.new }
         ensures bytes { ReadConsumes (left self.old) (left self.new) result buf.new }
         ensures cause { HasCause (faults self.old) (faults self.new) result }
-        ensures gives { IfOk result (λ count. read_gives self.old (take count buf.new) self.new) };
+        ensures gives { read_gives self.old (bytes_read result buf.new) self.new };
 
     fn faults(&self) -> u64
         ensures { result ≡ faults self.now };
@@ -67,13 +67,13 @@ impl ByteSource for MemorySource {
 
     ghost faults = { λ _. 0 };
 
-    ghost read_gives = { λ old bytes new. old ≡ bytes ++ new };
+    ghost read_gives = { GivesFront };
 
     fn read(&mut self, buf: &mut [u8]) -> Result<usize, Failed>
         ensures bound { ReadsAtMost result buf.new }
         ensures bytes { ReadConsumes (Some self.old) (Some self.new) result buf.new }
         ensures cause { HasCause 0 0 result }
-        ensures gives { IfOk result (λ count. self.old ≡ take count buf.new ++ self.new) }
+        ensures gives { GivesFront self.old (bytes_read result buf.new) self.new }
         ensures count { result ≡ Ok (read_count self.old buf.old) }
         ensures rest { self.new ≡ left_after self.old buf.old }
         ensures buffer { buf.new ≡ buffer_after self.old buf.old }
@@ -138,7 +138,7 @@ impl ByteSource for FaultSource {
         ensures bound { ReadsAtMost result buf.new }
         ensures bytes { ReadConsumes (Some self.old.bytes) (Some self.new.bytes) result buf.new }
         ensures cause { HasCause self.old.faults self.new.faults result }
-        ensures gives { IfOk result (λ count. GivesOnce self.old (take count buf.new) self.new) }
+        ensures gives { GivesOnce self.old (bytes_read result buf.new) self.new }
         ensures answer { result ≡ (if fails_next self.old then Err (record {})
             else Ok (read_count self.old.bytes buf.old)) }
         ensures next { self.new ≡ (if fails_next self.old then after_fault self.old
