@@ -1,3 +1,4 @@
+pub mod Called
 pub mod Bytes
 pub mod Cuts
 pub mod LineEnds

@@ -1,5 +1,5 @@
 -- What a reader gives is the front of the source's lines, and at the end all of them.
-use Rattle.std.proofs.Common.{◌≡◌, ℕ, true, false, List, [], ◌++◌, Option, Some, map, refl, sym, ap, subst, ◌∙◌, append_assoc, append-nil, arith}
+use Rattle.std.proofs.Common.{◌≡◌, ℕ, ◌<◌, ◌^◌, length, length-append, true, false, List, [], ◌++◌, Option, Some, map, refl, sym, ap, subst, ◌∙◌, append_assoc, append-nil, arith}
 use Rattle.std.proofs.lemmas.List.{map-append}
 use Rattle.std.specs.Io.KnownBytes.{Consumes}
 use Rattle.std.proofs.KnownBytes.{Consumes-nil}
@@ -22,6 +22,15 @@ Gave-fresh max left = record {
   within = omega arith;
   cut = partial_line-nil;
 }
+
+-- the bytes that were taken are fewer than 2^64
+pub Gave-within : (first left : Option (List ℕ)) (given : List (Option (List ℕ))) (reader : Reader) → Gave first left given reader
+    → (taken : List ℕ) × Consumes first left taken × (length taken < 2 ^ 64)
+Gave-within first left given reader gave = (
+  gave.front ++ (gave.line ++ reader.piece),
+  gave.taken,
+  omega (arith, gave.within, length-append gave.front (gave.line ++ reader.piece), length-append gave.line reader.piece),
+)
 
 -- more bytes give more lines, where the first end in a newline
 lines_of-front : (front rest : List ℕ) → partial_line front ≡ [] → IsFrontOf (lines_of front) (lines_of (front ++ rest))

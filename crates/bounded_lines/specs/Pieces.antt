@@ -1,5 +1,5 @@
 -- What one read gives, and how a line is taken from it.
-use Rattle.std.specs.Prelude.{◌≡◌, ℕ, ◌<◌, ◌≤◌, Bool, true, false, List, [], ◌∷◌, ◌++◌, Option, length, take, slice_index}
+use Rattle.std.specs.Prelude.{◌≡◌, ℕ, ◌<◌, ◌≤◌, Bool, true, false, List, [], ◌∷◌, ◌++◌, Option, Some, None, Result, Ok, Err, length, take, slice_index}
 use Rattle.std.specs.Io.KnownBytes.{Consumes, IsAtEnd}
 use Rattle.outside.specs.Causes.{Rose}
 use Rattle.bounded_lines.specs.declared.lines.LineError.{LineError}
@@ -35,6 +35,12 @@ pub record Reads (bound count : ℕ) (left left' : Option (List ℕ)) (piece : L
   pub most : count ≤ bound
   pub few : count ≤ 65536
   pub end : count ≡ 0 → IsAtEnd left'
+
+-- what a call does to its source: it is read once, and not at all where there was no memory
+abbrev pub ReadsOnce : {S : Type 0} → (S → Option (List ℕ) → S → Type 0) → Result ℕ LineError → List ℕ → S → S → Type 0
+ReadsOnce gives (Ok count) piece old new = gives old (Some piece) new
+ReadsOnce gives (Err ReadFault) piece old new = gives old None new
+ReadsOnce gives (Err OutOfMemory) piece old new = new ≡ old
 
 -- an error of a read has its cause
 abbrev pub HasCauseOf : LineError → ℕ → ℕ → Type 0

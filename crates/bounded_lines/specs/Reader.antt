@@ -1,5 +1,5 @@
 -- What a reader of lines holds, and what it gave of the bytes that it took from a source.
-use Rattle.std.specs.Prelude.{◌≡◌, ℕ, ◌+◌, ◌^◌, ◌-◌, ◌≤◌, ◌⊎◌, Bool, true, false, List, [], ◌∷◌, ◌++◌, Option, Some, None, Result, Ok, Err, length, map}
+use Rattle.std.specs.Prelude.{◌≡◌, ℕ, ◌+◌, ◌^◌, ◌-◌, ◌≤◌, ◌⊎◌, Bool, true, false, List, [], ◌∷◌, ◌++◌, Option, Some, None, Result, Ok, Err, codes, length, map}
 use Rattle.std.specs.Io.KnownBytes.{Consumes, IsAtEnd}
 use Rattle.outside.specs.Causes.{Rose}
 use Rattle.bounded_lines.specs.declared.lines.Line.{Line}
@@ -52,15 +52,22 @@ lines_after given (Err error) = given
 abbrev pub IsSpent : Reader → Type 0
 IsSpent reader = (reader.is_done ≡ true) ⊎ ((reader.room ≡ 0) × (reader.piece ≡ []))
 
--- how many bytes are ahead: those that were not looked at and those that may be read
-abbrev pub bytes_ahead : Reader → ℕ
-bytes_ahead reader = length reader.piece + reader.room
+-- an error prints its name
+abbrev pub line_error_text : LineError → List ℕ
+line_error_text ReadFault = codes "ReadFault"
+line_error_text OutOfMemory = codes "OutOfMemory"
+
+-- a read failed: nothing of a further line is left to give, and the reader may be asked again
+pub record Breaks (new : Reader) (before now : ℕ) : Type 0 where
+  pub rose : Rose before now
+  pub not_done : new.is_done ≡ false
+  pub uncut : has_newline new.piece ≡ false
 
 -- what an answer means: none is the end, and an error has its cause
 abbrev pub Tells : Result (Option Line) LineError → Reader → Reader → ℕ → ℕ → Type 0
 Tells (Ok (Some line)) old new before now = Unit {0}
 Tells (Ok None) old new before now = IsSpent new
-Tells (Err ReadFault) old new before now = Rose before now
+Tells (Err ReadFault) old new before now = Breaks new before now
 Tells (Err OutOfMemory) old new before now = Unit {0}
 
 -- no more is held than a line within the bound and one piece

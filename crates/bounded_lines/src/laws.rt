@@ -1,12 +1,13 @@
 //! Laws for callers' proofs. Each is a function that does nothing: its contract is the law.
 
-ghost use Rattle.std.specs.Prelude.{◌≡◌, ℕ, List, [], Option, Some, IsTrue, map};
+ghost use Rattle.std.specs.Prelude.{◌≡◌, ◌<◌, ◌^◌, ℕ, List, [], Option, Some, IsTrue, length, map};
+ghost use Rattle.std.specs.Io.KnownBytes.{Consumes};
 ghost use Rattle.bounded_lines.specs.Lines.{lines_of};
 ghost use Rattle.bounded_lines.specs.Part.{item_of};
 ghost use Rattle.bounded_lines.specs.Reader.{Gave, IsFrontOf, Reader, new_reader};
 
 /// What a reader gives of a source is the front of the source's lines, and at the end it is all of them,
-/// however the reads cut them.
+/// however the reads cut them. In its life it takes at most 2^64 - 1 bytes.
 pub fn readers_give_the_lines()
     ensures at_first { (max : ℕ) (left : Option (List ℕ)) → Gave left left [] (new_reader max) }
     ensures front { (bytes : List ℕ) (left : Option (List ℕ)) (given : List (Option (List ℕ)))
@@ -15,4 +16,7 @@ pub fn readers_give_the_lines()
     ensures at_last { (bytes : List ℕ) (left : Option (List ℕ)) (given : List (Option (List ℕ)))
         (reader : Reader) → Gave (Some bytes) left given reader → IsTrue reader.is_done
         → given ≡ map (item_of reader.part.max_line) (lines_of bytes) }
+    ensures within { (first left : Option (List ℕ)) (given : List (Option (List ℕ))) (reader : Reader)
+        → Gave first left given reader
+        → (taken : List ℕ) × Consumes first left taken × (length taken < 2 ^ 64) }
 {}

@@ -4,9 +4,11 @@ ghost use Rattle.std.specs.Prelude.{◌≡◌, ◌≤◌, ℕ, List, Option, IsT
 
 use crate::part::LinePart;
 use crate::piece::Piece;
-use base_values::Items;
+use base_values::{Items, TryClone};
 use outside::{ByteSource, Failed};
 use std::alloc::{AllocError, Global};
+use std::error::Error;
+use std::fmt;
 use std::marker::Model;
 
 /// A line of the source.
@@ -18,6 +20,19 @@ pub enum Line {
     TooLong,
 }
 
+impl TryClone for Line {
+    fn try_clone(&self, alloc: Global) -> Result<Self, AllocError> {
+        match self {
+            Line::Whole(bytes) => {
+                let mut copy = Vec::new(alloc);
+                copy.extend_from_slice(bytes.as_slice())?;
+                Ok(Line::Whole(Items::new(copy)))
+            }
+            Line::TooLong => Ok(Line::TooLong),
+        }
+    }
+}
+
 /// Why no line was given.
 #[derive(Clone, Copy, Debug, PartialEq, Eq)]
 pub enum LineError {
@@ -26,6 +41,23 @@ pub enum LineError {
     /// There was no memory.
     OutOfMemory,
 }
+
+/// The variant's name.
+impl fmt::Display for LineError {
+    ghost use Rattle.std.specs.Prelude.{Some};
+    ghost use Rattle.bounded_lines.specs.Reader.{line_error_text};
+
+    ghost output = { λ error. Some (line_error_text error) };
+
+    fn fmt<W: fmt::Write>(&self, f: &mut fmt::Formatter<W>) -> fmt::Result {
+        f.write_str(match self {
+            LineError::ReadFault => "ReadFault",
+            LineError::OutOfMemory => "OutOfMemory",
+        })
+    }
+}
+
+impl Error for LineError {}
 
 impl From<AllocError> for LineError {
     ghost use Rattle.std.specs.Prelude.{◌≡◌};
@@ -73,6 +105,7 @@ impl Model for BoundedLines {
 }
 
 impl BoundedLines {
+    ghost use Rattle.bounded_lines.specs.Calls.{ReadsAtOnce, is_read_fault};
     ghost use Rattle.bounded_lines.specs.Reader.{Gave, HoldsFew, Tells, lines_after, new_reader};
 
     /// A reader that takes nothing yet, of lines of at most so many bytes.
@@ -87,8 +120,9 @@ impl BoundedLines {
         }
     }
 
-    /// The next line, or none at the end of the input or of the reader's life. After an error the
-    /// reader stands where it stood before the read that failed, and may be asked again.
+    /// The next line, or none at the end of the input or of the reader's life. Nothing is read while a
+    /// newline waits, nor after a read that failed. After an error the reader stands where it stood
+    /// before the read that failed, and may be asked again.
     pub fn next<S: ByteSource>(
         &mut self,
         alloc: Global,
@@ -97,6 +131,8 @@ impl BoundedLines {
         ensures gave { (first : Option (List ℕ)) (given : List (Option (List ℕ)))
             → Gave first (S.left input.old) given self.old
             → Gave first (S.left input.new) (lines_after given result) self.new }
+        ensures reads { ReadsAtOnce S.read_gives (is_read_fault result) self.old.piece
+            input.old input.new }
         ensures told { Tells result self.old self.new (S.faults input.old) (S.faults input.new) }
         ensures faults { S.faults input.old ≤ S.faults input.new }
         ensures few { HoldsFew self.old → HoldsFew self.new }

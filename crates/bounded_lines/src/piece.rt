@@ -3,7 +3,8 @@
 ghost use Rattle.std.specs.Prelude.{◌≡◌, ◌≤◌, ◌<◌, [], drop, length, take, IfErr, IfOk, OnErr, OnOk};
 ghost use Rattle.std.specs.Io.KnownBytes.{Consumes, IsAtEnd};
 ghost use Rattle.outside.specs.Causes.{HasCause};
-ghost use Rattle.bounded_lines.specs.Pieces.{HasCauseOf, Moves, Reads};
+ghost use Rattle.outside.specs.Source.{bytes_read};
+ghost use Rattle.bounded_lines.specs.Pieces.{HasCauseOf, Moves, Reads, ReadsOnce};
 
 use crate::lines::LineError;
 use crate::newline::newline_at;
@@ -104,6 +105,7 @@ impl Piece {
             Reads most count (S.left input.old) (S.left input.new) self.new) }
         ensures kept { OnErr result ((self.new ≡ [])
             × Consumes (S.left input.old) (S.left input.new) []) }
+        ensures once { ReadsOnce S.read_gives result self.new input.old input.new }
         ensures cause { IfErr result (λ e.
             HasCauseOf e (S.faults input.old) (S.faults input.new)) }
         ensures faults { S.faults input.old ≤ S.faults input.new }
@@ -137,6 +139,7 @@ fn read_some<S: ByteSource>(input: &mut S, buffer: &mut [u8], most: u64) -> Resu
     ensures bound { IfOk result (λ count. (count ≤ most) × (count ≤ length buffer.new)) }
     ensures end { IfOk result (λ count. count ≡ 0 → IsAtEnd (S.left input.new)) }
     ensures kept { OnErr result (Consumes (S.left input.old) (S.left input.new) []) }
+    ensures gives { S.read_gives input.old (bytes_read result buffer.new) input.new }
     ensures cause { HasCause (S.faults input.old) (S.faults input.new) result }
 {
     let count = most.min(buffer.len() as u64) as usize;

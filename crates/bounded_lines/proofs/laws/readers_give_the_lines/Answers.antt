@@ -1,4 +1,4 @@
-use Rattle.bounded_lines.proofs.Wholes.{Gave-all, Gave-fresh, Gave-front}
+use Rattle.bounded_lines.proofs.Wholes.{Gave-all, Gave-fresh, Gave-front, Gave-within}
 use Rattle.bounded_lines.proofs.laws.readers_give_the_lines.Goals as goal
 
 pub returns-clause-at_first : goal.returns-clause-at_first
@@ -9,3 +9,6 @@ returns-clause-front c = Gave-front
 
 pub returns-clause-at_last : goal.returns-clause-at_last
 returns-clause-at_last c = Gave-all
+
+pub returns-clause-within : goal.returns-clause-within
+returns-clause-within c = Gave-within
