@@ -30,7 +30,7 @@ returns-clause-reach c =
     subst (λ g. Reaches g (get_or nodes k d) c.args.target) c.self.view_is
     ((c.self.invariant.reaches_back (get_or nodes k d) c.args.target).0
     (found_reached back c.args.target c.search_into.new.trail whole.trail (get_or nodes k d) (Contains-get_or nodes k d below))) in
-    on_ok_weaker c.search_into.result reach c.search_into.ensures
+    on_ok_weaker c.search_into.result reach c.search_into.ensures.ok
 
 pub returns-clause-within : goal.returns-clause-within
 returns-clause-within c =
@@ -40,7 +40,7 @@ returns-clause-within c =
     let within : IsWhole back c.args.target c.search_into.new.trail → All (λ node. node < length c.args.self.now) nodes =
     λ whole. λ k d below.
     subst (λ z. z < length c.args.self.now) (get_or_default nodes k 0 d below) (omega (arith, whole.trail.within k below, long)) in
-    on_ok_weaker c.search_into.result within c.search_into.ensures
+    on_ok_weaker c.search_into.result within c.search_into.ensures.ok
 
 pub returns-clause-marks : goal.returns-clause-marks
 returns-clause-marks c =
@@ -48,7 +48,7 @@ returns-clause-marks c =
     let trail = c.search_into.new.trail in
     let marks : IsWhole back c.args.target trail → All (λ node. node < length trail.marks) trail.nodes =
     λ whole. nodes_marked back c.args.target trail whole.trail in
-    on_ok_weaker c.search_into.result marks c.search_into.ensures
+    on_ok_weaker c.search_into.result marks c.search_into.ensures.ok
 
 pub returns-clause-cleared : goal.returns-clause-cleared
 returns-clause-cleared c =
@@ -57,4 +57,4 @@ returns-clause-cleared c =
     let long : length back ≡ length c.args.self.now = c.self.invariant.leads_back.nodes ∙ ap length c.self.view_is in
     let empty : IsWhole back c.args.target trail → trail_after_clear trail ≡ empty_trail (length c.args.self.now) =
     λ whole. cleared_trail back c.args.target trail whole.trail ∙ ap empty_trail long in
-    on_ok_weaker c.search_into.result empty c.search_into.ensures
+    on_ok_weaker c.search_into.result empty c.search_into.ensures.ok
