@@ -4,7 +4,7 @@ use Rattle.std.specs.Prelude.{OnErr}
 use Rattle.outside.specs.Causes.{next_count}
 use Rattle.vfs_core.specs.VfsPath.{PathContent}
 use Rattle.vfs_sets.specs.Placement.{placed_text}
-use Rattle.vfs_sets.specs.Probes.{CountsFiles, CountsFront, CountsPlacing, CountsProbes, RaisesAtMost, most_probes, raised_by}
+use Rattle.vfs_sets.specs.Probes.{CountsFiles, CountsFront, CountsPlacing, CountsProbes, RaisesAtMost, most_probes, prefixes_tried, raised_by}
 
 -- a count rises by one at most for each step
 pub raised_by-most : (steps count : ℕ) → raised_by steps count ≤ count + steps
@@ -54,7 +54,7 @@ counts_raise : (sets : List (List PathContent)) (files : List (ℕ × PathConten
     → CountsFiles sets files before now → RaisesAtMost (most_probes files) before now
 counts_raise sets [] before now counts = record { steps = 0; within = omega arith; raised = sym counts }
 counts_raise sets (file ∷ files) before now counts =
-    RaisesAtMost-again (length (placed_text file.1) + 1) (most_probes files) before counts.0 now counts.1.raises
+    RaisesAtMost-again (length (prefixes_tried (placed_text file.1))) (most_probes files) before counts.0 now counts.1.raises
     (counts_raise sets files counts.0 now counts.2)
 
 -- the first of some files have no more probes than all

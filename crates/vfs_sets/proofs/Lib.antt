@@ -8,3 +8,4 @@ pub mod RootLemmas
 pub mod RootMapLemmas
 pub mod RowLemmas
 pub mod SiblingLemmas
+pub mod TriedLemmas

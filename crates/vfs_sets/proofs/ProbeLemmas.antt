@@ -1,5 +1,5 @@
 -- The set that the longest prefix among the roots gives is the place of a path.
-use Rattle.std.proofs.Common.{◌≡◌, ℕ, zero, suc, ◌+◌, ◌<◌, ◌≤◌, Bool, true, false, ◌||◌, ◌-◌, List, [], ◌∷◌, Option, Some, None}
+use Rattle.std.proofs.Common.{◌≡◌, ℕ, zero, suc, ◌+◌, ◌<◌, ◌≤◌, Bool, true, false, ◌||◌, List, [], ◌∷◌, Option, Some, None}
 use Rattle.std.proofs.Common.{ap, arith, cond, Contains, get_or, length, nat_eq, nat_lt, refl, subst, sym, take, true≢false, ◌∙◌, Vec}
 use Rattle.std.proofs.lemmas.Bool.{and_parts, or_left, or_right}
 use Rattle.std.proofs.lemmas.Bool.Decides.{nat_tests}
@@ -10,11 +10,12 @@ use Rattle.std.specs.List.{list_any, position_from}
 use Rattle.std.specs.Str.{bytes_eq}
 use Rattle.vfs_core.specs.VfsPath.{PathContent}
 use Rattle.vfs_sets.specs.Placement.{FitsNoRoot, IsFit, IsPlaceOf, fits, place_of, placed_text}
-use Rattle.vfs_sets.specs.Probes.{CountsProbes, raised_by}
+use Rattle.vfs_sets.specs.Probes.{CountsProbes, prefixes_tried, raised_by, tries_down_to}
 use Rattle.vfs_sets.specs.RootMaps.{HasNoPrefix, IsOfLongestPrefix, MapsRoots, is_root_of, number_at}
 use Rattle.vfs_sets.proofs.CountLemmas.{raised_by-most}
 use Rattle.vfs_sets.proofs.FitLemmas.{at_most-split, fits_no_root, place_of_is, IsPlaceOf-one}
 use Rattle.vfs_sets.proofs.PlaceLemmas.{place_within}
+use Rattle.vfs_sets.proofs.TriedLemmas.{prefixes_tried-each, prefixes_tried-length, prefixes_tried-within, tries_down_to-count}
 
 -- an item that passes, where one does
 any-split : (test : PathContent → Bool) (first : PathContent) (rest : List PathContent) (is_first : Bool) → test first ≡ is_first
@@ -38,7 +39,7 @@ item-any test (first ∷ rest) root (suc k) within at passes =
     or_right (test first) (list_any test rest) (item-any test rest root k (omega arith) at passes)
 
 -- a set with a root is one of the sets
-set-within : (sets : List (List PathContent)) (number k : ℕ) → k < length (get_or sets number []) → number < length sets
+pub set-within : (sets : List (List PathContent)) (number k : ℕ) → k < length (get_or sets number []) → number < length sets
 set-within [] zero k within = absurd (omega (arith, within))
 set-within [] (suc number) k within = absurd (omega (arith, within))
 set-within (roots ∷ sets) zero k within = omega arith
@@ -132,7 +133,8 @@ probed_place {Z} sets path entries number before now maps longest =
     let kind : beq root.is_virtual path.is_virtual ≡ true = (and_parts (beq root.is_virtual path.is_virtual) (bytes_eq text root.text) item.2).0 in
     let is : text ≡ root.text = (bytes_decides text root.text).0
     (and_parts (beq root.is_virtual path.is_virtual) (bytes_eq text root.text) item.2).1 in
-    let cut : length text ≡ longest.size = let within = longest.within in grind (arith, common_steps) in
+    let within : longest.size ≤ length (placed_text path) = prefixes_tried-within (placed_text path) longest.size longest.tried in
+    let cut : length text ≡ longest.size = grind (arith, common_steps) in
     let size : length root.text ≡ longest.size = sym (ap length is) ∙ cut in
     let prefix : root.text ≡ take (length root.text) (placed_text path) =
     sym is ∙ ap (λ n. take n (placed_text path)) (sym size) in
@@ -148,7 +150,7 @@ probed_place {Z} sets path entries number before now maps longest =
             let short = prefix-short rival path (fit-prefix rival path fit.begins) in
             let no_longer = at_most-split (length rival.text) longest.size (nat_lt longest.size (length rival.text)) refl (λ longer.
             nothing (number_at (take (length rival.text) (placed_text path)) entries) at.0
-            (longest.none_longer (length rival.text) longer short)
+            (longest.none_longer (length rival.text) (prefixes_tried-each (placed_text path) (length rival.text) short) longer)
             (maps.each (take (length rival.text) (placed_text path)) ∙ at.1)) in
             omega (arith, no_longer, size);
         least = λ other rival fit same.
@@ -168,7 +170,8 @@ pub probed_none : {Z : Type 0} (sets : List (List PathContent)) (path : PathCont
 probed_none sets path entries before now maps none = λ other rival fit.
     let at = fit-found sets path other rival fit in
     let short = prefix-short rival path (fit-prefix rival path fit.begins) in
-    nothing (number_at (take (length rival.text) (placed_text path)) entries) at.0 (none.none (length rival.text) short)
+    nothing (number_at (take (length rival.text) (placed_text path)) entries) at.0
+    (none.none (length rival.text) (prefixes_tried-each (placed_text path) (length rival.text) short))
     (maps.each (take (length rival.text) (placed_text path)) ∙ at.1)
 
 -- the place is the one that is computed: the same by whether a set is computed
@@ -196,27 +199,34 @@ FitsNoRoot-computed sets path = none-split sets path (nat_lt (place_of sets path
 
 -- the probes of a path that has a place, and of one that has none
 counts_found : (sets : List (List PathContent)) (path : PathContent) (number before now size : ℕ) (place : IsPlaceOf sets path number)
-    → length place.root.text ≡ size → now ≡ raised_by (length (placed_text path) + 1 - size) before → CountsProbes sets path before now
-counts_found sets path number before now size place same counts = record {
-  found = λ other root longest.
-      let up = place.longest other root longest.own in
-      let down = longest.longest number place.root place.own in
-      let equal : size ≡ length root.text = omega (arith, up, down, same) in
-      counts ∙ ap (λ n. raised_by (length (placed_text path) + 1 - n) before) equal;
-  none = λ fits_none. absurd (fits_none number place.root place.own);
-  at_most =
-      let most = raised_by-most (length (placed_text path) + 1 - size) before in
-      omega (arith, counts, most);
-  raises = record { steps = length (placed_text path) + 1 - size; within = omega arith; raised = counts };
-}
+    → length place.root.text ≡ size → now ≡ raised_by (tries_down_to size (placed_text path)) before → CountsProbes sets path before now
+counts_found sets path number before now size place same counts =
+    let all = prefixes_tried-length (placed_text path) in
+    let tries = tries_down_to-count size (placed_text path) in
+    record {
+      found = λ other root longest.
+          let up = place.longest other root longest.own in
+          let down = longest.longest number place.root place.own in
+          let equal : size ≡ length root.text = omega (arith, up, down, same) in
+          counts ∙ ap (λ n. raised_by (tries_down_to n (placed_text path)) before) equal;
+      none = λ fits_none. absurd (fits_none number place.root place.own);
+      at_most =
+          let most = raised_by-most (tries_down_to size (placed_text path)) before in
+          omega (arith, counts, most, all, tries);
+      raises = record {
+        steps = tries_down_to size (placed_text path);
+        within = omega (arith, all, tries);
+        raised = counts;
+      };
+    }
 
 counts_none : (sets : List (List PathContent)) (path : PathContent) (before now : ℕ) → FitsNoRoot sets path
-    → now ≡ raised_by (length (placed_text path) + 1) before → CountsProbes sets path before now
+    → now ≡ raised_by (length (prefixes_tried (placed_text path))) before → CountsProbes sets path before now
 counts_none sets path before now fits_none counts = record {
   found = λ other root longest. absurd (fits_none other root longest.own);
   none = λ again. counts;
-  at_most = let most = raised_by-most (length (placed_text path) + 1) before in omega (arith, counts, most);
-  raises = record { steps = length (placed_text path) + 1; within = omega arith; raised = counts };
+  at_most = let most = raised_by-most (length (prefixes_tried (placed_text path))) before in omega (arith, counts, most);
+  raises = record { steps = length (prefixes_tried (placed_text path)); within = omega arith; raised = counts };
 }
 
 -- what a search of the map of the path's kind gives: the place, with each probe counted

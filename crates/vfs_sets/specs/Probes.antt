@@ -1,6 +1,7 @@
--- How often a count is raised while paths are placed: once for each prefix of the text by which a path is placed, the whole
--- text first, down to the longest root that fits, or to the empty prefix where none does.
-use Rattle.std.specs.Prelude.{◌≡◌, ◌≤◌, ◌+◌, ◌-◌, ℕ, zero, suc, List, [], ◌∷◌, ◌++◌, length}
+-- How often a count is raised while paths are placed: once for each prefix of the text by which a path is placed that is tried,
+-- down to the longest root that fits, or through all of them where none does.
+use Rattle.std.specs.Prelude.{◌≡◌, ◌≤◌, ◌+◌, ℕ, zero, suc, List, [], ◌∷◌, ◌++◌, length, nat_le}
+use Rattle.std.specs.List.{filter}
 use Rattle.outside.specs.Causes.{next_count}
 use Rattle.vfs_core.specs.VfsPath.{PathContent}
 use Rattle.vfs_sets.specs.Placement.{FitsNoRoot, IsFit, placed_text}
@@ -16,6 +17,19 @@ pub record RaisesAtMost (most before now : ℕ) : Type 0 where
   pub within : steps ≤ most
   pub raised : now ≡ raised_by steps before
 
+-- a number and all below it, the greatest first
+abbrev pub numbers_down : ℕ → List ℕ
+numbers_down zero = 0 ∷ []
+numbers_down (suc number) = suc number ∷ numbers_down number
+
+-- the lengths of the prefixes of a text that are tried: the whole text first, one byte less each time, the empty prefix last
+abbrev pub prefixes_tried : List ℕ → List ℕ
+prefixes_tried text = numbers_down (length text)
+
+-- how many prefixes of a text are tried, where none shorter than a length is
+abbrev pub tries_down_to : ℕ → List ℕ → ℕ
+tries_down_to size text = length (filter (nat_le size) (prefixes_tried text))
+
 -- a root of a set fits a path, and none that fits is longer
 pub record IsLongestFit (sets : List (List PathContent)) (path : PathContent) (number : ℕ) (root : PathContent) : Type 0 where
   pub own : IsFit sets path number root
@@ -25,10 +39,10 @@ pub record IsLongestFit (sets : List (List PathContent)) (path : PathContent) (n
 -- a path was placed: each probe was counted
 pub record CountsProbes (sets : List (List PathContent)) (path : PathContent) (before now : ℕ) : Type 0 where
   pub found : (number : ℕ) (root : PathContent) → IsLongestFit sets path number root
-      → now ≡ raised_by (length (placed_text path) + 1 - length root.text) before
-  pub none : FitsNoRoot sets path → now ≡ raised_by (length (placed_text path) + 1) before
-  pub at_most : now ≤ before + (length (placed_text path) + 1)
-  pub raises : RaisesAtMost (length (placed_text path) + 1) before now
+      → now ≡ raised_by (tries_down_to (length root.text) (placed_text path)) before
+  pub none : FitsNoRoot sets path → now ≡ raised_by (length (prefixes_tried (placed_text path))) before
+  pub at_most : now ≤ before + length (prefixes_tried (placed_text path))
+  pub raises : RaisesAtMost (length (prefixes_tried (placed_text path))) before now
 
 -- files were placed, one after the other
 abbrev pub CountsFiles : List (List PathContent) → List (ℕ × PathContent) → ℕ → ℕ → Type 0
@@ -36,10 +50,10 @@ CountsFiles sets [] before now = before ≡ now
 CountsFiles sets (file ∷ files) before now =
     (middle : ℕ) × CountsProbes sets file.1 before middle × CountsFiles sets files middle now
 
--- at most so many probes are counted: one more for each file than its text has bytes
+-- at most so many probes are counted: for each file all prefixes that are tried
 abbrev pub most_probes : List (ℕ × PathContent) → ℕ
 most_probes [] = 0
-most_probes (file ∷ files) = length (placed_text file.1) + 1 + most_probes files
+most_probes (file ∷ files) = length (prefixes_tried (placed_text file.1)) + most_probes files
 
 -- files were placed, and each probe was counted
 pub record CountsPlacing (sets : List (List PathContent)) (files : List (ℕ × PathContent)) (before now : ℕ) : Type 0 where

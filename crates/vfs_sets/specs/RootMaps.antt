@@ -1,14 +1,14 @@
 -- The roots of one kind by their texts, each text with the least set that has a root of it, and the longest prefix of a text
 -- that stands among them.
 -- From the documentation of the file system's partition into sets.
-use Rattle.std.specs.Prelude.{◌≡◌, ◌<◌, ◌≤◌, ◌&&◌, ◌+◌, ◌-◌, ℕ, Bool, true, false, List, [], ◌∷◌, Option, None, Some, length, max, take, if◌then◌else◌}
+use Rattle.std.specs.Prelude.{◌≡◌, ◌<◌, ◌&&◌, ℕ, Bool, true, false, List, [], ◌∷◌, Option, None, Some, Contains, length, max, take, if◌then◌else◌}
 use Rattle.std.specs.Bool.{beq}
 use Rattle.std.specs.List.{list_any, position_from}
 use Rattle.std.specs.Map.{lookup}
 use Rattle.std.specs.Str.{bytes_eq}
 use Rattle.std.specs.declared.vec.Vec.{Vec}
 use Rattle.vfs_core.specs.VfsPath.{PathContent}
-use Rattle.vfs_sets.specs.Probes.{raised_by}
+use Rattle.vfs_sets.specs.Probes.{prefixes_tried, raised_by, tries_down_to}
 
 -- whether a root is of a kind and has a text
 abbrev pub is_root_of : Bool → List ℕ → PathContent → Bool
@@ -55,15 +55,16 @@ pub record PutsRootsOf {Z : Type 0} (kind : Bool) (roots : List PathContent) (nu
   pub each : (text : List ℕ)
       → number_at text new ≡ (if list_any (is_root_of kind text) roots then Some number else number_at text old)
 
--- a number stands beside the longest prefix of a text that has one, and each prefix down to that one was counted
+-- a number stands beside the longest prefix tried that has one, and each prefix down to that one was counted
 pub record IsOfLongestPrefix {Z : Type 0} (entries : List (Vec ℕ Z × ℕ)) (text : List ℕ) (number before now : ℕ) : Type 0 where
   pub size : ℕ
-  pub counts : now ≡ raised_by (length text + 1 - size) before
-  pub within : size ≤ length text
+  pub counts : now ≡ raised_by (tries_down_to size text) before
+  pub tried : Contains (prefixes_tried text) size
   pub has : number_at (take size text) entries ≡ Some number
-  pub none_longer : (longer : ℕ) → size < longer → longer ≤ length text → number_at (take longer text) entries ≡ None
+  pub none_longer : (longer : ℕ) → Contains (prefixes_tried text) longer → size < longer
+      → number_at (take longer text) entries ≡ None
 
--- no prefix of a text has a number, and each was counted
+-- no prefix tried has a number, and each was counted
 pub record HasNoPrefix {Z : Type 0} (entries : List (Vec ℕ Z × ℕ)) (text : List ℕ) (before now : ℕ) : Type 0 where
-  pub counts : now ≡ raised_by (length text + 1) before
-  pub none : (size : ℕ) → size ≤ length text → number_at (take size text) entries ≡ None
+  pub counts : now ≡ raised_by (length (prefixes_tried text)) before
+  pub none : (size : ℕ) → Contains (prefixes_tried text) size → number_at (take size text) entries ≡ None
