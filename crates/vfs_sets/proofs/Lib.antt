@@ -1,5 +1,6 @@
 pub mod CountLemmas
 pub mod FitLemmas
+pub mod LawLemmas
 pub mod LengthLemmas
 pub mod PartitionLemmas
 pub mod PlaceLemmas

@@ -6,6 +6,7 @@ mod file_rows;
 pub mod file_set;
 pub mod file_set_config;
 pub mod file_set_iter;
+pub mod laws;
 mod place;
 mod root_map;
 mod roots;
