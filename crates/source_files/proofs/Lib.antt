@@ -1,2 +1,3 @@
 mod Copies
 pub mod Entries
+mod LawLemmas

@@ -1,3 +1,4 @@
+pub mod Durability
 pub mod EditionedFileId
 pub mod Files
 pub mod SourceRoot
