@@ -1,5 +1,7 @@
 //! A progress that keeps its lines.
 
+ghost use Rattle.std.specs.Prelude.{None};
+
 use cases::text_answer;
 use pm_config::Progress;
 use serde_json::Value;
@@ -22,6 +24,8 @@ impl Lines {
 }
 
 impl Progress for Lines {
+    ghost lines = { λ _. None };
+
     fn line(&mut self, text: &str) {
         match text_answer(*self.kept.allocator(), text) {
             Ok(line) => self.is_whole &= self.kept.push(line).is_ok(),
