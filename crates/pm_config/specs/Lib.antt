@@ -1,4 +1,5 @@
 pub mod Defaults
+pub mod Laws
 pub mod Lockfile
 pub mod MetadataDefaults
 pub mod Overrides
