@@ -6,4 +6,5 @@ pub mod Overrides
 pub mod Progress
 pub mod TargetDir
 pub mod Tools
+pub mod Variables
 pub mod Versions

@@ -11,6 +11,7 @@ pub mod progress;
 pub mod target_dir;
 pub mod tool;
 pub mod tool_root;
+pub mod variables;
 pub mod versions;
 
 pub use config::{CargoConfig, InvocationStrategy, RustLibSource};
@@ -22,4 +23,5 @@ pub use progress::{Progress, Quiet};
 pub use target_dir::TargetDirectoryConfig;
 pub use tool::{Tool, Tools};
 pub use tool_root::ToolRoot;
+pub use variables::{allow_unstable, set_variable};
 pub use versions::{is_at_least, needs_json_flag};
