@@ -47,8 +47,8 @@ IsFirst NoDefaultFeatures s = s.no_default_features ≡ false
 IsFirst (SomeFeatures names) s = Unit {0}
 
 -- a variable is set, or removed where it has no value, in place of what was said of it before
-abbrev pub with_variable : List ℕ → Option (List ℕ) → Settings → Settings
-with_variable key value s = record s { env = with_value key value s.env }
+abbrev pub with_env : List ℕ → Option (List ℕ) → Settings → Settings
+with_env key value s = record s { env = with_value key value s.env }
 
 -- the texts with one between each two
 abbrev pub joined_text : List ℕ → List (List ℕ) → List ℕ

@@ -3,7 +3,7 @@
 ghost use Rattle.std.specs.Prelude.{◌≡◌, true, IfOk, OnErr, OnOk, Some, None};
 ghost use Rattle.std.specs.Borrow.{sem};
 ghost use Rattle.base_values.specs.ByText.{HasAscendingKeys};
-ghost use Rattle.cargo_meta.specs.Command.{IsFirst, command_of, nothing_set, with_features, with_variable, words_of};
+ghost use Rattle.cargo_meta.specs.Command.{IsFirst, command_of, nothing_set, with_features, with_env, words_of};
 
 use crate::words::{
     append, first_words, push_features, push_flag, push_option, push_words, text_or, variables,
@@ -174,7 +174,7 @@ impl MetadataCommand {
 
     /// Sets a variable of the command, or removes it where it has no value, in place of what was said of it before.
     pub fn set_variable(&mut self, key: Text, value: Option<Text>) -> Result<(), AllocError>
-        ensures ok { OnOk result (self.new ≡ with_variable key value self.old) }
+        ensures ok { OnOk result (self.new ≡ with_env key value self.old) }
         ensures err { OnErr result (self.new ≡ self.old) }
     {
         drop(self.env.insert(key.into_inner(), value)?);
@@ -185,7 +185,7 @@ impl MetadataCommand {
     pub fn env(&mut self, key: Text, val: Text) -> Result<&mut MetadataCommand, AllocError>
         ensures* err { sem 𝓛 (unchanged_if_refused self.entry result) }
         ensures same_command { IfOk result (λ command. command.ghost_name ≡ self.entry.ghost_name) }
-        ensures set { IfOk result (λ command. command.now ≡ with_variable key (Some val) self.old) }
+        ensures set { IfOk result (λ command. command.now ≡ with_env key (Some val) self.old) }
     {
         self.set_variable(key, Some(val))?;
         Ok(self)
@@ -195,7 +195,7 @@ impl MetadataCommand {
     pub fn env_remove(&mut self, key: Text) -> Result<&mut MetadataCommand, AllocError>
         ensures* err { sem 𝓛 (unchanged_if_refused self.entry result) }
         ensures same_command { IfOk result (λ command. command.ghost_name ≡ self.entry.ghost_name) }
-        ensures set { IfOk result (λ command. command.now ≡ with_variable key None self.old) }
+        ensures set { IfOk result (λ command. command.now ≡ with_env key None self.old) }
     {
         self.set_variable(key, None)?;
         Ok(self)

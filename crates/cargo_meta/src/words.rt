@@ -5,7 +5,7 @@ ghost use Rattle.base_values.specs.ByText.{HasAscendingKeys};
 ghost use Rattle.cargo_meta.specs.Command as spec;
 ghost use Rattle.cargo_meta.specs.Command.{feature_words, flag_word, option_words};
 
-use base_text::{ByText, Items, Text, TryClone};
+use base_text::{ByText, Items, Text, TryClone, copy_items};
 use std::alloc::{AllocError, Global};
 
 /// A copy of the text, or of another where there is none.
@@ -32,7 +32,8 @@ pub(crate) fn first_words(alloc: Global) -> Result<Vec<Text>, AllocError>
 
 /// Puts the word behind the others.
 pub fn push_word(alloc: Global, words: &mut Vec<Text>, word: &str) -> Result<(), AllocError>
-    ensures { OnOk result (words.new.items ≡ words.old.items ++ word.now ∷ []) }
+    ensures ok { OnOk result (words.new.items ≡ words.old.items ++ word.now ∷ []) }
+    ensures err { OnErr result (words.new.items ≡ words.old.items) }
 {
     let word = Text::of_str(alloc, word)?;
     words.push(word)?;
@@ -41,12 +42,11 @@ pub fn push_word(alloc: Global, words: &mut Vec<Text>, word: &str) -> Result<(),
 
 /// Puts copies of these words behind the others.
 pub fn push_words(alloc: Global, words: &mut Vec<Text>, more: &[Text]) -> Result<(), AllocError>
-    ensures { OnOk result (words.new.items ≡ words.old.items ++ more.now) }
+    ensures ok { OnOk result (words.new.items ≡ words.old.items ++ more.now) }
+    ensures err { OnErr result (words.new.items ≡ words.old.items) }
 {
-    for word in more {
-        words.push(word.try_clone(alloc)?)?;
-    }
-    Ok(())
+    let copies = copy_items(alloc, more)?;
+    append(words, Items::new(copies))
 }
 
 /// Puts the word behind the others where its flag is set.
@@ -56,7 +56,8 @@ pub fn push_flag(
     is_set: bool,
     word: &str,
 ) -> Result<(), AllocError>
-    ensures { OnOk result (words.new.items ≡ words.old.items ++ flag_word is_set word.now) }
+    ensures ok { OnOk result (words.new.items ≡ words.old.items ++ flag_word is_set word.now) }
+    ensures err { OnErr result (words.new.items ≡ words.old.items) }
 {
     if is_set {
         push_word(alloc, words, word)

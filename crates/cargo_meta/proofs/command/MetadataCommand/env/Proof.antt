@@ -4,7 +4,7 @@ use Rattle.std.proofs.Common.{◌≡◌, ◌∙◌, refl, sym, subst, ap, lit<, 
 use Rattle.std.proofs.raw_atomic.Walks.{proved_at}
 use Rattle.std.specs.Prelude.{Some, Ok, OnOk, OnErr, IsErr}
 use Rattle.std.specs.Result.{result_from_control_flow}
-use Rattle.cargo_meta.specs.Command.{Settings, with_variable}
+use Rattle.cargo_meta.specs.Command.{Settings, with_env}
 use Rattle.base_values.specs.contracts.text.Text.{the_row as Text}
 use Rattle.base_values.proofs.text.Text.TheLaws.{the_row_laws as Text-laws}
 use Rattle.std.specs.contracts.option.Option.{the_row as Option}
@@ -88,7 +88,7 @@ env_spec 𝓤 𝓛 𝓜 𝓡 wired =
     (and_then ! (get ! refl) (and_then ! (get ! refl) (and_then ! (get ! refl) (no_more !)))) (λ v.
     use1 𝓛 (later (some (λ (r : Step.Denot). ((‵ (flft (α ∷ []) full_share) ⊛ ‵ ftrue) ⊛ ‵ (Step.own_val r (v ∷ []))) ⊛
     some (λ (ws : Lasts g.ended z.0.0 z.0.3). ‵ (lasts g.ended z.0.0 z.0.3 ws) ⊛
-    raw (fact 𝓤 (OnOk r (ws.0 ≡ with_variable x (Some val) s.now))) ⊛ raw (fact 𝓤 (OnErr r (ws.0 ≡ s.now))))))) (id⊢ 𝓤 _) $
+    raw (fact 𝓤 (OnOk r (ws.0 ≡ with_env x (Some val) s.now))) ⊛ raw (fact 𝓤 (OnErr r (ws.0 ≡ s.now))))))) (id⊢ 𝓤 _) $
     await ! tt $ pick ! (λ r. split ! $ split ! $ split ! $ lft_end ! tt $ move ! (3 ∷ []) $ pick ! (λ ws. split3 ! $
     move ! (1 ∷ []) $ heard ! _ (λ added. move ! (1 ∷ []) $ heard ! _ (λ unchanged. fsplit ! $ fsplit ! $
     move ! (3 ∷ 6 ∷ 0 ∷ []) $ use3 𝓛 (later (‵ (Ref κ (record s { now = ws.0 })) ⊛ ‵ (flft κ q)))
@@ -110,7 +110,7 @@ env_spec 𝓤 𝓛 𝓜 𝓡 wired =
                 sets ! (agg ! (and_then ! (lit ! tt) (and_then ! (get ! refl) (no_more !)))) refl (tt, (record { fits = lit< tt }, (tt, tt))) $
                 returns ! (look_at ! 0 refl) $ free_all ! refl $ keep ! (1 ∷ 2 ∷ []) $ nothing ! $ nothing ! $ fjoin ! $ nothing ! $ fjoin ! $ nothing ! $ fjoin ! $
                 suffices ! _ (ends_at 𝓛 f.ended stayed c y' (live 0 (vcons (vptr b o) vnil)) (Ok (record s { now = ws.0 })) (tt, (tt, (tt, tt))) (tt, (tt, (tt, tt)))) $
-                by ! (gives_back 𝓛 κ q s (λ n. n ≡ with_variable x (Some val) s.now) had ws.0 (subst (λ p. OnOk p (ws.0 ≡ with_variable x (Some val) s.now)) (came ∙ ap result_from_control_flow goes_on.1) added))),
+                by ! (gives_back 𝓛 κ q s (λ n. n ≡ with_env x (Some val) s.now) had ws.0 (subst (λ p. OnOk p (ws.0 ≡ with_env x (Some val) s.now)) (came ∙ ap result_from_control_flow goes_on.1) added))),
             ((λ e. absurd (suc-ne-zero 0 (sym e))), tt),
           )
       | inr stops ↦ rewrite ! 0 (λ (d' : Flow.Denot). ‵ (Flow.own_val d' (w ∷ []))) stops.1 refl $
@@ -130,7 +130,7 @@ env_spec 𝓤 𝓛 𝓜 𝓡 wired =
                   peeks ! (Returned R κ) (Is (Returned R κ)) (shows 𝓛 (Returned R κ)) p (u ∷ []) (λ is_p. lands_as ! refl refl (returned_typed 𝓛 R R-laws κ p (u ∷ []) is_p).0 $
                   returns_within ! (W.post y') refl (look_at ! 0 refl) $ free_all ! refl $ keep ! (2 ∷ 0 ∷ 1 ∷ []) $ nothing ! $ nothing ! $ fjoin ! $ nothing ! $ fjoin ! $ nothing ! $ fjoin ! $
                   suffices ! _ (ends_at 𝓛 f.ended stayed c y' u p (tt, (tt, (tt, tt))) (tt, (tt, (tt, tt)))) $
-                  by ! (leaves 𝓛 κ q s (λ n. n ≡ with_variable x (Some val) s.now) had ws.0 p u is_err (subst (λ p. OnErr p (ws.0 ≡ s.now)) (came ∙ ap result_from_control_flow stops.1) unchanged))))))))),
+                  by ! (leaves 𝓛 κ q s (λ n. n ≡ with_env x (Some val) s.now) had ws.0 p u is_err (subst (λ p. OnErr p (ws.0 ≡ s.now)) (came ∙ ap result_from_control_flow stops.1) unchanged))))))))),
               tt,
             ),
           )
