@@ -5,7 +5,7 @@ ghost use Rattle.base_text.specs.AbsPath.{abs_text};
 ghost use Rattle.base_text.specs.PathOrder.{path_eq};
 ghost use Rattle.pm_loader.specs.Loader.{FileNumbers, file_of, path_key, with_file};
 
-use base_text::{AbsPath, AbsPathBuf, FileId};
+use base_text::{AbsPath, AbsPathBuf, FileId, TryClone, copy_entries};
 use indexmap::IndexMap;
 use std::alloc::{AllocError, Global};
 use std::marker::Model;
@@ -58,6 +58,13 @@ impl MapLoader {
         let path = path.as_path().normalize(alloc)?;
         self.files.insert(path, id)?;
         Ok(())
+    }
+}
+
+impl TryClone for MapLoader {
+    fn try_clone(&self, alloc: Global) -> Result<Self, AllocError> {
+        let files = copy_entries(alloc, &self.files)?;
+        Ok(MapLoader { files })
     }
 }
 
