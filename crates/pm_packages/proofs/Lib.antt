@@ -1,3 +1,4 @@
+pub mod Equalities
 pub mod KindLemmas
 pub mod ManifestLemmas
 pub mod UpdateLemmas

@@ -1,4 +1,5 @@
 pub mod Copies
 pub mod Ids
+pub mod Laws
 pub mod ManifestPath
 pub mod TargetKinds

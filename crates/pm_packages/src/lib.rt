@@ -1,6 +1,7 @@
 //! Packages of a workspace and their targets: what each is once a document of `cargo metadata` is read.
 #![tactic(auto)]
 
+pub mod laws;
 pub mod manifest_path;
 pub mod package;
 pub mod target;
