@@ -9,7 +9,7 @@ use Rattle.crate_values.specs.declared.builder.CrateBuilder.{CrateBuilder}
 use Rattle.input_db.specs.Database.{Database, with_crate_input, with_crate_list}
 use Rattle.crate_graph.specs.Extend.{Id}
 use Rattle.input_db.specs.Identity.{crate_for, identity_of, input_of, number_in}
-use Rattle.input_db.specs.SetInDb.{IsSetInDb, listed_crates, with_member}
+use Rattle.input_db.specs.SetInDb.{HaveOwnNumbers, IsSetInDb, listed_crates, with_member}
 use Rattle.input_db.specs.declared.crate_input.CrateInput.{CrateInput}
 use Rattle.input_db.specs.declared.crate_input.UniqueCrateData.{UniqueCrateData}
 use Rattle.source_files.specs.declared.durability.Durability.TheVariants.{Medium}
@@ -80,3 +80,8 @@ pub record IsSetInSteps (cmp : Id → Id → Ordering) (crates : List CrateBuild
   pub set : IsSetInDb cmp crates old new ids
   pub numbers : set.numbers ≡ (progress_after crates old set.order).finished.numbers
   pub steps : new ≡ with_new_list (progress_after crates old set.order).db (listed_crates set.order set.numbers)
+
+-- a graph that was set last, and whose crates have each a number of its own, leaves the database as it is
+abbrev pub LeavesWhatWasSet : (Id → Id → Ordering) → List CrateBuilder → Database → Database → Type 0
+LeavesWhatWasSet cmp crates old new = (earlier : Database) (ids : tree.BTreeMap Id ℕ) (last : IsSetInSteps cmp crates earlier old ids)
+    → HaveOwnNumbers last.set.order last.set.numbers → new ≡ old

@@ -8,7 +8,7 @@ ghost use Rattle.graph_base.specs.Finish.{IsBehindTargets};
 ghost use Rattle.crate_graph.specs.Graph.{edges, target_of};
 ghost use Rattle.crate_graph.specs.Extend.{Id};
 ghost use Rattle.input_db.specs.Identity.{IsTable, data_of, named_in, number_in};
-ghost use Rattle.input_db.specs.FinishSteps.{IsSetInSteps, finish_crate, progress_after, with_new_list};
+ghost use Rattle.input_db.specs.FinishSteps.{IsSetInSteps, LeavesWhatWasSet, finish_crate, progress_after, with_new_list};
 ghost use Rattle.input_db.specs.SetInDb.{IsSetInDb};
 
 mod finished;
@@ -39,6 +39,8 @@ pub fn set_in_db<D: SourceDatabase>(
     ensures set { IfOk result (IsSetInDb ⟦<CrateBuilderId as Ord>⟧.cmp graph.crates
         (D.seen db.old) (D.seen db.new)) }
     ensures steps { IfOk result (IsSetInSteps ⟦<CrateBuilderId as Ord>⟧.cmp graph.crates
+        (D.seen db.old) (D.seen db.new)) }
+    ensures again { OnOk result (LeavesWhatWasSet ⟦<CrateBuilderId as Ord>⟧.cmp graph.crates
         (D.seen db.old) (D.seen db.new)) }
 {
     let order = graph_base::finish_order(alloc, &graph)?;

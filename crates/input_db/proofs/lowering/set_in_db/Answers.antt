@@ -7,11 +7,12 @@ use Rattle.crate_graph.specs.Graph.{edges}
 use Rattle.crate_values.specs.declared.builder.CrateBuilder.{CrateBuilder}
 use Rattle.input_db.specs.Database.{Database}
 use Rattle.input_db.specs.Identity.{IsTable}
-use Rattle.input_db.specs.FinishSteps.{Progress, progress_after, with_new_list}
+use Rattle.input_db.specs.FinishSteps.{IsSetInSteps, Progress, progress_after, with_new_list}
 use Rattle.input_db.specs.SetInDb.{HaveIdentities, HoldLastInputs, IsSetInDb, KeepsOthers}
 use Rattle.input_db.proofs.IdentityLaws.{clean_paths, identities, shared}
 use Rattle.input_db.proofs.InputLaws.{inputs, kept}
 use Rattle.input_db.proofs.KnownLemmas.{given_is, given_known}
+use Rattle.input_db.proofs.SetAgain.{set_again}
 use Rattle.input_db.proofs.SetLemmas.{crates-with_new_list, keeps_files, listed-with_new_list, progress_after-long}
 use Rattle.input_db.proofs.Run.{final_numbers}
 use Rattle.input_db.proofs.RunLemmas.{run, stable}
@@ -71,7 +72,13 @@ returns g c =
           ∙ listed-with_new_list (progress_after crates old order).db c.in_ok-given.given.items ∙ firsts;
       beside = keeps_files crates old order _ _ ends;
     } in
+    let steps : IsSetInSteps _ crates old (g.D.SourceDatabase.seen c.store_list.new.db) c.in_ok-ids.ids = record {
+      set = set;
+      numbers = refl;
+      steps = ends ∙ ap (with_new_list (progress_after crates old order).db) firsts;
+    } in
     record {
       set = set;
-      steps = record { set = set; numbers = refl; steps = ends ∙ ap (with_new_list (progress_after crates old order).db) firsts };
+      steps = steps;
+      again = λ earlier ids last own. set_again _ crates earlier old _ ids c.in_ok-ids.ids last steps own;
     }
