@@ -151,19 +151,9 @@ Gave-fresh limit left = record {
   cut = partial_line-nil;
 }
 
--- nothing is read where a newline waits
-pub record Idle {S : Type 0} (old : Reader) (input₀ input : S) (line piece : List ℕ) : Type 0 where
-  pub idle : has_newline old.waiting ≡ true → (input ≡ input₀) × (line ++ piece ≡ old.waiting)
-
--- what was looked at has no newline
-no_newline : (piece piece' line line' : List ℕ) → Moves false piece piece' line line' → has_newline line ≡ false → has_newline (line ++ piece) ≡ false
-no_newline piece piece' line line' moves uncut =
-    ap has_newline (moved false piece piece' line line' moves ∙ ap (λ p. line' ++ p) (moves.whole refl) ∙ append-nil line') ∙ moved_uncut false piece piece' line line' moves uncut
-
-pub not_idle : {S : Type 0} (old : Reader) (input₀ input : S) (line piece line' piece' : List ℕ) → Idle old input₀ input line piece → Moves false piece piece' line line' → has_newline line ≡ false
-    → has_newline old.waiting ≡ true → ⊥
-not_idle old input₀ input line piece line' piece' idle moves uncut waits =
-    let here = idle.idle waits in true≢false (sym waits ∙ ap has_newline (sym here.1) ∙ no_newline piece piece' line line' moves uncut)
+-- a piece of which no line was taken has no newline
+pub piece_uncut : {piece piece' line line' : List ℕ} → Moves false piece piece' line line' → has_newline piece ≡ false
+piece_uncut moves = ap has_newline (moves.piece_is ∙ ap (λ p. moves.part ++ p) (moves.whole refl) ∙ append-nil moves.part) ∙ moves.uncut
 
 -- too many bytes are reported exactly where there are
 module _ (limit : ℕ) (left' : Option (List ℕ)) (given : List (List ℕ)) (all : List ℕ) (reader' : Reader) where

@@ -1,3 +1,4 @@
+mod Called
 pub mod Gaves
 pub mod Parts
 pub mod Numbers

@@ -1,5 +1,5 @@
 -- What one read gives, and how a line is taken from it.
-use Rattle.std.specs.Prelude.{◌≡◌, ℕ, ◌+◌, ◌≤◌, Bool, false, List, [], ◌++◌, Option, length, take}
+use Rattle.std.specs.Prelude.{◌≡◌, ℕ, ◌+◌, ◌≤◌, Bool, true, false, List, [], ◌++◌, Option, Some, None, Result, Ok, Err, length, take}
 use Rattle.std.specs.Io.KnownBytes.{Consumes, IsAtEnd}
 use Rattle.outside.specs.Causes.{Rose}
 use Rattle.bounded_lines.specs.Lines.{has_newline}
@@ -26,6 +26,15 @@ pub record Reads (room count : ℕ) (left left' : Option (List ℕ)) (piece : Li
   pub piece_is : piece ≡ take room bytes
   pub end : count ≡ 0 → IsAtEnd left'
 
+-- what a call does to its source: it is read once, and not at all where there was no memory; of what it gave those within the
+-- room are the piece
+abbrev pub ReadsOnce : {S : Type 0} → (S → Option (List ℕ) → S → Type 0) → ℕ → Result ℕ LineError → List ℕ → S → S → Type 0
+ReadsOnce gives room (Ok count) piece old new = (bytes : List ℕ) × gives old (Some bytes) new × (length bytes ≡ count) × (piece ≡ take room bytes)
+ReadsOnce gives room (Err ReadFault) piece old new = gives old None new
+ReadsOnce gives room (Err TooMany) piece old new = ⊥
+ReadsOnce gives room (Err OutOfMemory) piece old new = new ≡ old
+ReadsOnce gives room (Err Ended) piece old new = ⊥
+
 -- an error of a read has its cause
 abbrev pub HasCauseOf : LineError → ℕ → ℕ → Type 0
 HasCauseOf ReadFault before now = Rose before now
@@ -37,3 +46,11 @@ HasCauseOf Ended before now = ⊥
 abbrev pub of_piece_error : ReadError → LineError
 of_piece_error read.ReadFault = ReadFault
 of_piece_error read.OutOfMemory = OutOfMemory
+
+-- whether an answer reports a fault of the source
+abbrev pub is_read_fault : {T : Type 0} → Result T LineError → Bool
+is_read_fault (Ok line) = false
+is_read_fault (Err ReadFault) = true
+is_read_fault (Err TooMany) = false
+is_read_fault (Err OutOfMemory) = false
+is_read_fault (Err Ended) = false

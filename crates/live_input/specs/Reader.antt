@@ -59,11 +59,18 @@ TooManyExactly (Err TooMany) Spent = Spent
 TooManyExactly (Err OutOfMemory) Spent = Unit {0}
 TooManyExactly (Err Ended) Spent = Unit {0}
 
+-- a read failed: what was taken of the source is the lines that were given, and bytes with no newline
+pub record Breaks (new : Reader) (before now : ℕ) : Type 0 where
+  pub rose : Rose before now
+  pub not_done : new.is_done ≡ false
+  pub not_past : new.is_past ≡ false
+  pub uncut : has_newline new.waiting ≡ false
+
 -- what an answer means: a line is one step on, no line is the end, and an error has its cause
 abbrev pub Tells : {Z : Type 0} → Result (Option (Vec ℕ Z)) LineError → Reader → Reader → ℕ → ℕ → Type 0
 Tells (Ok (Some line)) old new before now = bytes_ahead new < bytes_ahead old
 Tells (Ok None) old new before now = new.is_done ≡ true
-Tells (Err ReadFault) old new before now = Rose before now
+Tells (Err ReadFault) old new before now = Breaks new before now
 Tells (Err TooMany) old new before now = (new.is_past ≡ true) × (has_newline new.waiting ≡ false)
 Tells (Err OutOfMemory) old new before now = Unit {0}
 Tells (Err Ended) old new before now = old.has_ended ≡ true

@@ -83,7 +83,9 @@ impl Model for Lines {
 }
 
 impl Lines {
+    ghost use Rattle.live_input.specs.Pieces.{is_read_fault};
     ghost use Rattle.live_input.specs.Reader.{Answers, Gave, IsSpent, Tells, TooManyExactly, fresh, lines_after};
+    ghost use Rattle.bounded_lines.specs.Calls.{ReadsAtOnce};
     ghost use Rattle.bounded_lines.specs.Lines.{has_newline};
     ghost use Rattle.live_input.specs.declared.lines.LineError.TheVariants.{Ended};
 
@@ -103,13 +105,14 @@ impl Lines {
     }
 
     /// Whether a call was refused.
-    pub fn has_ended(&self) -> bool
+    pub fn ended(&self) -> bool
         ensures { result ≡ self.now.has_ended }
     {
         self.has_ended
     }
 
-    /// The next line, or none at the end of the input. After a refusal nothing is read.
+    /// The next line, or none at the end of the input. Nothing is read while a newline waits, nor after
+    /// a refusal.
     pub fn next<S: ByteSource>(&mut self, input: &mut S) -> Result<Option<Vec<u8>>, LineError>
         ensures gave { (limit : ℕ) (first : Option (List ℕ)) (given : List (List ℕ))
             → Gave limit first (S.left input.old) given self.old
@@ -120,6 +123,8 @@ impl Lines {
         ensures answers { Answers result self.old self.new
             (S.faults input.old) (S.faults input.new) }
         ensures at_once { IsTrue (has_newline self.old.waiting) → input.new ≡ input.old }
+        ensures reads { ReadsAtOnce S.read_gives (is_read_fault result) self.old.waiting
+            input.old input.new }
         ensures ended { IsTrue self.old.has_ended
             → (result ≡ Err Ended) × (self.new ≡ self.old) × (input.new ≡ input.old) }
     {
@@ -143,7 +148,8 @@ impl Lines {
             → Gave limit first (S.left input.new) (lines_after given result) self.new }
         ensures told { Tells result self.old self.new (S.faults input.old) (S.faults input.new) }
         ensures not_ended { self.new.has_ended ≡ false }
-        ensures at_once { IsTrue (has_newline self.old.waiting) → input.new ≡ input.old }
+        ensures reads { ReadsAtOnce S.read_gives (is_read_fault result) self.old.waiting
+            input.old input.new }
         ensures faults { S.faults input.old ≤ S.faults input.new }
     {
         if self.is_done {

@@ -2,7 +2,7 @@
 
 ghost use Rattle.std.specs.Prelude.{◌≡◌, ◌+◌, ◌^◌, ◌<◌, ◌≤◌, [], IfErr, IfOk, OnErr};
 ghost use Rattle.std.specs.Io.KnownBytes.{Consumes};
-ghost use Rattle.live_input.specs.Pieces.{HasCauseOf, Moves, Reads};
+ghost use Rattle.live_input.specs.Pieces.{HasCauseOf, Moves, Reads, ReadsOnce};
 
 use crate::lines::LineError;
 use base_text::ByteSource;
@@ -45,6 +45,7 @@ pub(crate) fn read_within<S: ByteSource>(
         Reads room count (S.left input.old) (S.left input.new) piece.new) }
     ensures kept { OnErr result ((piece.new ≡ [])
         × Consumes (S.left input.old) (S.left input.new) []) }
+    ensures once { ReadsOnce S.read_gives room result piece.new input.old input.new }
     ensures cause { IfErr result (λ e.
         HasCauseOf e (S.faults input.old) (S.faults input.new)) }
     ensures faults { S.faults input.old ≤ S.faults input.new }

@@ -1,11 +1,33 @@
-use Rattle.std.proofs.Common.{◌≡◌, ◌-◌, ◌++◌, ◌∷◌, ◌==◌, ◌∙◌, [], Ok, false, true, length, length-take, refl, sym, ap, subst, arith}
+use Rattle.std.proofs.Common.{◌≡◌, ◌-◌, ◌++◌, ◌∷◌, ◌==◌, ◌∙◌, [], Ok, false, true, length, length-append, length-take, refl, sym, ap, subst, arith}
+use Rattle.bounded_lines.specs.Calls.{none}
 use Rattle.bounded_lines.specs.Lines.{last_line}
 use Rattle.bounded_lines.proofs.Bytes.{empty_from, some_from}
 use Rattle.live_input.specs.Pieces.{Moves}
-use Rattle.live_input.specs.Reader.{lines_after}
-use Rattle.live_input.proofs.Gaves.{not_idle, Gave-moved, Gave-end, Gave-line, Gave-read, moved_uncut, moved_length, after_end}
+use Rattle.live_input.specs.Reader.{Reader, lines_after}
+use Rattle.live_input.proofs.Called.{Within-fresh, Within-read}
+use Rattle.live_input.proofs.Gaves.{Gave-moved, Gave-end, Gave-line, Gave-read, moved_uncut, moved_length, piece_uncut, after_end}
 use Rattle.live_input.proofs.lines.Lines.read_line.Goals.{then-is_empty, else-is_empty}
 use Rattle.live_input.proofs.lines.Lines.read_line.Goals as goal
+
+pub returns-then-self-clause-reads : goal.returns-then-self-clause-reads
+returns-then-self-clause-reads g c = record { bytes = []; reads = none }
+
+pub loop-self-init : goal.loop-self-init
+loop-self-init g c =
+    let line = c.self.inside.line.items in
+    let not_ended : c.self.inside.has_ended ≡ false = subst (λ (r : Reader). r.has_ended ≡ false) (sym c.self.view_is) c.requires in
+    rw (← c.self.view_is) (
+      record {
+        keeps = λ limit first given gave. gave;
+        uncut = c.self.invariant.0;
+        small = c.self.invariant.1;
+        ahead = omega (arith, length-append line c.self.inside.piece);
+        not_done = c.if-self.false;
+        not_ended = not_ended;
+        later = omega arith;
+      },
+      Within-fresh g.S.ByteSource.read_gives _ line c.self.inside.piece _ c.self.invariant.0,
+    )
 
 pub returns-then-count-eq0-clause-gave : goal.returns-then-count-eq0-clause-gave
 returns-then-count-eq0-clause-gave g c = λ limit first given gave.
@@ -21,6 +43,12 @@ returns-then-count-eq0-clause-gave g c = λ limit first given gave.
       | else-is_empty w ↦ ap (λ r. lines_after given (Ok r)) w.result-is ∙ ap (λ l. given ++ l ∷ []) last ∙ (after_end given c.move_line.new.line.items).1 (λ e. some_from c.replace-last.result.items (w.if-is_empty.ensures ∙ ap (λ n. n == 0) c.replace-last.result.ok.0) (last ∙ e))
     ] in
     Gave-end _ _ _ _ _ _ [] _ _ _ _ _ c.loop-self.invariant.0.not_done uncut here _ _ c.in_ok-count.ensures.ok c.if-count-eq0.true c.if-self-2.false (moves.whole refl) _ none _ lines
+
+pub returns-then-count-eq0-clause-reads : goal.returns-then-count-eq0-clause-reads
+returns-then-count-eq0-clause-reads g c =
+    let moves : Moves false c.loop-self.self-inside.piece c.move_line.new.piece c.loop-self.self-inside.line.items c.move_line.new.line.items =
+    subst (λ f. Moves f c.loop-self.self-inside.piece c.move_line.new.piece c.loop-self.self-inside.line.items c.move_line.new.line.items) c.if-not-branch.true c.in_ok-move_line.ensures.ok in
+    (Within-read _ _ _ _ _ _ c.if-self-2.false (piece_uncut moves) c.loop-self.invariant.1 _ _ _ _ c.in_ok-count.ensures.once).well
 
 pub loop-self-preserved : goal.loop-self-preserved
 loop-self-preserved g c =
@@ -40,7 +68,7 @@ loop-self-preserved g c =
         not_ended = c.loop-self.invariant.0.not_ended;
         later = omega (arith, c.loop-self.invariant.0.later, c.in_ok-count.ensures.faults);
       },
-      record { idle = λ waits. absurd (not_idle _ _ _ _ _ _ _ c.loop-self.invariant.1 moves c.loop-self.invariant.0.uncut waits) },
+      Within-read _ _ _ _ _ _ c.if-self-2.false (piece_uncut moves) c.loop-self.invariant.1 _ _ _ _ c.in_ok-count.ensures.once,
     )
 
 pub returns-clause-gave : goal.returns-clause-gave
