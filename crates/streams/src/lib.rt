@@ -3,12 +3,15 @@
 //! fail after a write.
 #![tactic(auto)]
 
-ghost use Rattle.std.specs.Prelude.{◌≡◌, IfOk, take};
+ghost use Rattle.std.specs.Prelude.{◌≡◌, None};
 ghost use Rattle.std.specs.Io.{WritesAtMost};
-ghost use Rattle.std.specs.Io.KnownBytes.{Appends};
+ghost use Rattle.std.specs.Io.KnownBytes.{WriteAppends};
+ghost use Rattle.outside.specs.Causes.{WriteHasCause};
+ghost use Rattle.streams.specs.Adapters.{WritesFront};
 
 use base_text::{ByteSink, ByteSource, Failed, SinkError};
 use std::io::{Read, Write};
+use std::marker::Model;
 
 /// A reader as a source. Each error that it gives is a fault.
 #[derive(Drop)]
@@ -53,6 +56,14 @@ pub struct WriterSink<W> {
     faults: u64,
 }
 
+impl<W> Model for WriterSink<W> {
+    ghost use Rattle.streams.specs.Adapters.{Adapter};
+
+    ghost Value = { Adapter W };
+
+    ghost view = { λ s. record { stream = s.writer; faults = s.faults } };
+}
+
 impl<W> WriterSink<W> {
     pub fn new(writer: W) -> Self
         ensures { result.faults ≡ 0 }
@@ -62,13 +73,17 @@ impl<W> WriterSink<W> {
 }
 
 impl<W: Write> ByteSink for WriterSink<W> {
-    ghost use Rattle.std.specs.Prelude.{None};
-
     ghost held = { λ _. None };
 
     ghost faults = { λ s. s.faults };
 
-    fn write(&mut self, piece: &[u8]) -> Result<usize, SinkError> {
+    fn write(&mut self, piece: &[u8]) -> Result<usize, SinkError>
+        ensures bound { WritesAtMost result piece.now }
+        ensures bytes { WriteAppends None None result piece.now }
+        ensures cause { WriteHasCause self.old.faults self.new.faults result piece.now }
+        ensures front { WritesFront (W.contents self.old.stream) (W.contents self.new.stream)
+            result piece.now }
+    {
         let result = write_through(&mut self.writer, piece);
         if !matches!(result, Ok(count) if count > 0 || piece.is_empty()) {
             self.faults = self.faults.saturating_add(1);
@@ -76,16 +91,18 @@ impl<W: Write> ByteSink for WriterSink<W> {
         result
     }
 
-    fn faults(&self) -> u64 {
+    fn faults(&self) -> u64
+        ensures { result ≡ self.now.faults }
+    {
         self.faults
     }
 }
 
-// One write, and a flush after it. What it answers was written, where the writer shows its bytes.
+// One write, and a flush after it. Where the flush fails the write counts as failed, though its bytes may
+// have gone through.
 fn write_through<W: Write>(writer: &mut W, piece: &[u8]) -> Result<usize, SinkError>
     ensures bound { WritesAtMost result piece.now }
-    ensures taken { IfOk result (λ count.
-        Appends (W.contents writer.old) (W.contents writer.new) (take count piece.now)) }
+    ensures front { WritesFront (W.contents writer.old) (W.contents writer.new) result piece.now }
 {
     match writer.write(piece) {
         Ok(count) => match writer.flush() {
