@@ -7,7 +7,8 @@ use Rattle.cargo_values.specs.Names.{package_id_at}
 use Rattle.cargo_values.specs.Target.{target_at}
 use Rattle.cargo_values.specs.declared.names.PackageId.{PackageId}
 use Rattle.cargo_values.specs.declared.target.Target.{Target}
-use Rattle.cargo_msgs.specs.Artifact.{artifact_from, build_from, profile_at}
+use Rattle.cargo_msgs.specs.Artifact.{artifact_from, profile_at}
+use Rattle.cargo_msgs.specs.Gathering.{build_from}
 use Rattle.cargo_msgs.specs.declared.artifact.Artifact.{Artifact}
 use Rattle.cargo_msgs.specs.declared.artifact.ArtifactProfile.{ArtifactProfile}
 use Rattle.cargo_msgs.specs.declared.artifact.ArtifactBuild.{ArtifactBuild}

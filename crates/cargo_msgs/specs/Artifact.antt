@@ -9,7 +9,6 @@ use Rattle.cargo_values.specs.Target.{target_at, target_data}
 use Rattle.cargo_msgs.specs.Debuginfo.{debuginfo_at, debuginfo_data}
 use Rattle.cargo_msgs.specs.declared.artifact.Artifact.{Artifact}
 use Rattle.cargo_msgs.specs.declared.artifact.ArtifactProfile.{ArtifactProfile}
-use Rattle.cargo_msgs.specs.declared.artifact.ArtifactBuild.{ArtifactBuild}
 use Rattle.cargo_msgs.specs.declared.debuginfo.ArtifactDebuginfo.TheVariants as debuginfo
 
 -- a profile
@@ -53,16 +52,6 @@ artifact_from ms = do
     executable = executable;
     fresh = fresh;
   })
-
--- how an artifact was built, and its files, by the members of its document
-unfoldable pub build_from : Members → Reading ArtifactBuild
-build_from ms = do
-  profile ← required_member (codes "profile") profile_at ms
-  features ← required_member (codes "features") (list_at text_at) ms
-  filenames ← required_member (codes "filenames") (list_at text_at) ms
-  executable ← optional_member (codes "executable") text_at ms
-  fresh ← required_member (codes "fresh") flag_at ms
-  Ok (record { profile = profile; features = features; filenames = filenames; executable = executable; fresh = fresh })
 
 -- an artifact as its document gives it
 unfoldable pub artifact_at : Data → Reading Artifact

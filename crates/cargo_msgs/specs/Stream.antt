@@ -1,5 +1,5 @@
 -- the messages of a stream: one for each line of its bytes, or why a line has none
-use Rattle.std.specs.Prelude.{◌≡◌, if◌then◌else◌, ℕ, ◌⊎◌, Bool, true, false, List, [], ◌∷◌, ◌++◌, Option, None, Some, Result, Ok, Err, codes, map}
+use Rattle.std.specs.Prelude.{◌≡◌, ◌≤◌, if◌then◌else◌, ℕ, ◌⊎◌, Bool, true, false, List, [], ◌∷◌, ◌++◌, Option, None, Some, Result, Ok, Err, codes, length, map}
 use Rattle.std.specs.Str.{is_utf8}
 use Rattle.outside.specs.Causes.{Rose}
 use Rattle.bounded_lines.specs.Part as lines
@@ -68,6 +68,36 @@ Tells (Some (Err NotUtf8)) old new before now = Unit {0}
 Tells (Some (Err TooLong)) old new before now = Unit {0}
 Tells (Some (Err ReadFault)) old new before now = Rose before now
 Tells (Some (Err OutOfMemory)) old new before now = Unit {0}
+
+-- whether an answer reports that memory ran out
+abbrev pub is_out_of_memory : Option Item → Bool
+is_out_of_memory None = false
+is_out_of_memory (Some (Ok m)) = false
+is_out_of_memory (Some (Err NotUtf8)) = false
+is_out_of_memory (Some (Err TooLong)) = false
+is_out_of_memory (Some (Err ReadFault)) = false
+is_out_of_memory (Some (Err OutOfMemory)) = true
+
+-- whether an answer reports a fault of the source
+abbrev pub is_read_fault : Option Item → Bool
+is_read_fault None = false
+is_read_fault (Some (Ok m)) = false
+is_read_fault (Some (Err NotUtf8)) = false
+is_read_fault (Some (Err TooLong)) = false
+is_read_fault (Some (Err ReadFault)) = true
+is_read_fault (Some (Err OutOfMemory)) = false
+
+-- a reader gave these lines of a source, and at most one more
+pub record GaveOneMore (first left : Option (List ℕ)) (lines : List (Option (List ℕ))) (reader : Reader) : Type 0 where
+  pub more : List (Option (List ℕ))
+  pub few : length more ≤ 1
+  pub gave : Gave first left (lines ++ more) reader
+
+-- what a call answers: what it means, whether it is the last, and that no fault is forgotten
+pub record Answers {S : Type 0} (result : Option Item) (old new : Stream S) (before now : ℕ) : Type 0 where
+  pub told : Tells result old new before now
+  pub fails : old.has_failed ≡ false → new.has_failed ≡ is_fatal result
+  pub later : before ≤ now
 
 -- a call answers the item, unless memory runs out
 abbrev pub GivesItem : Item → Item → Type 0

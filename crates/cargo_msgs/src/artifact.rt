@@ -3,7 +3,8 @@
 ghost use Rattle.std.specs.Prelude.{◌≡◌};
 ghost use Rattle.serde_json.specs.View.{members_view};
 ghost use Rattle.json_fields.specs.Outcome.{Gives};
-ghost use Rattle.cargo_msgs.specs.Artifact.{artifact_at, artifact_data, artifact_from, build_from, profile_at, profile_data};
+ghost use Rattle.cargo_msgs.specs.Artifact.{artifact_at, artifact_data, artifact_from, profile_at, profile_data};
+ghost use Rattle.cargo_msgs.specs.Gathering.{build_from};
 ghost use Rattle.cargo_msgs.specs.laws.Artifact.{artifact-round_trips, profile-round_trips};
 
 use crate::debuginfo::ArtifactDebuginfo;
@@ -128,7 +129,7 @@ struct ArtifactBuild {
     fresh: bool,
 }
 
-#[tactic(auto, unfolding(crate::specs::Artifact::build_from, json_fields::specs::Fields::required_member, json_fields::specs::Fields::optional_member))]
+#[tactic(auto, unfolding(crate::specs::Gathering::build_from, json_fields::specs::Fields::required_member, json_fields::specs::Fields::optional_member))]
 fn read_build(alloc: Global, fields: &Map<String, Value>) -> Result<ArtifactBuild, ReadError>
     ensures exact { Gives result (build_from (members_view fields.now.entries)) }
 {

@@ -1,7 +1,9 @@
 //! The messages of a stream, one for each of its lines.
 
 ghost use Rattle.std.specs.Prelude.{◌≡◌, ◌≤◌, false, ℕ, List, Option, None, IfOk, IsTrue};
-ghost use Rattle.cargo_msgs.specs.Stream.{GaveMessages, GivesItem, Item, Tells, is_fatal, item_of_bytes, items_after, new_stream};
+ghost use Rattle.bounded_lines.specs.Calls.{ReadsAtOnce};
+ghost use Rattle.bounded_lines.specs.Reader.{Gave};
+ghost use Rattle.cargo_msgs.specs.Stream.{Answers, GaveMessages, GaveOneMore, GivesItem, Item, Tells, is_fatal, is_out_of_memory, is_read_fault, item_of_bytes, items_after, new_stream};
 
 use crate::messages::Message;
 use base_text::ByteSource;
@@ -64,16 +66,20 @@ impl Message {
 
 impl<S: ByteSource> MessageIter<S> {
     /// The message of the next line, or why it has none; none at the end. After a fault of the source,
-    /// and out of memory, none is given any more.
+    /// and out of memory, none is given any more, and nothing is read.
     pub fn next(&mut self) -> Option<Result<Message, ItemFault>>
-        ensures gave { self.new.has_failed ≡ false → (first : Option (List ℕ)) (given : List Item)
+        ensures gave { is_out_of_memory result ≡ false
+            → (first : Option (List ℕ)) (given : List Item)
             → GaveMessages first (S.left self.old.input) given self.old.lines
             → GaveMessages first (S.left self.new.input) (items_after given result) self.new.lines }
-        ensures told { Tells result self.old self.new
+        ensures taken { (first : Option (List ℕ)) (lines : List (Option (List ℕ)))
+            → Gave first (S.left self.old.input) lines self.old.lines
+            → GaveOneMore first (S.left self.new.input) lines self.new.lines }
+        ensures reads { ReadsAtOnce S.read_gives (is_read_fault result) self.old.lines.piece
+            self.old.input self.new.input }
+        ensures answers { Answers result self.old self.new
             (S.faults self.old.input) (S.faults self.new.input) }
-        ensures fails { self.old.has_failed ≡ false → self.new.has_failed ≡ is_fatal result }
         ensures ended { IsTrue self.old.has_failed → (result ≡ None) × (self.new ≡ self.old) }
-        ensures faults { S.faults self.old.input ≤ S.faults self.new.input }
     {
         if self.has_failed {
             return None;
@@ -89,9 +95,15 @@ impl<S: ByteSource> MessageIter<S> {
     // The item of the next line.
     fn read_item(&mut self) -> Option<Result<Message, ItemFault>>
         requires { self.old.has_failed ≡ false }
-        ensures gave { is_fatal result ≡ false → (first : Option (List ℕ)) (given : List Item)
+        ensures gave { is_out_of_memory result ≡ false
+            → (first : Option (List ℕ)) (given : List Item)
             → GaveMessages first (S.left self.old.input) given self.old.lines
             → GaveMessages first (S.left self.new.input) (items_after given result) self.new.lines }
+        ensures taken { (first : Option (List ℕ)) (lines : List (Option (List ℕ)))
+            → Gave first (S.left self.old.input) lines self.old.lines
+            → GaveOneMore first (S.left self.new.input) lines self.new.lines }
+        ensures reads { ReadsAtOnce S.read_gives (is_read_fault result) self.old.lines.piece
+            self.old.input self.new.input }
         ensures told { Tells result self.old self.new
             (S.faults self.old.input) (S.faults self.new.input) }
         ensures faults { S.faults self.old.input ≤ S.faults self.new.input }
