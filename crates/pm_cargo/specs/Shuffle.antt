@@ -1,5 +1,5 @@
 -- Two documents of `cargo metadata` that differ in nothing but the order of their packages, their nodes, the entries of these, and their members.
-use Rattle.std.specs.Prelude.{◌≡◌, ◌↔◌, ℕ, Bool, List, map, Ok}
+use Rattle.std.specs.Prelude.{◌≡◌, ◌↔◌, ℕ, Bool, List, [], map, Ok}
 use Rattle.std.specs.List.{Contains}
 use Rattle.std.specs.declared.cmp.Ordering.{Ordering}
 use Rattle.base_values.specs.ByText.{text_cmp}
@@ -17,9 +17,9 @@ use Rattle.pm_cargo.specs.Workspace.{Workspace}
 abbrev pub by_node : Node → Node → Ordering
 by_node n m = text_cmp n.id.repr m.id.repr
 
--- a node whose entries stand in the order of their packages
+-- a node as a workspace is read of it: its entries in the order of their packages, without the plain list of their ids, which is not read
 abbrev pub with_sorted_entries : Node → Node
-with_sorted_entries node = record node { deps = sorted by_package node.deps }
+with_sorted_entries node = record node { deps = sorted by_package node.deps; dependencies = [] }
 
 -- the nodes of a document in the order of their ids, each with its entries in order
 abbrev pub nodes_in_order : Metadata → List Node

@@ -9,3 +9,4 @@ ghost use Rattle.pm_cargo.specs.Shuffle.{IsReadAlike, IsShuffle};
 pub fn shuffled_documents_give_one_workspace()
     ensures { (a b : Metadata) → IsShuffle a b → IsReadAlike a b }
 {}
+/// The plain list of a node's dependencies is not read, so that its order plays no part.
