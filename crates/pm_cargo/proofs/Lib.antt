@@ -1,3 +1,4 @@
+pub mod Equalities
 pub mod WithinLemmas
 pub mod QueryLemmas
 pub mod ReadLemmas
