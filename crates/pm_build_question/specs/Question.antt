@@ -5,8 +5,9 @@ use Rattle.outside.specs.declared.command.CommandLine.{CommandLine}
 use Rattle.pm_cargo.specs.Workspace.{Workspace}
 use Rattle.pm_config.specs.declared.config.CargoConfig.{CargoConfig}
 use Rattle.pm_config.specs.declared.tool.Tool.TheVariants.{Cargo}
+use Rattle.pm_config.specs.Variables.{with_channel, with_last_variable}
 use Rattle.pm_sysroot.specs.Ask.{Means}
-use Rattle.pm_sysroot.specs.Questions.{question, with_variable}
+use Rattle.pm_sysroot.specs.Questions.{question}
 use Rattle.pm_sysroot.specs.Toolchain.{Toolchain}
 use Rattle.pm_build_question.specs.Words.{build_words, is_unstable, takes_compile_time_deps}
 
@@ -17,12 +18,7 @@ wraps_compiler config version = config.wrap_rustc_in_build_scripts && not (takes
 -- the command, which runs the compiler through the program that asks, where that is wanted
 abbrev pub with_wrapper : Bool → List ℕ → CommandLine → CommandLine
 with_wrapper wraps myself line =
-    if wraps then with_variable (codes "RA_RUSTC_WRAPPER") (codes "1") (with_variable (codes "RUSTC_WRAPPER") myself line) else line
-
--- the command, which may use unstable options, where that is wanted
-abbrev pub with_channel : Bool → CommandLine → CommandLine
-with_channel allows_unstable line =
-    if allows_unstable then with_variable (codes "__CARGO_TEST_CHANNEL_OVERRIDE_DO_NOT_USE_THIS") (codes "nightly") line else line
+    if wraps then with_last_variable (codes "RA_RUSTC_WRAPPER") (codes "1") (with_last_variable (codes "RUSTC_WRAPPER") myself line) else line
 
 -- the build by `cargo check`, in the workspace's root
 abbrev pub cargo_question : CargoConfig → Workspace → Toolchain → Option Parts → Means → CommandLine

@@ -3,14 +3,14 @@
 ghost use Rattle.std.specs.Prelude.{◌≡◌, IfOk, option_copied};
 ghost use Rattle.base_text.specs.AbsPath.{abs_text};
 ghost use Rattle.pm_sysroot.specs.Ask.{means_of};
-ghost use Rattle.pm_build_question.specs.Question.{build_question, cargo_question, configured_question, with_channel, with_wrapper, wraps_compiler};
+ghost use Rattle.pm_build_question.specs.Question.{build_question, cargo_question, configured_question, with_wrapper, wraps_compiler};
 
 use crate::words::{build_words, is_unstable, takes_compile_time_deps};
 use base_text::{AbsPath, ByText, CommandLine, Items, Runner, Text, TryClone, Version};
 use cargo_meta::words::push_words;
 use pm_cargo::CargoWorkspace;
-use pm_config::{CargoConfig, Tool};
-use pm_sysroot::{Ask, Sysroot, set_variable};
+use pm_config::{CargoConfig, Tool, allow_unstable, set_variable};
+use pm_sysroot::{Ask, Sysroot};
 use std::alloc::{AllocError, Global};
 use trees::Tree;
 
@@ -95,7 +95,7 @@ fn cargo_question<R: Runner, T: Tree>(
     let line = sysroot.question(alloc, Tool::Cargo, dir.as_str(), words, ask)?;
     let wraps = wraps_compiler(config, version);
     let line = with_wrapper(alloc, line, wraps, ask.tools.myself.as_str())?;
-    with_channel(alloc, line, is_unstable(workspace.manifest_path(), version))
+    allow_unstable(alloc, line, is_unstable(workspace.manifest_path(), version))
 }
 
 // Whether the compiler is run through the program that asks.
@@ -119,19 +119,4 @@ fn with_wrapper(
     }
     let line = set_variable(alloc, line, "RUSTC_WRAPPER", myself)?;
     set_variable(alloc, line, "RA_RUSTC_WRAPPER", "1")
-}
-
-// The command, which may use unstable options, where that is wanted.
-fn with_channel(
-    alloc: Global,
-    line: CommandLine,
-    allows_unstable: bool,
-) -> Result<CommandLine, AllocError>
-    ensures { IfOk result (λ set. set ≡ with_channel allows_unstable line) }
-{
-    if !allows_unstable {
-        return Ok(line);
-    }
-    let name = "__CARGO_TEST_CHANNEL_OVERRIDE_DO_NOT_USE_THIS";
-    set_variable(alloc, line, name, "nightly")
 }

@@ -11,23 +11,24 @@ use Rattle.cargo_meta.specs.Answer.{of_answer}
 use Rattle.cargo_meta.specs.Command.{Settings, command_of, words_of}
 use Rattle.cargo_values.specs.declared.errors.Error.{Error}
 use Rattle.cargo_meta.specs.declared.metadata.Metadata.{Metadata}
+use Rattle.pm_config.specs.Variables.{with_channel}
 use Rattle.pm_config.specs.declared.metadata_config.CargoMetadataConfig.{CargoMetadataConfig}
 use Rattle.pm_config.specs.declared.tool_root.ToolRoot.{ToolRoot}
-use Rattle.pm_fetch.specs.Fetch.{Fetch, fetch_by, fetch_of}
-use Rattle.pm_fetch.specs.Options.{full_options, options_of, platform_words}
-use Rattle.pm_fetch.specs.Questions.{full_question, question}
+use Rattle.pm_fetch.specs.Fetch.{Fetch, fetch_by, fetch_of, full_line}
+use Rattle.pm_fetch.specs.Options.{full_options, has_unstable, options_of, platform_words}
+use Rattle.pm_fetch.specs.Questions.{full_question, metadata_question}
 use Rattle.pm_fetch.specs.Settings.{settings_of}
 
 -- the command with its options asks the full question
 pub full_is : (manifest dir : List ℕ) (config : CargoMetadataConfig) (root : ToolRoot) (options : List (List ℕ))
-    → command_of (record (settings_of manifest dir config root) { other_options = options }) ≡ question [] options manifest dir config root
+    → command_of (record (settings_of manifest dir config root) { other_options = options }) ≡ metadata_question [] options manifest dir config root
 unfolding words_of
 full_is manifest dir config root options = refl
 
 -- and for members alone the light one
 pub light_is : (manifest dir : List ℕ) (config : CargoMetadataConfig) (root : ToolRoot) (options : List (List ℕ))
     → command_of (record (settings_of manifest dir config root) { other_options = options; no_deps = true })
-    ≡ question (codes "--no-deps" ∷ []) options manifest dir config root
+    ≡ metadata_question (codes "--no-deps" ∷ []) options manifest dir config root
 unfolding words_of
 light_is manifest dir config root options = refl
 
@@ -50,7 +51,7 @@ the_fetch full no_deps light = record { full = full; no_deps = no_deps; light = 
 
 -- what is ready to be fetched, by the command that was set and then limited
 pub prepared : (set between limited : Settings) (options : List (List ℕ)) (no_deps : Bool) (answers : List (Question × Output)) (full : CommandLine) (light : Result Metadata Error)
-    → full ≡ command_of (record set { other_options = full_options options })
+    → full ≡ full_line set options
     → between ≡ record set { other_options = full_options options }
     → limited ≡ record between { other_options = options; no_deps = true }
     → light ≡ of_answer (command_of limited) (answer_of answers (command_of limited))
@@ -60,7 +61,7 @@ prepared set between limited options no_deps answers full light is_full is_betwe
     ap command_of is_limited ∙ ap (λ (s : Settings). command_of (record s { other_options = options; no_deps = true })) is_between in
     let answer = is_light ∙ ap (λ (l : CommandLine). of_answer l (answer_of answers l)) line in
     ap (λ (f : CommandLine). the_fetch f no_deps light) is_full
-    ∙ ap (λ (l : Result Metadata Error). the_fetch (command_of (record set { other_options = full_options options })) no_deps l) answer
+    ∙ ap (λ (l : Result Metadata Error). the_fetch (full_line set options) no_deps l) answer
 
 -- and by the manifest and the configuration
 pub by_settings : (manifest dir : List ℕ) (config : CargoMetadataConfig) (root : ToolRoot) (no_deps : Bool) (answers : List (Question × Output))
@@ -70,5 +71,5 @@ by_settings manifest dir config root no_deps answers set options is_set is_optio
     let all = options_of manifest config in
     ap (λ (s : Settings). fetch_by s options no_deps answers) is_set
     ∙ ap (λ (o : List (List ℕ)). fetch_by (settings_of manifest dir config root) o no_deps answers) is_options
-    ∙ ap (λ (f : CommandLine). the_fetch f no_deps (fetch_by (settings_of manifest dir config root) all no_deps answers).light) (full_is manifest dir config root (full_options all))
+    ∙ ap (λ (f : CommandLine). the_fetch f no_deps (fetch_by (settings_of manifest dir config root) all no_deps answers).light) (ap (with_channel (has_unstable all)) (full_is manifest dir config root (full_options all)))
     ∙ ap (λ (l : CommandLine). the_fetch (full_question manifest dir config root) no_deps (of_answer l (answer_of answers l))) (light_is manifest dir config root all)

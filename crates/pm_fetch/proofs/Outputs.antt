@@ -8,7 +8,7 @@ use Rattle.outside.specs.declared.command.Question.{Question}
 use Rattle.cargo_meta.specs.declared.metadata.Metadata.{Metadata}
 use Rattle.cargo_values.specs.declared.errors.Error.{Error}
 use Rattle.cargo_values.specs.declared.errors.Error.TheVariants.{CargoMetadata, Io, Json, NoJson, OutOfMemory}
-use Rattle.pm_fetch.specs.Fetch.{Answers, Fetch, FetchAnswer, HasOutput, fetch_answer, of_full, of_output, without_error}
+use Rattle.pm_fetch.specs.Fetch.{Answers, Fetch, FetchAnswer, HasOutput, fetch_answer, of_full, output_answer, without_error}
 use Rattle.pm_fetch.specs.Questions.{locked_question}
 
 -- the command was not started
@@ -32,7 +32,7 @@ module _ (whole fetch : Fetch) (same : fetch ≡ whole) (locked : Bool) (answers
       subst (λ (wanted : FetchAnswer). Answers (Err e) wanted) by_full (not_started fetch.light line (answer_of answers line) e h)
 
   -- the command wrote this
-  pub output-given : (output : Output) (result : FetchAnswer) → answer_of answers (locked_question fetch.full locked) ≡ Some output → Answers result (of_output fetch.light output)
+  pub output-given : (output : Output) (result : FetchAnswer) → answer_of answers (locked_question fetch.full locked) ≡ Some output → Answers result (output_answer fetch.light output)
       → Answers result (fetch_answer whole locked answers)
   output-given output result is h =
       subst (λ (wanted : FetchAnswer). Answers result wanted) by_full (subst (λ (a : Option Output). Answers result (of_full fetch.light (locked_question fetch.full locked) a)) (sym is) h)

@@ -10,9 +10,10 @@ use Rattle.cargo_meta.specs.Command.{Settings, command_of}
 use Rattle.cargo_values.specs.declared.errors.Error.{Error}
 use Rattle.cargo_values.specs.declared.errors.Error.TheVariants.{CargoMetadata, Io, Json, NoJson, OutOfMemory}
 use Rattle.cargo_meta.specs.declared.metadata.Metadata.{Metadata}
+use Rattle.pm_config.specs.Variables.{with_channel}
 use Rattle.pm_config.specs.declared.metadata_config.CargoMetadataConfig.{CargoMetadataConfig}
 use Rattle.pm_config.specs.declared.tool_root.ToolRoot.{ToolRoot}
-use Rattle.pm_fetch.specs.Options.{full_options}
+use Rattle.pm_fetch.specs.Options.{full_options, has_unstable}
 use Rattle.pm_fetch.specs.Questions.{full_question, light_question, locked_question}
 
 -- metadata, or why there is none, and beside metadata the error of the full question, if it has one
@@ -25,12 +26,16 @@ pub record Fetch : Type 0 where
   pub no_deps : Bool
   pub light : Result Metadata Error
 
--- the same, by the settings of a command without options, and by the options
+-- the full question by the settings of a command without options, and by the options
+abbrev pub full_line : Settings → List (List ℕ) → CommandLine
+full_line set options = with_channel (has_unstable options) (command_of (record set { other_options = full_options options }))
+
+-- what is ready to be fetched, by those settings and options
 abbrev pub fetch_by : Settings → List (List ℕ) → Bool → List (Question × Output) → Fetch
 fetch_by set options no_deps answers =
     let line = command_of (record set { other_options = options; no_deps = true }) in
     record {
-      full = command_of (record set { other_options = full_options options });
+      full = full_line set options;
       no_deps = no_deps;
       light = metadata.of_answer line (answer_of answers line);
     }
@@ -56,14 +61,14 @@ light_in_place (Ok m) error = Ok (m, Some error)
 light_in_place (Err e) error = Err error
 
 -- what is fetched where the full question has that output
-abbrev pub of_output : Result Metadata Error → Output → FetchAnswer
-of_output light output =
+abbrev pub output_answer : Result Metadata Error → Output → FetchAnswer
+output_answer light output =
     if output.ok then without_error (of_line (json_line output.out)) else light_in_place light (CargoMetadata output.err)
 
 -- what is fetched where the full question has that answer, if it has one
 abbrev pub of_full : Result Metadata Error → CommandLine → Option Output → FetchAnswer
 of_full light line None = Err (Io (line_text line))
-of_full light line (Some output) = of_output light output
+of_full light line (Some output) = output_answer light output
 
 -- a call returns what the command of a line wrote, or that it was not started, unless memory ran out
 abbrev pub HasOutput : Result Output Error → CommandLine → Option Output → Type 0

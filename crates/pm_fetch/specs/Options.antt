@@ -31,6 +31,10 @@ options_of manifest config =
 abbrev pub is_unstable : List ℕ → Bool
 is_unstable option = starts_with nat_eq option (codes "-Z")
 
+-- one of the options is unstable
+abbrev pub has_unstable : List (List ℕ) → Bool
+has_unstable options = list_any is_unstable options
+
 -- the options of the full question, unless it is locked: unstable ones must be allowed
 abbrev pub full_options : List (List ℕ) → List (List ℕ)
-full_options options = options ++ flag_word (list_any is_unstable options) (codes "-Zunstable-options")
+full_options options = options ++ flag_word (has_unstable options) (codes "-Zunstable-options")

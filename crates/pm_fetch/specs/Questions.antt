@@ -4,12 +4,13 @@ use Rattle.base_values.specs.ByText.{with_value}
 use Rattle.outside.specs.declared.command.CommandLine.{CommandLine}
 use Rattle.cargo_meta.specs.Command.{feature_words, flag_word}
 use Rattle.pm_config.specs.Tools.{Variables, tool_command}
+use Rattle.pm_config.specs.Variables.{with_channel}
 use Rattle.pm_config.specs.declared.features.CargoFeatures.{CargoFeatures}
 use Rattle.pm_config.specs.declared.features.CargoFeatures.TheVariants.{All, Selected}
 use Rattle.pm_config.specs.declared.metadata_config.CargoMetadataConfig.{CargoMetadataConfig}
 use Rattle.pm_config.specs.declared.tool.Tool.TheVariants.{Cargo}
 use Rattle.pm_config.specs.declared.tool_root.ToolRoot.{ToolRoot}
-use Rattle.pm_fetch.specs.Options.{full_options, options_of}
+use Rattle.pm_fetch.specs.Options.{full_options, has_unstable, options_of}
 
 -- the features that are named
 abbrev pub named_features : CargoFeatures → List (List ℕ)
@@ -36,8 +37,8 @@ abbrev pub question_variables : Variables → Variables
 question_variables variables = with_variables variables ((codes "RUSTUP_AUTO_INSTALL", Some (codes "0")) ∷ [])
 
 -- a metadata question, with the word that limits it and the options that it ends with
-abbrev pub question : List (List ℕ) → List (List ℕ) → List ℕ → List ℕ → CargoMetadataConfig → ToolRoot → CommandLine
-question limit options manifest dir config root =
+abbrev pub metadata_question : List (List ℕ) → List (List ℕ) → List ℕ → List ℕ → CargoMetadataConfig → ToolRoot → CommandLine
+metadata_question limit options manifest dir config root =
     let start = tool_command root Cargo dir config.extra_env in
     record {
       program = start.program;
@@ -55,11 +56,13 @@ question limit options manifest dir config root =
 
 -- the light question
 abbrev pub light_question : List ℕ → List ℕ → CargoMetadataConfig → ToolRoot → CommandLine
-light_question manifest dir config = question (codes "--no-deps" ∷ []) (options_of manifest config) manifest dir config
+light_question manifest dir config = metadata_question (codes "--no-deps" ∷ []) (options_of manifest config) manifest dir config
 
--- the full question, before it is said whether the lockfile is kept
+-- the full question, before it is said whether the lockfile is kept: where unstable options are allowed, `cargo` takes itself for one of the nightly channel
 abbrev pub full_question : List ℕ → List ℕ → CargoMetadataConfig → ToolRoot → CommandLine
-full_question manifest dir config = question [] (full_options (options_of manifest config)) manifest dir config
+full_question manifest dir config root =
+    let options = options_of manifest config in
+    with_channel (has_unstable options) (metadata_question [] (full_options options) manifest dir config root)
 
 -- a question that keeps the lockfile as it is, where that is asked for
 abbrev pub locked_question : CommandLine → Bool → CommandLine

@@ -25,7 +25,7 @@ pub(crate) fn of_output(
     light: Result<Metadata, Error>,
     output: Output,
 ) -> Result<(Metadata, Option<Error>), Error>
-    ensures { Answers result (spec.of_output light output) }
+    ensures { Answers result (spec.output_answer light output) }
 {
     if output.ok {
         return without_error(document_of(alloc, output.out.as_str()));

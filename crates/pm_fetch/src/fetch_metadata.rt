@@ -5,18 +5,18 @@ ghost use Rattle.outside.specs.Runner.{answer_of};
 ghost use Rattle.cargo_meta.specs.Answer.{of_answer};
 ghost use Rattle.cargo_meta.specs.Command.{command_of};
 ghost use Rattle.base_text.specs.AbsPath.{abs_text};
-ghost use Rattle.pm_fetch.specs.Fetch.{Answers, HasOutput, fetch_answer, fetch_by, fetch_of};
+ghost use Rattle.pm_fetch.specs.Fetch.{Answers, HasOutput, fetch_answer, fetch_by, fetch_of, full_line};
 ghost use Rattle.pm_fetch.specs.Options.{full_options};
 ghost use Rattle.pm_fetch.specs.Questions.{locked_question};
 
 use crate::answers::{of_output, report, without_error};
-use crate::options::{metadata_options, with_unstable};
+use crate::options::{has_unstable, metadata_options, with_unstable};
 use crate::question::metadata_command;
 use crate::words::line_text;
 use base_text::{AbsPath, CommandLine, Items, Output, Runner, Text, TryClone};
 use cargo_meta::words::push_flag;
 use cargo_meta::{Error, Metadata, MetadataCommand};
-use pm_config::{CargoMetadataConfig, Progress, ToolRoot};
+use pm_config::{CargoMetadataConfig, Progress, ToolRoot, allow_unstable};
 use pm_packages::ManifestPath;
 use std::alloc::{AllocError, Global};
 use std::marker::Model;
@@ -70,8 +70,8 @@ impl FetchMetadata {
     }
 
     /// The metadata, and beside it the error of the full question where the light answer stands in for
-    /// it. With `locked` the lockfile stays as it is. `progress` hears when the full question is
-    /// asked and answered, and what its answer reports.
+    /// it. With `locked` the lockfile stays as it is. `progress` takes a line when the full question is
+    /// asked and when it is answered, and those that its answer reports.
     pub fn exec<R: Runner, P: Progress>(
         self,
         alloc: Global,
@@ -183,13 +183,13 @@ fn full_line(
     command: &mut MetadataCommand,
     options: &Items<Text>,
 ) -> Result<CommandLine, AllocError>
-    ensures line { IfOk result (λ line. line
-        ≡ command_of (record command.old { other_options = full_options options.now })) }
+    ensures line { IfOk result (λ line. line ≡ full_line command.old options.now) }
     ensures options { OnOk result (command.new
         ≡ record command.old { other_options = full_options options.now }) }
 {
     command.other_options(with_unstable(alloc, options)?);
-    command.cargo_command(alloc)
+    let line = command.cargo_command(alloc)?;
+    allow_unstable(alloc, line, has_unstable(options.as_slice()))
 }
 
 // Limits the command to the members, with these options.

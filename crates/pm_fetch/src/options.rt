@@ -3,7 +3,7 @@
 ghost use Rattle.std.specs.Prelude.{◌≡◌, ◌++◌, IfOk, OnOk};
 ghost use Rattle.std.specs.List.{list_any};
 ghost use Rattle.pm_config.specs.Versions.{needs_json_flag};
-ghost use Rattle.pm_fetch.specs.Options.{full_options, is_unstable, options_of, platform_words, unstable_pairs};
+ghost use Rattle.pm_fetch.specs.Options.{full_options, has_unstable, is_unstable, options_of, platform_words, unstable_pairs};
 
 use crate::words::push_path;
 use base_text::{Items, Text, TryClone, Version};
@@ -48,9 +48,9 @@ pub(crate) fn with_unstable(alloc: Global, options: &Items<Text>) -> Result<Item
     Ok(Items::new(full))
 }
 
-// Whether one of the options is unstable.
-fn has_unstable(options: &[Text]) -> bool
-    ensures { result ≡ list_any is_unstable options.now }
+/// Whether one of the options is unstable.
+pub(crate) fn has_unstable(options: &[Text]) -> bool
+    ensures { result ≡ has_unstable options.now }
 {
     options.iter().any(|option| is_unstable(option.as_str()))
 }

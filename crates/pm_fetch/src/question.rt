@@ -1,7 +1,7 @@
 //! The command that asks for metadata, but for its options.
 
 ghost use Rattle.std.specs.Prelude.{◌≡◌, [], ◌++◌, false, codes, IfOk, OnOk, Some, unwrap_or};
-ghost use Rattle.cargo_meta.specs.Command.{with_variable};
+ghost use Rattle.cargo_meta.specs.Command.{with_env};
 ghost use Rattle.base_text.specs.AbsPath.{abs_text};
 ghost use Rattle.pm_fetch.specs.Questions.{enables_all, leaves_default_out, named_features, question_variables, with_variables};
 ghost use Rattle.pm_fetch.specs.Settings.{settings_of};
@@ -91,7 +91,7 @@ fn set_features(
 
 // Sets the variable that keeps `rustup` from installing what is missing.
 fn install_nothing(alloc: Global, command: &mut MetadataCommand) -> Result<(), AllocError>
-    ensures { OnOk result (command.new ≡ with_variable (codes "RUSTUP_AUTO_INSTALL")
+    ensures { OnOk result (command.new ≡ with_env (codes "RUSTUP_AUTO_INSTALL")
         (Some (codes "0")) command.old) }
 {
     let name = Text::of_str(alloc, "RUSTUP_AUTO_INSTALL")?;

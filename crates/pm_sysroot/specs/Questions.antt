@@ -1,5 +1,5 @@
--- Questions that the tools of a toolchain are asked: the words and the variables of a command.
-use Rattle.std.specs.Prelude.{ℕ, List, [], ◌∷◌, ◌++◌, Some}
+-- Questions that the tools of a toolchain are asked: a command with its words.
+use Rattle.std.specs.Prelude.{ℕ, List}
 use Rattle.outside.specs.declared.command.CommandLine.{CommandLine}
 use Rattle.pm_config.specs.declared.tool.Tool.{Tool}
 use Rattle.pm_sysroot.specs.Ask.{Means}
@@ -9,7 +9,3 @@ use Rattle.pm_sysroot.specs.Toolchain.{Toolchain}
 -- the command that starts a tool in a directory with these words
 abbrev pub question : Toolchain → Tool → List ℕ → List (List ℕ) → Means → CommandLine
 question sysroot tool dir words means = record (command_of sysroot tool dir means) { words = words }
-
--- a command that sets a variable last, so that this value counts
-abbrev pub with_variable : List ℕ → List ℕ → CommandLine → CommandLine
-with_variable name value line = record line { env = line.env ++ (name, Some value) ∷ [] }

@@ -11,6 +11,7 @@ mod tool_path;
 
 pub use answers::serving_answer;
 pub use ask::Ask;
-pub use question::{set_variable, words_of};
+pub use pm_config::set_variable;
+pub use question::words_of;
 pub use rust_lib_src::RustLibSrcWorkspace;
 pub use sysroot::Sysroot;

@@ -1,8 +1,8 @@
-//! Questions that the tools of a toolchain are asked: a command with its words, and the variables that it sets.
+//! Questions that the tools of a toolchain are asked: a command with its words.
 
 ghost use Rattle.std.specs.Prelude.{◌≡◌, IfOk, map};
 ghost use Rattle.pm_sysroot.specs.Ask.{means_of};
-ghost use Rattle.pm_sysroot.specs.Questions.{question, with_variable};
+ghost use Rattle.pm_sysroot.specs.Questions.{question};
 
 use crate::ask::Ask;
 use crate::sysroot::Sysroot;
@@ -32,27 +32,6 @@ impl Sysroot {
             env: command.env,
         })
     }
-}
-
-/// The command with a variable set, behind what it says of its variables before.
-pub fn set_variable(
-    alloc: Global,
-    line: CommandLine,
-    name: &str,
-    value: &str,
-) -> Result<CommandLine, AllocError>
-    ensures { IfOk result (λ set. set ≡ with_variable name.now value.now line) }
-{
-    let name = Text::of_str(alloc, name)?;
-    let value = Text::of_str(alloc, value)?;
-    let mut env = line.env.into_inner();
-    env.push((name, Some(value)))?;
-    Ok(CommandLine {
-        program: line.program,
-        words: line.words,
-        dir: line.dir,
-        env: Items::new(env),
-    })
 }
 
 /// Copies of some words.

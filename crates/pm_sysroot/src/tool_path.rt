@@ -2,7 +2,7 @@
 
 ghost use Rattle.std.specs.Prelude.{◌≡◌, IfOk};
 ghost use Rattle.pm_sysroot.specs.Ask.{means_of};
-ghost use Rattle.pm_sysroot.specs.ToolPath.{path_question, tool_path, tool_word, with_variables};
+ghost use Rattle.pm_sysroot.specs.ToolPath.{path_question, tool_path, tool_word, with_environment};
 
 use crate::ask::Ask;
 use crate::question::words_of;
@@ -50,7 +50,7 @@ impl Sysroot {
         ensures { IfOk result (λ line. line
             ≡ path_question self.now tool dir.now envs.now (means_of R.answers T.files ask.now)) }
     {
-        let variables = with_variables(alloc, ask.extra_env, envs)?;
+        let variables = with_environment(alloc, ask.extra_env, envs)?;
         let command = self
             .tool_root(alloc, ask)?
             .command(alloc, Tool::Rustup, dir, &variables)?;
@@ -76,12 +76,12 @@ fn tool_word(tool: Tool) -> &'static str
 }
 
 // The variables with those of an environment set over them.
-fn with_variables(
+fn with_environment(
     alloc: Global,
     variables: &ByText<Option<Text>>,
     envs: &Env,
 ) -> Result<ByText<Option<Text>>, AllocError>
-    ensures { IfOk result (λ set. set ≡ with_variables envs.now variables.now) }
+    ensures { IfOk result (λ set. set ≡ with_environment envs.now variables.now) }
 {
     let mut set = variables.try_clone(alloc)?;
     for (name, value) in envs.iter() {

@@ -3,11 +3,12 @@ use Rattle.std.specs.Prelude.{ℕ, List, [], ◌∷◌, ◌++◌, codes, Option,
 use Rattle.outside.specs.declared.command.CommandLine.{CommandLine}
 use Rattle.base_text.specs.Paths.{parent_text}
 use Rattle.cargo_meta.specs.Command.{flag_word, option_words}
+use Rattle.pm_config.specs.Variables.{with_last_variable}
 use Rattle.pm_config.specs.declared.tool.Tool.TheVariants.{Cargo}
 use Rattle.pm_packages.specs.ManifestPath.{is_rust_manifest}
 use Rattle.pm_sysroot.specs.Answers.{serving_answer}
 use Rattle.pm_sysroot.specs.Ask.{Means}
-use Rattle.pm_sysroot.specs.Questions.{question, with_variable}
+use Rattle.pm_sysroot.specs.Questions.{question}
 use Rattle.pm_sysroot.specs.Toolchain.{Toolchain}
 
 -- the words, with the configuration file that is given, and with leave for a manifest in a Rust file
@@ -24,7 +25,7 @@ directory_of manifest = unwrap_or (parent_text manifest) []
 -- the question, which is asked in the manifest's directory
 abbrev pub config_question : List ℕ → Toolchain → Option (List ℕ) → Means → CommandLine
 config_question manifest sysroot config_path means =
-    with_variable (codes "RUSTC_BOOTSTRAP") (codes "1") (question sysroot Cargo (directory_of manifest) (config_words manifest config_path) means)
+    with_last_variable (codes "RUSTC_BOOTSTRAP") (codes "1") (question sysroot Cargo (directory_of manifest) (config_words manifest config_path) means)
 
 -- the configuration that is printed, where an answer serves
 abbrev pub config_of : List ℕ → Toolchain → Option (List ℕ) → Means → Option (List ℕ)

@@ -9,9 +9,9 @@ ghost use Rattle.pm_sysroot.specs.Ask.{means_of};
 ghost use Rattle.pm_tools.specs.ConfigQuestion.{config_question, config_words};
 
 use base_text::{AbsPath, CommandLine, Runner, Text};
-use pm_config::Tool;
+use pm_config::{Tool, set_variable};
 use pm_packages::ManifestPath;
-use pm_sysroot::{Ask, Sysroot, set_variable, words_of};
+use pm_sysroot::{Ask, Sysroot, words_of};
 use std::alloc::{AllocError, Global};
 use trees::Tree;
 

@@ -1,13 +1,14 @@
 -- The questions that the tools of a toolchain are asked, in the order in which they are asked: programs, words, directories and variables.
-use Rattle.std.specs.Prelude.{ℕ, false, List, [], ◌∷◌, ◌++◌, Option, Some, None, codes}
+use Rattle.std.specs.Prelude.{ℕ, true, false, List, [], ◌∷◌, ◌++◌, Option, Some, None, codes}
 use Rattle.std.specs.Option.{option_map_or}
 use Rattle.base_values.specs.Version.{Parts}
 use Rattle.outside.specs.declared.command.CommandLine.{CommandLine}
 use Rattle.cargo_meta.specs.Command.{flag_word, option_words}
+use Rattle.pm_config.specs.Variables.{with_channel, with_last_variable}
 use Rattle.pm_config.specs.Versions.{needs_json_flag}
 use Rattle.pm_config.specs.declared.tool.Tool.TheVariants.{Cargo as cargo, Rustc as rustc}
 use Rattle.pm_sysroot.specs.Ask.{Means}
-use Rattle.pm_sysroot.specs.Questions.{question, with_variable}
+use Rattle.pm_sysroot.specs.Questions.{question}
 use Rattle.toolchain_info.specs.Config.{dir_of, sysroot_of, tool_of}
 use Rattle.toolchain_info.specs.declared.query_config.QueryConfig.{QueryConfig}
 use Rattle.toolchain_info.specs.declared.query_config.QueryConfig.TheVariants.{Rustc, Cargo}
@@ -50,15 +51,11 @@ cargo_cfg_words target =
 abbrev pub rustc_cfg_words : Option (List ℕ) → List (List ℕ)
 rustc_cfg_words target = (codes "--print" ∷ codes "cfg" ∷ codes "-O" ∷ []) ++ target_words target
 
--- a question that may have the options of a nightly
-unfoldable pub with_channel : CommandLine → CommandLine
-with_channel line = with_variable (codes "__CARGO_TEST_CHANNEL_OVERRIDE_DO_NOT_USE_THIS") (codes "nightly") line
-
 -- which atoms hold for a platform, or for that of the configuration; cargo takes the options of a nightly for this question
 unfoldable pub cfg_questions : QueryConfig → Option (List ℕ) → Means → Questions
 cfg_questions config target means =
     in_turn config
-    (with_channel (question (sysroot_of config) cargo (dir_of config) (cargo_cfg_words target) means))
+    (with_channel true (question (sysroot_of config) cargo (dir_of config) (cargo_cfg_words target) means))
     (question (sysroot_of config) rustc (dir_of config) (rustc_cfg_words target) means)
 
 -- the words that ask cargo for the specification of a platform; the version is that of the toolchain
@@ -76,7 +73,7 @@ rustc_spec_words target =
 
 -- a question that a stable compiler answers too
 abbrev pub with_bootstrap : CommandLine → CommandLine
-with_bootstrap line = with_variable (codes "RUSTC_BOOTSTRAP") (codes "1") line
+with_bootstrap line = with_last_variable (codes "RUSTC_BOOTSTRAP") (codes "1") line
 
 -- what the specification of a platform is, or of that of the configuration
 unfoldable pub spec_questions : QueryConfig → Option (List ℕ) → Option Parts → Means → Questions

@@ -8,8 +8,8 @@ ghost use Rattle.toolchain_info.specs.Questions as spec;
 use crate::query_config::QueryConfig;
 use crate::words::{cargo_cfg_words, cargo_spec_words, rustc_cfg_words, rustc_spec_words};
 use base_text::{CommandLine, Runner, Version};
-use pm_config::Tool;
-use pm_sysroot::{Ask, set_variable, words_of};
+use pm_config::{Tool, allow_unstable, set_variable};
+use pm_sysroot::{Ask, words_of};
 use std::alloc::{AllocError, Global};
 use trees::Tree;
 
@@ -99,16 +99,7 @@ fn cargo_cfg_question<R: Runner, T: Tree>(
     };
     let words = cargo_cfg_words(alloc, target)?;
     let line = sysroot.question(alloc, Tool::Cargo, config.dir(), words, ask)?;
-    Ok(Some(with_channel(alloc, line)?))
-}
-
-// The question, which may have the options of a nightly.
-#[tactic(auto, unfolding(crate::specs::Questions::with_channel))]
-fn with_channel(alloc: Global, line: CommandLine) -> Result<CommandLine, AllocError>
-    ensures { IfOk result (λ set. set ≡ spec.with_channel line) }
-{
-    let name = "__CARGO_TEST_CHANNEL_OVERRIDE_DO_NOT_USE_THIS";
-    set_variable(alloc, line, name, "nightly")
+    Ok(Some(allow_unstable(alloc, line, true)?))
 }
 
 /// What the specification of a platform is.

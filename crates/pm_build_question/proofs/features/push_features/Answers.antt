@@ -11,6 +11,6 @@ returns-in_ok-push_flag-in-Selected c =
     let flag = flag_word c.in-Selected.no_default_features (codes "--no-default-features") in
     let selected = selected_words c.args.workspace.now in
     on_ok_weaker c.push_selected.result
-    (λ pushed. rw c.in-Selected.is (pushed ∙ ap (λ l. l ++ selected c.as_slice.result.now) c.in_ok-push_flag-in-Selected.ensures
+    (λ pushed. rw c.in-Selected.is (pushed ∙ ap (λ l. l ++ selected c.as_slice.result.now) c.in_ok-push_flag-in-Selected.ensures.ok
     ∙ append_assoc words flag (selected c.as_slice.result.now) ∙ ap (λ f. words ++ (flag ++ selected f)) c.as_slice.ensures))
     c.push_selected.ensures

@@ -14,4 +14,4 @@ returns c =
     on_ok_weaker c.push_word-2.result
     (λ pushed. rw some (pushed-both c.args.words.now.items c.push_word.new.words.items c.push_word-2.new.words.items
     (codes "--features") (joined_text (codes ",") (filter (is_feature w) features)) c.as_str.result.now
-    c.in_ok-push_word.ensures (c.as_str.ensures.value ∙ c.in_ok-names.ensures) pushed)) c.push_word-2.ensures
+    c.in_ok-push_word.ensures.ok (c.as_str.ensures.value ∙ c.in_ok-names.ensures) pushed)) c.push_word-2.ensures.ok

@@ -13,12 +13,12 @@ returns c =
     let script = flag_word (is_rust_manifest w.manifest_path) (codes "-Zscript") in
     let unstable = flag_word (is_unstable w.manifest_path version) (codes "-Zunstable-options") in
     let extra : c.push_words.new.words.items ≡ zero ++ config.extra_args
-    = c.in_ok-push_words.ensures ∙ ap (λ l. zero ++ l) c.as_slice.ensures in
+    = c.in_ok-push_words.ensures.ok ∙ ap (λ l. zero ++ l) c.as_slice.ensures in
     let scripted : c.push_flag.new.words.items ≡ four ++ script
-    = c.in_ok-push_flag.ensures
+    = c.in_ok-push_flag.ensures.ok
     ∙ ap (λ b. four ++ flag_word b (codes "-Zscript")) (c.is_rust_manifest.ensures ∙ ap is_rust_manifest c.manifest_path-manifest.ensures) in
     let allowed : c.push_flag-2.new.words.items ≡ seven ++ unstable
-    = c.in_ok-push_flag-2.ensures
+    = c.in_ok-push_flag-2.ensures.ok
     ∙ ap (λ b. seven ++ flag_word b (codes "-Zunstable-options"))
     (c.is_unstable-is_unstable.ensures ∙ ap (λ m. is_unstable m version) c.manifest_path-manifest.ensures) in
     let first = extra ∙ ap (λ l. l ++ config.extra_args) c.in_ok-words.ensures in
@@ -26,6 +26,6 @@ returns c =
     let platform = c.in_ok-push_platform.ensures ∙ ap (λ l. l ++ platform_words version config.target) places in
     let features = c.in_ok-push_features.ensures ∙ ap (λ l. l ++ feature_words w config.features) platform in
     let with_script = scripted ∙ ap (λ l. l ++ script) features in
-    let going = c.in_ok-push_word.ensures ∙ ap (λ l. l ++ codes "--keep-going" ∷ []) with_script in
+    let going = c.in_ok-push_word.ensures.ok ∙ ap (λ l. l ++ codes "--keep-going" ∷ []) with_script in
     let coverage = c.in_ok-push_coverage.ensures ∙ ap (λ l. l ++ coverage_words config.all_targets version) going in
     allowed ∙ ap (λ l. l ++ unstable) coverage

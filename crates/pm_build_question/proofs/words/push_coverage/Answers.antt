@@ -13,9 +13,9 @@ returns-in_ok-push_word c =
     = sym c.takes_compile_time_deps.ensures ∙ c.if-takes_compile_time_deps.true in
     on_ok_weaker c.push_word-then-takes_compile_time_deps.result
     (λ pushed. pushed-both words c.push_word.new.words.items c.push_word-then-takes_compile_time_deps.new.words.items
-    (codes "--compile-time-deps") word word c.in_ok-push_word.ensures refl pushed
+    (codes "--compile-time-deps") word word c.in_ok-push_word.ensures.ok refl pushed
     ∙ ap (λ l. words ++ l) (sym (cond-true _ _ _ takes)))
-    c.push_word-then-takes_compile_time_deps.ensures
+    c.push_word-then-takes_compile_time_deps.ensures.ok
 
 -- the word of any other
 pub returns-else-takes_compile_time_deps : goal.returns-else-takes_compile_time_deps
@@ -23,4 +23,4 @@ returns-else-takes_compile_time_deps c =
     let takes : takes_compile_time_deps (option_copied c.args.version) ≡ false
     = sym c.takes_compile_time_deps.ensures ∙ c.if-takes_compile_time_deps.false in
     on_ok_weaker c.push_flag.result
-    (λ pushed. pushed ∙ ap (λ l. c.args.words.now.items ++ l) (sym (cond-false _ _ _ takes))) c.push_flag.ensures
+    (λ pushed. pushed ∙ ap (λ l. c.args.words.now.items ++ l) (sym (cond-false _ _ _ takes))) c.push_flag.ensures.ok

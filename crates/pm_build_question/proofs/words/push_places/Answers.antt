@@ -15,8 +15,8 @@ returns c =
     let dir = target_dir config.target_dir_config (Some w.target_directory) in
     let after = option_words (codes "--target-dir") dir in
     let both : three ≡ one ++ manifest
-    = pushed-both one two three (codes "--manifest-path") w.manifest_path c.as_str.result.now c.in_ok-push_word.ensures
-    (c.as_str.ensures.text ∙ c.as_path.ensures ∙ c.manifest_path.ensures) c.in_ok-push_word-2.ensures in
+    = pushed-both one two three (codes "--manifest-path") w.manifest_path c.as_str.result.now c.in_ok-push_word.ensures.ok
+    (c.as_str.ensures.text ∙ c.as_path.ensures ∙ c.manifest_path.ensures) c.in_ok-push_word-2.ensures.ok in
     let written : c.in_ok-directory.directory ≡ dir
     = c.in_ok-directory.ensures
     ∙ ap (λ d. target_dir config.target_dir_config (Some d)) (c.as_str-2.ensures.text ∙ c.target_directory.ensures) in

@@ -5,7 +5,8 @@ use Rattle.base_text.specs.AbsPath.{abs_text}
 use Rattle.outside.specs.declared.command.CommandLine.{CommandLine}
 use Rattle.pm_config.specs.declared.tool.Tool.TheVariants.{Cargo}
 use Rattle.pm_sysroot.specs.Ask.{means_of}
-use Rattle.pm_sysroot.specs.Questions.{question, with_variable}
+use Rattle.pm_config.specs.Variables.{with_last_variable}
+use Rattle.pm_sysroot.specs.Questions.{question}
 use Rattle.pm_tools.specs.ConfigQuestion.{config_words, directory_of}
 use Rattle.pm_tools.proofs.config_question.config_question.Goals as goal
 
@@ -21,4 +22,4 @@ returns g c =
     c.in_ok-line.ensures
     ∙ ap (λ (dir : List ℕ). question sysroot Cargo dir c.in_ok-words.words.items means) dir_is
     ∙ ap (λ (words : List (List ℕ)). question sysroot Cargo (directory_of manifest) words means) c.in_ok-words.ensures in
-    subst (λ (x : CommandLine). IfOk c.set_variable.result (λ line. line ≡ with_variable (codes "RUSTC_BOOTSTRAP") (codes "1") x)) line_is c.set_variable.ensures
+    subst (λ (x : CommandLine). IfOk c.set_variable.result (λ line. line ≡ with_last_variable (codes "RUSTC_BOOTSTRAP") (codes "1") x)) line_is c.set_variable.ensures
