@@ -12,7 +12,7 @@ use Rattle.crate_values.specs.declared.builder.CrateBuilder.{CrateBuilder}
 use Rattle.crate_values.specs.declared.crate_data.CrateTag.{CrateTag}
 use Rattle.crate_values.specs.declared.crate_data.Dependency.{Dependency}
 use Rattle.crate_values.specs.Laws.{HasCleanPath}
-use Rattle.crate_graph.specs.Graph.{HasDependency, IsWellMade, LosesDependency, edges, row_of, target_of, with_dependency, without_last_dependency}
+use Rattle.crate_graph.specs.Graph.{HasDependency, IsWellMade, edges, row_of, target_of, with_dependency}
 
 pub length-edges : (crates : List CrateBuilder) → length (edges crates) ≡ length crates
 length-edges crates = length-map crates row_of
@@ -64,30 +64,6 @@ module _ (old new : List CrateBuilder) (from : ℕ) (dep : Dependency (Idx Crate
     acyclic = subst IsAcyclic (sym edges-with_dependency) acyclic;
     clean = clean-with_dependency made.clean;
   }
-
--- ---- a dependency that is put in and taken out again leaves the crates as they were
-
-slice_get_set : {X : Type 0} (xs : List X) (i : ℕ) (x y : X) → slice_get xs i ≡ Some x → slice_get (set xs i y) i ≡ Some y
-slice_get_set [] i x y at = cc
-slice_get_set (w ∷ ws) zero x y at = refl
-slice_get_set (w ∷ ws) (suc i) x y at = slice_get_set ws i x y at
-
-take_pushed : {X : Type 0} (xs : List X) (x : X) → take (length (xs ++ x ∷ []) - 1) (xs ++ x ∷ []) ≡ xs
-take_pushed xs x =
-    let long : length xs ≡ length (xs ++ x ∷ []) - 1 = omega (arith, length_push xs x) in
-    take_at xs (x ∷ []) (length (xs ++ x ∷ []) - 1) long
-
-without_with : (krate : CrateBuilder) (dep : Dependency (Idx CrateTag)) → without_last_dependency (with_dependency krate dep) ≡ krate
-without_with krate dep = λ i. record krate { basic = record krate.basic { dependencies = take_pushed krate.basic.dependencies dep i } }
-
-pub taken_back_same : (old mid new : List CrateBuilder) (from : ℕ) (dep : Dependency (Idx CrateTag)) → from < length old → HasDependency old mid from dep → LosesDependency mid new from → new ≡ old
-taken_back_same old mid new from dep within has loses =
-    let at = slice_get_some old from within in
-    let longer = with_dependency at.0 dep in
-    let mid_is : mid ≡ set old from (with_dependency at.0 dep) = has at.0 at.1 in
-    let there : slice_get mid from ≡ Some (with_dependency at.0 dep) = ap (λ (cs : List CrateBuilder). slice_get cs from) mid_is ∙ slice_get_set old from at.0 longer at.1 in
-    loses longer there ∙ ap (λ (cs : List CrateBuilder). set cs from (without_last_dependency longer)) mid_is
-    ∙ set-set old from longer (without_last_dependency longer) ∙ ap (set old from) (without_with at.0 dep ∙ sym (get_or_from_slice_get old from at.0 at.0 at.1)) ∙ set-get_or old from at.0
 
 -- a crate that depends on nothing
 pub edges-with_crate : (old : List CrateBuilder) (krate : CrateBuilder) → krate.basic.dependencies ≡ [] → edges (old ++ krate ∷ []) ≡ with_node (edges old)

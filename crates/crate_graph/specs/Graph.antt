@@ -1,5 +1,5 @@
 -- The crates of a graph, the edges between them, and what every graph keeps.
-use Rattle.std.specs.Prelude.{◌≡◌, ℕ, ◌-◌, ◌<◌, ◌≤◌, ◌^◌, List, ◌++◌, ◌∷◌, [], map, length, take, codes, Some, slice_get, slice_set}
+use Rattle.std.specs.Prelude.{◌≡◌, ℕ, ◌<◌, ◌≤◌, ◌^◌, List, ◌++◌, ◌∷◌, [], map, length, codes, Some, slice_get, slice_set}
 use Rattle.std.specs.List.{All}
 use Rattle.base_text.specs.Arena.{number_of}
 use Rattle.base_text.specs.declared.arena.Idx.{Idx}
@@ -60,14 +60,6 @@ with_dependency krate dep = record krate { basic = record krate.basic { dependen
 -- the crate of a number has one more dependency, and all other crates are as they were
 abbrev pub HasDependency : List CrateBuilder → List CrateBuilder → ℕ → Dependency (Idx CrateTag) → Type 0
 HasDependency old new from dep = (krate : CrateBuilder) → slice_get old from ≡ Some krate → new ≡ slice_set old from (with_dependency krate dep)
-
--- the crate without the last of its dependencies
-abbrev pub without_last_dependency : CrateBuilder → CrateBuilder
-without_last_dependency krate = record krate { basic = record krate.basic { dependencies = take (length krate.basic.dependencies - 1) krate.basic.dependencies } }
-
--- the crate of a number has no more the last of its dependencies, and all other crates are as they were
-abbrev pub LosesDependency : List CrateBuilder → List CrateBuilder → ℕ → Type 0
-LosesDependency old new from = (krate : CrateBuilder) → slice_get old from ≡ Some krate → new ≡ slice_set old from (without_last_dependency krate)
 
 -- the new graph has the dependency, and all else of its crates and its limit is that of the old one; of the ranks only
 -- those from the source's up to the target's may change

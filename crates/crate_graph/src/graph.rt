@@ -24,7 +24,7 @@ use crate_values::{
     Env, ExtraCrateData, TargetKind,
 };
 use graph_base::Graph;
-use graph_order::Order;
+use graph_order::{Marks, Order};
 use std::alloc::{AllocError, Global};
 use std::error::Error;
 use std::fmt;
@@ -70,6 +70,8 @@ impl From<AllocError> for GraphError {
 pub struct CrateGraphBuilder {
     crates: Vec<CrateBuilder>,
     order: Order,
+    // Of the searches for room, one after the other.
+    marks: Marks,
     limit: u32,
 }
 
@@ -94,6 +96,7 @@ impl CrateGraphBuilder {
         CrateGraphBuilder {
             crates: Vec::new(alloc),
             order: Order::new(alloc),
+            marks: Marks::new(alloc),
             limit,
         }
     }

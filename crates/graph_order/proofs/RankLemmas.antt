@@ -2,7 +2,8 @@
 use Rattle.std.proofs.Common.{◌≡◌, ℕ, ◌<◌, ◌≤◌, ◌≢◌, List, length, map, get_or, sym, ap, ◌∙◌, subst, arith}
 use Rattle.std.specs.List.{All, AllPairs, range_with_len}
 use Rattle.std.proofs.lemmas.List.FromFn.{get_or-map-range_with_len, length-map-range_with_len}
-use Rattle.graph_order.specs.Order.{IsOrder, Ranking}
+use Rattle.graph_base.specs.Reach.{Reaches, further, itself}
+use Rattle.graph_order.specs.Order.{Descends, IsOrder, Ranking}
 use Rattle.graph_order.proofs.EachOnceLemmas.{few}
 
 -- two nodes of one rank are one
@@ -55,3 +56,8 @@ same_rank a b is_a is_b count n there forth back =
     let up = rank_le a b is_a is_b count n there forth in
     let down = rank_le b a is_b is_a (sym count) n (omega (arith, there, count)) (λ m m_in. back m (omega (arith, m_in, count))) in
     omega (arith, up, down)
+
+-- ranks fall on the way
+pub reaches_falls : (ranks : List ℕ) (g : List (List ℕ)) (a b : ℕ) → Descends ranks g → Reaches g a b → get_or ranks b 0 ≤ get_or ranks a 0
+reaches_falls ranks g a _ down itself = omega arith
+reaches_falls ranks g a c down (further {b = b} edge rest) = omega (arith, down a b edge, reaches_falls ranks g b c down rest)

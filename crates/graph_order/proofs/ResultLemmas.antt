@@ -6,6 +6,10 @@ pub then_ok : {T E : Type 0} (P Q : Type 0) (r : Result T E) → (P → Q) → O
 then_ok P Q (Ok x) f p = f p
 then_ok P Q (Err e) f p = tt
 
+pub if_ok_then : {T E : Type 0} (P Q : T → Type 0) (r : Result T E) → ((x : T) → P x → Q x) → IfOk r P → IfOk r Q
+if_ok_then P Q (Ok x) f p = f x p
+if_ok_then P Q (Err e) f p = tt
+
 pub both_ok : {T E : Type 0} (P Q R : T → Type 0) (r : Result T E) → ((x : T) → P x → Q x → R x) → IfOk r P → IfOk r Q → IfOk r R
 both_ok P Q R (Ok x) f p q = f x p q
 both_ok P Q R (Err e) f p q = tt

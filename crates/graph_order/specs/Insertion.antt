@@ -1,6 +1,8 @@
 -- What it takes for one more edge to lead down: the nodes between its two that its target reaches go below the others.
-use Rattle.std.specs.Prelude.{◌≡◌, ℕ, ◌+◌, ◌-◌, ◌<◌, ◌≤◌, List, length, slice_index}
+use Rattle.std.specs.Prelude.{◌≡◌, ℕ, ◌+◌, ◌-◌, ◌<◌, ◌≤◌, ◌≢◌, ◌↔◌, List, length, slice_index}
+use Rattle.std.specs.List.{Contains}
 use Rattle.graph_base.specs.Reach.{Reaches}
+use Rattle.graph_order.specs.Counting.{raised_by}
 use Rattle.graph_order.specs.Order.{Descends, Ranking}
 use Rattle.graph_order.specs.Placing.{FitsOrder, Placement, Rearranges}
 
@@ -32,3 +34,14 @@ pub record GivesRoom (g : List (List ℕ)) (from to : ℕ) (order : Ranking) (p 
 -- how many nodes a search visits at most: none where the edge leads down already
 abbrev pub most_visits : Ranking → ℕ → ℕ → ℕ
 most_visits order from to = slice_index order.ranks to + 1 - slice_index order.ranks from
+
+-- each node that a new edge's target reaches between its two is visited once
+pub record AreVisits (g : List (List ℕ)) (from to : ℕ) (order : Ranking) (nodes : List ℕ) : Type 0 where
+  pub once : (i j : ℕ) → i < j → j < length nodes → slice_index nodes i ≢ slice_index nodes j
+  pub visited : (n : ℕ) → Contains nodes n ↔ (IsBetween order from to n × Reaches g to n)
+
+-- exactly the visits of a search are counted: none where the edge leads down already, since no node is between its two
+pub record CountsVisits (g : List (List ℕ)) (from to : ℕ) (order : Ranking) (before now : ℕ) : Type 0 where
+  pub nodes : List ℕ
+  pub visits : AreVisits g from to order nodes
+  pub counted : now ≡ raised_by (length nodes) before

@@ -1,9 +1,7 @@
+pub mod Blocks
+pub mod Counting
 pub mod Insertion
-pub mod Labels
-pub mod Listing
-pub mod Moving
 pub mod Order
 pub mod Placing
-pub mod Search
-pub mod Spots
 pub mod Suborder
+pub mod Walking

@@ -1,7 +1,8 @@
 -- An order of the nodes of a graph: each node has a rank, and each edge leads from a higher rank to a lower one.
-use Rattle.std.specs.Prelude.{◌≡◌, ℕ, ◌<◌, ◌^◌, List, [], ◌∷◌, ◌++◌, length, slice_index}
+use Rattle.std.specs.Prelude.{◌≡◌, ℕ, zero, suc, ◌<◌, ◌^◌, ◌==◌, List, [], ◌∷◌, ◌++◌, Option, Some, None, length, map, slice_index, if◌then◌else◌}
 use Rattle.std.specs.List.{range_with_len}
 use Rattle.graph_base.specs.Edges.{HasEdge, IsInRange}
+use Rattle.graph_labels.specs.Ranks.{AreRanks}
 
 -- the rank of each node, and the node of each rank
 pub record Ranking : Type 0 where
@@ -45,3 +46,25 @@ pub record IsOrderOf (order : Ranking) (g : List (List ℕ)) : Type 0 where
   pub count : length order.nodes ≡ length g
   pub in_range : IsInRange g
   pub descends : Descends order.ranks g
+
+-- the place of a number in a list
+abbrev pub place_of : List ℕ → ℕ → ℕ
+place_of [] n = 0
+place_of (x ∷ xs) n = if x == n then 0 else suc (place_of xs n)
+
+-- the order in which the nodes have some ranks
+abbrev pub ranking : List ℕ → Ranking
+ranking ranks = record {
+  ranks = ranks;
+  nodes = map (place_of ranks) (range_with_len 0 (length ranks));
+}
+
+-- the ranks that a table keeps: none where there is no table
+abbrev pub ranks_in : Option (List ℕ) → List ℕ
+ranks_in None = []
+ranks_in (Some ranks) = ranks
+
+-- ranks of fewer nodes than 2^32
+pub record AreKept (ranks : List ℕ) : Type 0 where
+  pub ranked : AreRanks ranks
+  pub short : length ranks < 2 ^ 32

@@ -1,46 +1,32 @@
--- Nodes go directly below another: they and the others keep their order, each among themselves.
-use Rattle.std.specs.Prelude.{◌≡◌, ℕ, ◌<◌, ◌≤◌, List, [], length, slice_index}
-use Rattle.std.specs.List.{All, AllPairs, Contains}
+-- Nodes go directly below another, or directly above it: they and the others keep their order, each among themselves.
+use Rattle.std.specs.Prelude.{◌≡◌, ℕ, ◌<◌, Bool, true, false, List, [], length}
+use Rattle.graph_labels.specs.Blocks.{FitAbove, FitBelow, RearrangesAbove, RearrangesBelow}
 use Rattle.graph_order.specs.Order.{IsOrder, Ranking}
 
--- a node, and those that go directly below it, from the lowest up
+-- nodes, from the lowest up, that go directly below a node, or directly above it
 pub record Placement : Type 0 where
-  pub below : ℕ
+  pub above : Bool
+  pub mark : ℕ
   pub nodes : List ℕ
 
 -- the nodes of a list go below a node
-abbrev pub placement_of : ℕ → List ℕ → Placement
-placement_of below nodes = record { below = below; nodes = nodes }
+abbrev pub placement_below : ℕ → List ℕ → Placement
+placement_below mark nodes = record { above = false; mark = mark; nodes = nodes }
 
--- no node goes below a node
-abbrev pub no_placement : ℕ → Placement
-no_placement below = placement_of below []
+-- the nodes of a list go above a node
+abbrev pub placement_above : ℕ → List ℕ → Placement
+placement_above mark nodes = record { above = true; mark = mark; nodes = nodes }
 
--- the nodes of an order lie above the one that they are to go below, and are listed in the order of their ranks
+-- the nodes of an order are listed in the order of their ranks, and lie above the one that they are to go below, or below
+-- the one that they are to go above
 pub record FitsOrder (p : Placement) (old : Ranking) : Type 0 where
   pub order : IsOrder old
-  pub mark : p.below < length old.nodes
-  pub within : All (λ n. n < length old.nodes) p.nodes
-  pub above : All (λ n. slice_index old.ranks p.below < slice_index old.ranks n) p.nodes
-  pub ascending : AllPairs (λ m n. slice_index old.ranks m < slice_index old.ranks n) p.nodes
+  pub below : p.above ≡ false → FitBelow p.mark p.nodes old.ranks
+  pub above : p.above ≡ true → FitAbove p.mark p.nodes old.ranks
 
--- one of the nodes that move
-abbrev pub IsMoved : Placement → ℕ → Type 0
-IsMoved p n = Contains p.nodes n
-
--- one of the nodes that do not move
-abbrev pub IsOther : Placement → Ranking → ℕ → Type 0
-IsOther p old n = (n < length old.nodes) × (IsMoved p n → ⊥)
-
--- the nodes that move stand directly below the one that is named; they keep their order, and the others theirs
+-- the nodes stand directly below the one that is named, or directly above it; they keep their order, and the others theirs
 pub record Rearranges (p : Placement) (old new : Ranking) : Type 0 where
   pub order : IsOrder new
   pub count : length new.nodes ≡ length old.nodes
-  pub moved : (m n : ℕ) → IsMoved p m → IsMoved p n → slice_index old.ranks m < slice_index old.ranks n
-      → slice_index new.ranks m < slice_index new.ranks n
-  pub others : (m n : ℕ) → IsOther p old m → IsOther p old n → slice_index old.ranks m < slice_index old.ranks n
-      → slice_index new.ranks m < slice_index new.ranks n
-  pub up : (m n : ℕ) → IsMoved p m → IsOther p old n → slice_index old.ranks p.below ≤ slice_index old.ranks n
-      → slice_index new.ranks m < slice_index new.ranks n
-  pub down : (m n : ℕ) → IsOther p old m → IsMoved p n → slice_index old.ranks m < slice_index old.ranks p.below
-      → slice_index new.ranks m < slice_index new.ranks n
+  pub below : p.above ≡ false → RearrangesBelow p.mark p.nodes old.ranks new.ranks
+  pub above : p.above ≡ true → RearrangesAbove p.mark p.nodes old.ranks new.ranks

@@ -3,15 +3,14 @@
 //! edge's target reaches.
 #![tactic(auto)]
 
-mod entries;
-mod insertion;
+pub mod insertion;
 mod listing;
-mod moving;
 pub mod order;
 pub mod placing;
 mod search;
-mod spots;
 mod suborder;
+mod walking;
 
+pub use insertion::Marks;
 pub use order::Order;
 pub use placing::Placement;

@@ -1,38 +1,30 @@
-//! The order itself: each node has a label, and the ranks are the order of the labels.
+//! The order itself: a table keeps the nodes in the order of their ranks.
 
 ghost use Rattle.std.specs.Prelude.{◌≡◌, ◌+◌, ◌<◌, ◌^◌, length, slice_index, IfOk, OnErr, OnOk};
-ghost use Rattle.std.specs.BTreeMap as tree;
-ghost use Rattle.graph_order.specs.Labels.{IsLabelled, labels_below, next_label, ranking};
-ghost use Rattle.graph_order.specs.Order.{IsOrder, empty_order, with_next_node, with_next_nodes};
+ghost use Rattle.graph_order.specs.Order.{AreKept, IsOrder, empty_order, ranking};
+ghost use Rattle.graph_order.specs.Order.{with_next_node, with_next_nodes};
 
-use crate::entries::put;
 use base_values::TryClone;
+use graph_labels::LabelTable;
 use std::alloc::{AllocError, Global};
-use std::collections::BTreeMap;
 use std::marker::Model;
-
-const FIRST: u64 = 1 << 62;
-
-pub(crate) const STEP: u64 = 1 << 31;
 
 /// The ranks of a graph's nodes, which are numbered from 0 on.
 #[derive(Drop)]
 pub struct Order {
-    pub(crate) labels: Vec<u64>,
-    pub(crate) index: BTreeMap<u64, u32>,
-    // The lowest of the nodes that moved last. It guides where labels are taken, and says nothing.
-    pub(crate) moved: u32,
+    // Nothing until there is a node, since an empty table takes memory.
+    pub(crate) table: Option<LabelTable>,
+    alloc: Global,
 }
 
 impl Model for Order {
-    ghost use Rattle.graph_order.specs.Labels as kept;
     ghost use Rattle.graph_order.specs.Order as seen;
 
     ghost Value = { seen.Ranking };
 
-    ghost view = { λ a. kept.ranking a.labels.items a.index };
+    ghost view = { λ a. seen.ranking (seen.ranks_in a.table) };
 
-    ghost invariant = { λ a. kept.IsLabelled a.labels.items a.index };
+    ghost invariant = { λ a. seen.AreKept (seen.ranks_in a.table) };
 }
 
 impl Order {
@@ -40,12 +32,17 @@ impl Order {
     pub fn new(alloc: Global) -> Order
         ensures { result ≡ empty_order }
     {
-        let labels = Vec::new(alloc);
-        let index = BTreeMap::new(alloc);
+        Order { table: None, alloc }
+    }
+
+    // The order that a table keeps.
+    pub(crate) fn of_table(alloc: Global, table: LabelTable) -> Order
+        requires { AreKept table }
+        ensures { result ≡ ranking table }
+    {
         Order {
-            labels,
-            index,
-            moved: 0,
+            table: Some(table),
+            alloc,
         }
     }
 
@@ -54,16 +51,21 @@ impl Order {
         ensures length { result ≡ length self.now.nodes }
         ensures order { IsOrder self.now }
     {
-        self.index.len()
+        match &self.table {
+            None => 0,
+            Some(table) => table.len() as usize,
+        }
     }
 
-    /// The rank of a node. It is counted, over all nodes of lower ranks.
+    /// The rank of a node. It is counted, over all nodes.
     pub fn rank(&self, node: u32) -> u32
         requires { node < length self.now.nodes }
         ensures { result ≡ slice_index self.now.ranks node }
     {
-        let label = self.labels[node as usize];
-        count_below(&self.index, label)
+        match &self.table {
+            None => unreachable!(),
+            Some(table) => table.rank(node),
+        }
     }
 
     /// Puts the next node in, which gets the highest rank.
@@ -72,7 +74,15 @@ impl Order {
         ensures ok { OnOk result (self.new ≡ with_next_node self.old) }
         ensures err { OnErr result (self.new ≡ self.old) }
     {
-        push_next(&mut self.labels, &mut self.index)
+        match &mut self.table {
+            Some(table) => table.push(),
+            None => {
+                let mut table = LabelTable::new(self.alloc)?;
+                table.push()?;
+                self.table = Some(table);
+                Ok(())
+            }
+        }
     }
 
     /// The order with so many more nodes, which get the highest ranks in the order of their numbers.
@@ -90,47 +100,7 @@ impl Order {
 
 impl TryClone for Order {
     fn try_clone(&self, alloc: Global) -> Result<Self, AllocError> {
-        let nodes = self.nodes(alloc)?;
-        Order::of_nodes(alloc, &nodes, self.moved)
+        let table = self.table.try_clone(alloc)?;
+        Ok(Order { table, alloc })
     }
-}
-
-// The next node gets the next label.
-fn push_next(labels: &mut Vec<u64>, index: &mut BTreeMap<u64, u32>) -> Result<(), AllocError>
-    requires labelled { IsLabelled labels.old.items index.old }
-    requires short { length labels.old.items + 1 < 2 ^ 32 }
-    ensures labelled { IsLabelled labels.new.items index.new }
-    ensures ok { OnOk result (ranking labels.new.items index.new
-        ≡ with_next_node (ranking labels.old.items index.old)) }
-    ensures err { OnErr result (ranking labels.new.items index.new
-        ≡ ranking labels.old.items index.old) }
-{
-    labels.reserve(1)?;
-    let next = labels.len();
-    let label = next_label(next);
-    put(index, label, next as u32)?;
-    labels.push_reserved(label);
-    Ok(())
-}
-
-// How many nodes have a lower label.
-fn count_below(index: &BTreeMap<u64, u32>, label: u64) -> u32
-    requires { tree.btree_map_len index.now < 2 ^ 32 }
-    ensures { result ≡ labels_below (tree.keys index.now) label }
-{
-    let mut below = 0;
-    for (other, _) in index.iter() {
-        if *other < label {
-            below += 1;
-        }
-    }
-    below
-}
-
-// The label that the next node gets, where there are so many: it is above theirs.
-pub(crate) fn next_label(count: usize) -> u64
-    requires { count < 2 ^ 32 }
-    ensures { result ≡ next_label count }
-{
-    FIRST + STEP * (count as u64)
 }

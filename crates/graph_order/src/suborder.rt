@@ -72,6 +72,6 @@ impl Order {
         let nodes = self.nodes(alloc)?;
         let numbers = new_numbers(alloc, keep, nodes.len())?;
         let kept = renumber(alloc, &numbers, &nodes)?;
-        Order::of_nodes(alloc, &kept, 0)
+        Order::of_nodes(alloc, &kept)
     }
 }

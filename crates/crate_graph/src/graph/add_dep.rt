@@ -1,22 +1,23 @@
 //! A dependency is added where it closes no cycle. The ranks of its two crates often tell; else a search
 //! among the ranks between them decides.
 
-ghost use Rattle.std.specs.Prelude.{◌≡◌, ◌+◌, ◌-◌, ◌<◌, ◌≤◌, [], ◌∷◌, ◌++◌, length, map, take};
+ghost use Rattle.std.specs.Prelude.{◌≡◌, ◌+◌, ◌<◌, ◌≤◌, [], ◌∷◌, ◌++◌, length, map};
 ghost use Rattle.std.specs.Prelude.{IfErr, OnErr, OnOk};
+ghost use Rattle.std.specs.Result.{MatchResult};
 ghost use Rattle.base_text.specs.Arena.{number_of};
 ghost use Rattle.graph_base.specs.Reach.{IsPathBack, Reaches};
-ghost use Rattle.graph_order.specs.Insertion.{most_visits};
+ghost use Rattle.graph_order.specs.Insertion.{CountsVisits, most_visits};
 ghost use Rattle.graph_order.specs.Placing.{FitsOrder, Rearranges};
 ghost use Rattle.crate_graph.specs.Cyclic.{names, numbers, shown_of};
 ghost use Rattle.crate_graph.specs.Refused.{IfCyclic};
-ghost use Rattle.crate_graph.specs.Graph.{AddsDependency, HasDependency, LosesDependency};
+ghost use Rattle.crate_graph.specs.Graph.{AddsDependency, HasDependency};
 ghost use Rattle.crate_graph.specs.Graph.{edges, target_of};
 
 use crate::cyclic::{AddDepError, CyclicDependenciesError};
 use crate::graph::CrateGraphBuilder;
 use base_text::Items;
 use crate_values::{CrateBuilder, CrateBuilderId, DependencyBuilder};
-use graph_order::{Order, Placement};
+use graph_order::{Marks, Order, Placement};
 use outside::{Counter, Ledger, Steps};
 use std::alloc::{AllocError, Global};
 use std::mem;
@@ -65,12 +66,23 @@ impl CrateGraphBuilder {
             IsPathBack (edges self.old.crates) (numbers path) (number_of from) (target_of dep))) }
         ensures names { IfErr result (λ e. IfCyclic e
             (λ path. names path ≡ map (shown_of self.old.crates) (numbers path))) }
+        ensures visits { MatchResult result
+            (λ _. CountsVisits (edges self.old.crates) (number_of from) (target_of dep)
+            self.old.order (L.count steps.old.ledger) (L.count steps.new.ledger))
+            (λ e. IfCyclic e (λ _. CountsVisits (edges self.old.crates) (number_of from)
+            (target_of dep) self.old.order (L.count steps.old.ledger)
+            (L.count steps.new.ledger))) }
         ensures steps { L.count steps.new.ledger ≤ L.count steps.old.ledger
             + most_visits self.old.order (number_of from) (target_of dep) }
     {
         let alloc = *self.crates.allocator();
         let (source, target) = (from.into_raw(), dep.crate_id.into_raw());
-        match self.order.room_for(alloc, self, source, target, steps)? {
+        let mut marks = mem::replace(&mut self.marks, Marks::new(alloc));
+        let room = self
+            .order
+            .room_for(alloc, self, source, target, &mut marks, steps);
+        self.marks = marks;
+        match room? {
             Ok(placement) => {
                 append_and_apply(
                     alloc,
@@ -117,31 +129,8 @@ fn append_and_apply(
     ensures order_same { OnErr result (order.new ≡ order.old) }
 {
     append(alloc, crates, from, dep)?;
-    match order.apply(placement) {
-        Ok(_) => Ok(()),
-        Err(error) => {
-            take_back(alloc, crates, from);
-            Err(error)
-        }
-    }
-}
-
-// Takes the last dependency of a crate out again.
-fn take_back(alloc: Global, crates: &mut Vec<CrateBuilder>, from: CrateBuilderId)
-    requires { number_of from < length crates.old.items }
-    ensures { LosesDependency crates.old.items crates.new.items (number_of from) }
-{
-    let krate = &mut crates[from.into_raw() as usize];
-    take_last(alloc, &mut krate.basic.dependencies);
-}
-
-// Takes the last dependency out.
-fn take_last(alloc: Global, list: &mut Items<DependencyBuilder>)
-    ensures { list.new ≡ take (length list.old - 1) list.old }
-{
-    let mut items = mem::replace(list, Items::empty(alloc)).into_inner();
-    drop(items.pop());
-    *list = Items::new(items);
+    order.apply(placement);
+    Ok(())
 }
 
 // Puts a dependency behind those of a crate.

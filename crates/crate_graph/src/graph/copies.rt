@@ -2,6 +2,7 @@
 
 use crate::graph::CrateGraphBuilder;
 use base_text::{TryClone, copy_items};
+use graph_order::Marks;
 use std::alloc::{AllocError, Global};
 
 impl TryClone for CrateGraphBuilder {
@@ -11,6 +12,7 @@ impl TryClone for CrateGraphBuilder {
         Ok(CrateGraphBuilder {
             crates,
             order,
+            marks: Marks::new(alloc),
             limit: self.limit,
         })
     }

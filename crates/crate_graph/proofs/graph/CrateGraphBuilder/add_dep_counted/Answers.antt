@@ -5,13 +5,13 @@ use Rattle.graph_base.proofs.ReachLemmas.{acyclic_with_edge, in_range_with_edge}
 use Rattle.graph_order.specs.Insertion.{GivesRoom}
 use Rattle.graph_order.specs.Order.{IsOrderOf}
 use Rattle.graph_order.specs.Placing.{Rearranges}
-use Rattle.crate_graph.specs.Graph.{HasDependency, IsRanked, IsWellMade, edges, target_of}
+use Rattle.crate_graph.specs.Graph.{HasDependency, IsWellMade, edges, target_of}
 use Rattle.crate_graph.proofs.GraphLemmas.{edges-with_dependency, length-edges, well_made-with_dependency}
 use Rattle.crate_graph.proofs.RankLemmas.{ranked-with_edge}
 use Rattle.crate_graph.proofs.graph.CrateGraphBuilder.add_dep_counted.Goals as goal
 
-pub room_for-requires-clause-in_range : goal.room_for-requires-clause-in_range
-room_for-requires-clause-in_range g c = (subst IsRanked c.self.view_is c.self.invariant).well_made.in_range
+pub room_for-room-requires-clause-in_range : goal.room_for-room-requires-clause-in_range
+room_for-room-requires-clause-in_range g c = c.self.invariant.well_made.in_range
 
 pub invariant_of-self-in-Ok : goal.invariant_of-self-in-Ok
 invariant_of-self-in-Ok g c =

@@ -50,7 +50,7 @@ renumber_macros-requires c = λ k d within.
 
 -- ---- the graph with all crates taken in
 abbrev After : Type 0
-After = goal.After-drop-other-inside-4
+After = goal.After-drop-other-inside-8
 
 is_merge : (c : After) → c.in_ok-merge.merge ≡ merge_of (krates.eq-value).it c.args.self.now.crates c.args.other.crates c.in_ok-order.order.items
 is_merge c =

@@ -1,8 +1,16 @@
-use Rattle.graph_order.proofs.LabelLemmas.{empty_labelled, empty_ranking}
+use Rattle.std.proofs.Common.{◌≡◌, ◌∙◌, ◌+◌, ◌<◌, ◌^◌, [], ℕ, List, Option, ap, arith, length, refl, subst, sym, true, false}
+use Rattle.std.specs.Prelude.{IfOk, OnErr, OnOk, slice_index}
+use Rattle.graph_labels.specs.Blocks.{FitAbove, FitBelow, RearrangesAbove, RearrangesBelow}
+use Rattle.graph_labels.specs.Listing.{IsInverse}
+use Rattle.graph_order.specs.Order.{AreKept, IsOrder, Ranking, ranking, ranks_in, with_next_node}
+use Rattle.graph_order.specs.Placing.{Placement}
+use Rattle.graph_order.proofs.RankingLemmas.{inverse_nodes, ranking_is_order}
+use Rattle.graph_order.proofs.ResultLemmas.{if_ok_then}
+use Rattle.graph_order.proofs.TableLemmas.{fits_above, fits_below, fits_nothing, has_each, inverse_kept, is_order, listed_short, moved_above, moved_below, node_count, none_kept, pushed_err, pushed_kept, pushed_ok, same_ranks}
 use Rattle.graph_order.proofs.order.Order.new.Goals as goal
 
 pub invariant_of-result : goal.invariant_of-result
-invariant_of-result c = empty_labelled c.new-labels.result.items c.new-index.result c.new-labels.ensures.items c.new-index.ensures.empty c.new-index.ensures.ordered
+invariant_of-result c = none_kept
 
 pub returns : goal.returns
-returns c = empty_ranking c.new-labels.result.items c.new-index.result c.new-labels.ensures.items c.new-index.ensures.empty
+returns c = refl

@@ -1,11 +1,24 @@
-use Rattle.std.proofs.Common.{◌≡◌, subst}
-use Rattle.std.specs.Prelude.{IfOk}
-use Rattle.graph_order.specs.Order.{IsOrder, Ranking}
-use Rattle.graph_order.proofs.LabelLemmas.{ranking_is_order}
+use Rattle.std.proofs.Common.{◌≡◌, ◌∙◌, ◌+◌, ◌<◌, ◌^◌, [], ℕ, List, Option, ap, arith, length, refl, subst, sym, true, false}
+use Rattle.std.specs.Prelude.{IfOk, OnErr, OnOk, slice_index}
+use Rattle.graph_labels.specs.Blocks.{FitAbove, FitBelow, RearrangesAbove, RearrangesBelow}
+use Rattle.graph_labels.specs.Listing.{IsInverse}
+use Rattle.graph_order.specs.Order.{AreKept, IsOrder, Ranking, ranking, ranks_in, with_next_node}
+use Rattle.graph_order.specs.Placing.{Placement}
+use Rattle.graph_order.proofs.RankingLemmas.{inverse_nodes, ranking_is_order}
+use Rattle.graph_order.proofs.ResultLemmas.{if_ok_then}
+use Rattle.graph_order.proofs.TableLemmas.{fits_above, fits_below, fits_nothing, has_each, inverse_kept, is_order, listed_short, moved_above, moved_below, node_count, none_kept, pushed_err, pushed_kept, pushed_ok, same_ranks}
 use Rattle.graph_order.proofs.order.Order.nodes.Goals as goal
 
-pub returns-clause-nodes : goal.returns-clause-nodes
-returns-clause-nodes c = subst (λ (o : Ranking). IfOk c.list_nodes.result (λ nodes. nodes.items ≡ o.nodes)) c.self.view_is c.list_nodes.ensures
+pub returns-in-None-clause-nodes : goal.returns-in-None-clause-nodes
+returns-in-None-clause-nodes c = c.new.ensures.items ∙ ap (λ (o : Ranking). o.nodes) (ap (λ (o : Option (List ℕ)). ranking (ranks_in o)) (sym c.in-None.is) ∙ c.self.view_is)
 
-pub returns-clause-order : goal.returns-clause-order
-returns-clause-order c = subst IsOrder c.self.view_is (ranking_is_order c.self.inside.labels.items c.self.inside.index c.self.invariant)
+pub returns-in-None-clause-order : goal.returns-in-None-clause-order
+returns-in-None-clause-order c = is_order [] c.args.self.now (ap (λ (o : Option (List ℕ)). ranking (ranks_in o)) (sym c.in-None.is) ∙ c.self.view_is) none_kept
+
+pub returns-in-Some-clause-nodes : goal.returns-in-Some-clause-nodes
+returns-in-Some-clause-nodes c =
+    if_ok_then (λ nodes. IsInverse nodes.items c.in-Some.table) (λ nodes. nodes.items ≡ c.args.self.now.nodes) c.nodes.result
+    (λ nodes is. inverse_nodes nodes.items c.in-Some.table (subst (λ (o : Option (List ℕ)). AreKept (ranks_in o)) c.in-Some.is c.self.invariant) is ∙ ap (λ (o : Ranking). o.nodes) (ap (λ (o : Option (List ℕ)). ranking (ranks_in o)) (sym c.in-Some.is) ∙ c.self.view_is)) c.nodes.ensures
+
+pub returns-in-Some-clause-order : goal.returns-in-Some-clause-order
+returns-in-Some-clause-order c = is_order c.in-Some.table c.args.self.now (ap (λ (o : Option (List ℕ)). ranking (ranks_in o)) (sym c.in-Some.is) ∙ c.self.view_is) (subst (λ (o : Option (List ℕ)). AreKept (ranks_in o)) c.in-Some.is c.self.invariant)

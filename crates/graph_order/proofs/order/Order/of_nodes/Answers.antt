@@ -1,14 +1,20 @@
-use Rattle.graph_order.proofs.LabelLemmas.{ranking_is_order}
-use Rattle.graph_order.proofs.ListingLemmas.{spaced_labelled, spaced_nodes}
+use Rattle.std.proofs.Common.{◌≡◌, ◌∙◌, ◌+◌, ◌<◌, ◌^◌, [], ℕ, List, Option, ap, arith, length, refl, subst, sym, true, false}
+use Rattle.std.specs.Prelude.{IfOk, OnErr, OnOk, slice_index}
+use Rattle.graph_labels.specs.Blocks.{FitAbove, FitBelow, RearrangesAbove, RearrangesBelow}
+use Rattle.graph_labels.specs.Listing.{IsInverse}
+use Rattle.graph_order.specs.Order.{AreKept, IsOrder, Ranking, ranking, ranks_in, with_next_node}
+use Rattle.graph_order.specs.Placing.{Placement}
+use Rattle.graph_order.proofs.RankingLemmas.{inverse_nodes, ranking_is_order}
+use Rattle.graph_order.proofs.ResultLemmas.{if_ok_then}
+use Rattle.graph_order.proofs.TableLemmas.{fits_above, fits_below, fits_nothing, has_each, inverse_kept, is_order, listed_short, moved_above, moved_below, node_count, none_kept, pushed_err, pushed_kept, pushed_ok, same_ranks}
 use Rattle.graph_order.proofs.order.Order.of_nodes.Goals as goal
 
-pub invariant_of-result : goal.invariant_of-result
-invariant_of-result c = spaced_labelled c.args.nodes.now c.in_ok-labels.labels.items c.in_ok-labels.index c.requires.short c.requires.once c.in_ok-labels.ensures
-
 pub returns-clause-nodes : goal.returns-clause-nodes
-returns-clause-nodes c = spaced_nodes c.args.nodes.now c.in_ok-labels.labels.items c.in_ok-labels.index c.requires.short c.requires.once c.in_ok-labels.ensures
+returns-clause-nodes c =
+    let kept = inverse_kept c.args.nodes.now c.in_ok-table.table c.requires.short c.in_ok-table.ensures.ranks c.in_ok-table.ensures.nodes in
+    ap (λ (o : Ranking). o.nodes) c.of_table.ensures ∙ sym (inverse_nodes c.args.nodes.now c.in_ok-table.table kept c.in_ok-table.ensures.nodes)
 
 pub returns-clause-order : goal.returns-clause-order
 returns-clause-order c =
-    ranking_is_order c.in_ok-labels.labels.items c.in_ok-labels.index
-    (spaced_labelled c.args.nodes.now c.in_ok-labels.labels.items c.in_ok-labels.index c.requires.short c.requires.once c.in_ok-labels.ensures)
+    let kept = inverse_kept c.args.nodes.now c.in_ok-table.table c.requires.short c.in_ok-table.ensures.ranks c.in_ok-table.ensures.nodes in
+    subst IsOrder (sym c.of_table.ensures) (ranking_is_order c.in_ok-table.table kept.ranked kept.short)

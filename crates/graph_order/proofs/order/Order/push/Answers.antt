@@ -1,20 +1,20 @@
-use Rattle.std.proofs.Common.{◌≡◌, ap, arith, length, subst}
-use Rattle.std.specs.Prelude.{OnErr, OnOk}
-use Rattle.graph_order.specs.Labels.{ranking}
-use Rattle.graph_order.specs.Order.{Ranking, with_next_node}
-use Rattle.graph_order.proofs.LabelLemmas.{length-nodes}
+use Rattle.std.proofs.Common.{◌≡◌, ◌∙◌, ◌+◌, ◌<◌, ◌^◌, [], ℕ, List, Option, ap, arith, length, refl, subst, sym, true, false}
+use Rattle.std.specs.Prelude.{IfOk, OnErr, OnOk, slice_index}
+use Rattle.graph_labels.specs.Blocks.{FitAbove, FitBelow, RearrangesAbove, RearrangesBelow}
+use Rattle.graph_labels.specs.Listing.{IsInverse}
+use Rattle.graph_order.specs.Order.{AreKept, IsOrder, Ranking, ranking, ranks_in, with_next_node}
+use Rattle.graph_order.specs.Placing.{Placement}
+use Rattle.graph_order.proofs.RankingLemmas.{inverse_nodes, ranking_is_order}
+use Rattle.graph_order.proofs.ResultLemmas.{if_ok_then}
+use Rattle.graph_order.proofs.TableLemmas.{fits_above, fits_below, fits_nothing, has_each, inverse_kept, is_order, listed_short, moved_above, moved_below, node_count, none_kept, pushed_err, pushed_kept, pushed_ok, same_ranks}
 use Rattle.graph_order.proofs.order.Order.push.Goals as goal
 
-pub push_next-requires-clause-short : goal.push_next-requires-clause-short
-push_next-requires-clause-short c =
-    omega (arith, c.requires, ap (λ (o : Ranking). length o.nodes) c.self.view_is, length-nodes c.self.inside.labels.items c.self.inside.index c.self.invariant)
+pub push-requires : goal.push-requires
+push-requires c = omega (arith, c.requires, node_count c.in-Some.table c.args.self.now (ap (λ (o : Option (List ℕ)). ranking (ranks_in o)) (sym c.in-Some.is) ∙ c.self.view_is) (subst (λ (o : Option (List ℕ)). AreKept (ranks_in o)) c.in-Some.is c.self.invariant))
 
 pub invariant_of-self : goal.invariant_of-self
-invariant_of-self c = c.push_next.ensures.labelled
+invariant_of-self c = pushed_kept c.push.result c.in-Some.table c.push.new.self c.push.ensures.ranks (omega (arith, c.requires, node_count c.in-Some.table c.args.self.now (ap (λ (o : Option (List ℕ)). ranking (ranks_in o)) (sym c.in-Some.is) ∙ c.self.view_is) (subst (λ (o : Option (List ℕ)). AreKept (ranks_in o)) c.in-Some.is c.self.invariant))) c.push.ensures.ok c.push.ensures.err
 
-pub returns-clause-ok : goal.returns-clause-ok
-returns-clause-ok c =
-    subst (λ (o : Ranking). OnOk c.push_next.result (ranking c.push_next.new.labels.items c.push_next.new.index ≡ with_next_node o)) c.self.view_is c.push_next.ensures.ok
-
-pub returns-clause-err : goal.returns-clause-err
-returns-clause-err c = subst (λ (o : Ranking). OnErr c.push_next.result (ranking c.push_next.new.labels.items c.push_next.new.index ≡ o)) c.self.view_is c.push_next.ensures.err
+pub returns-in-Some-clause-ok : goal.returns-in-Some-clause-ok
+returns-in-Some-clause-ok c =
+    pushed_ok c.push.result c.in-Some.table c.push.new.self c.args.self.now (ap (λ (o : Option (List ℕ)). ranking (ranks_in o)) (sym c.in-Some.is) ∙ c.self.view_is) (subst (λ (o : Option (List ℕ)). AreKept (ranks_in o)) c.in-Some.is c.self.invariant) c.push.ensures.ranks (omega (arith, c.requires, node_count c.in-Some.table c.args.self.now (ap (λ (o : Option (List ℕ)). ranking (ranks_in o)) (sym c.in-Some.is) ∙ c.self.view_is) (subst (λ (o : Option (List ℕ)). AreKept (ranks_in o)) c.in-Some.is c.self.invariant))) c.push.ensures.ok

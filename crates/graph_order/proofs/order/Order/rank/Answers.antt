@@ -1,22 +1,19 @@
-use Rattle.std.proofs.Common.{◌≡◌, ◌<◌, ◌∙◌, ap, arith, get_or, length, sym}
-use Rattle.std.specs.BTreeMap as tree
-use Rattle.std.proofs.lemmas.List.{get_or_default}
-use Rattle.graph_order.specs.Labels.{labels_below}
-use Rattle.graph_order.specs.Order.{Ranking}
-use Rattle.graph_order.proofs.LabelLemmas.{length-entries, length-nodes, rank_at}
+use Rattle.std.proofs.Common.{◌≡◌, ◌∙◌, ◌+◌, ◌<◌, ◌^◌, [], ℕ, List, Option, ap, arith, length, refl, subst, sym, true, false}
+use Rattle.std.specs.Prelude.{IfOk, OnErr, OnOk, slice_index}
+use Rattle.graph_labels.specs.Blocks.{FitAbove, FitBelow, RearrangesAbove, RearrangesBelow}
+use Rattle.graph_labels.specs.Listing.{IsInverse}
+use Rattle.graph_order.specs.Order.{AreKept, IsOrder, Ranking, ranking, ranks_in, with_next_node}
+use Rattle.graph_order.specs.Placing.{Placement}
+use Rattle.graph_order.proofs.RankingLemmas.{inverse_nodes, ranking_is_order}
+use Rattle.graph_order.proofs.ResultLemmas.{if_ok_then}
+use Rattle.graph_order.proofs.TableLemmas.{fits_above, fits_below, fits_nothing, has_each, inverse_kept, is_order, listed_short, moved_above, moved_below, node_count, none_kept, pushed_err, pushed_kept, pushed_ok, same_ranks}
 use Rattle.graph_order.proofs.order.Order.rank.Goals as goal
 
-pub index-label-requires : goal.index-label-requires
-index-label-requires c = omega (arith, c.requires, ap (λ (o : Ranking). length o.nodes) c.self.view_is, length-nodes c.self.inside.labels.items c.self.inside.index c.self.invariant)
+pub unreachable-requires : goal.unreachable-requires
+unreachable-requires c = omega (arith, c.requires, node_count [] c.args.self.now (ap (λ (o : Option (List ℕ)). ranking (ranks_in o)) (sym c.in-None.is) ∙ c.self.view_is) none_kept)
 
-pub count_below-requires : goal.count_below-requires
-count_below-requires c = omega (arith, length-entries c.self.inside.labels.items c.self.inside.index c.self.invariant, c.self.invariant.short)
+pub rank-requires : goal.rank-requires
+rank-requires c = omega (arith, c.requires, node_count c.in-Some.table c.args.self.now (ap (λ (o : Option (List ℕ)). ranking (ranks_in o)) (sym c.in-Some.is) ∙ c.self.view_is) (subst (λ (o : Option (List ℕ)). AreKept (ranks_in o)) c.in-Some.is c.self.invariant))
 
 pub returns : goal.returns
-returns c =
-    let labels = c.self.inside.labels.items in
-    let there : c.args.node < length c.self.inside.labels.items =
-    omega (arith, c.requires, ap (λ (o : Ranking). length o.nodes) c.self.view_is, length-nodes c.self.inside.labels.items c.self.inside.index c.self.invariant) in
-    let label : c.index-label.result.now ≡ get_or labels c.args.node 0 = c.index-label.ensures ∙ get_or_default labels c.args.node c.index-label.result.now 0 there in
-    c.count_below.ensures ∙ ap (labels_below (tree.keys c.self.inside.index)) label
-    ∙ sym (rank_at labels c.self.inside.index c.self.invariant c.args.node there) ∙ ap (λ (o : Ranking). get_or o.ranks c.args.node 0) c.self.view_is
+returns c = c.rank.ensures ∙ ap (λ (rs : List ℕ). slice_index rs c.args.node) (sym (same_ranks c.in-Some.table c.args.self.now (ap (λ (o : Option (List ℕ)). ranking (ranks_in o)) (sym c.in-Some.is) ∙ c.self.view_is) (subst (λ (o : Option (List ℕ)). AreKept (ranks_in o)) c.in-Some.is c.self.invariant)))

@@ -1,119 +1,61 @@
-use Rattle.std.proofs.Common.{◌∙◌, arith, subst, sym}
-use Rattle.graph_order.specs.Insertion.{GivesRoom}
-use Rattle.graph_order.proofs.InsertionLemmas.{apart, apart-fits, both_in, label_up, labelling, question, room, room-fits, steps_within, was_found}
-use Rattle.graph_order.proofs.SearchLemmas.{are_linked, leads_up}
+use Rattle.std.proofs.Common.{◌≡◌, ◌∙◌, ◌+◌, ◌<◌, ◌≤◌, [], ℕ, List, Option, ap, arith, length, subst, sym}
+use Rattle.std.specs.Prelude.{IfErr, IfOk, OnOk, slice_index}
+use Rattle.graph_base.specs.Reach.{Reaches}
+use Rattle.graph_labels.specs.Ranks.{AreRanks}
+use Rattle.graph_order.specs.Insertion.{CountsVisits, GivesRoom, most_visits}
+use Rattle.graph_order.specs.Order.{AreKept, Descends, Ranking, ranking, ranks_in}
+use Rattle.graph_order.specs.Placing.{placement_below}
+use Rattle.graph_order.proofs.RoomLemmas.{apart_already}
+use Rattle.graph_order.proofs.TableLemmas.{is_order, node_count, none_kept, same_ranks}
+use Rattle.graph_order.proofs.VisitLemmas.{none_visited, room_fits}
 use Rattle.graph_order.proofs.order.Order.room_for.Goals as goal
 
-pub label_of-low-requires : goal.label_of-low-requires
-label_of-low-requires g c =
-    let q = question (g.G.Graph.rows c.args.graph.now) c.args.self.now c.self.inside.labels.items c.as_slice-labels.result.now c.self.inside.index c.args.from c.args.to
-    c.as_slice-labels.ensures.value c.self.view_is c.self.invariant c.requires.count c.requires.in_range c.requires.descends c.requires.nodes in
-    (both_in q).0
+pub unreachable-requires : goal.unreachable-requires
+unreachable-requires g c =
+    omega (arith, c.requires.nodes.0, node_count [] c.args.self.now (ap (λ (o : Option (List ℕ)). ranking (ranks_in o)) (sym c.in_default.is) ∙ c.self.view_is) none_kept)
 
-pub label_of-high-requires : goal.label_of-high-requires
-label_of-high-requires g c =
-    let q = question (g.G.Graph.rows c.args.graph.now) c.args.self.now c.self.inside.labels.items c.as_slice-labels.result.now c.self.inside.index c.args.from c.args.to
-    c.as_slice-labels.ensures.value c.self.view_is c.self.invariant c.requires.count c.requires.in_range c.requires.descends c.requires.nodes in
-    (both_in q).1
+pub is_below-requires : goal.is_below-requires
+is_below-requires g c =
+    record { nodes = (omega (arith, c.requires.nodes.1, (node_count c.in-Some.table c.args.self.now (ap (λ (o : Option (List ℕ)). ranking (ranks_in o)) (sym c.in-Some.is) ∙ c.self.view_is) (subst (λ (o : Option (List ℕ)). AreKept (ranks_in o)) c.in-Some.is c.self.invariant))), omega (arith, c.requires.nodes.0, (node_count c.in-Some.table c.args.self.now (ap (λ (o : Option (List ℕ)). ranking (ranks_in o)) (sym c.in-Some.is) ∙ c.self.view_is) (subst (λ (o : Option (List ℕ)). AreKept (ranks_in o)) c.in-Some.is c.self.invariant)))) }
 
-pub returns-then-high-low-clause-room : goal.returns-then-high-low-clause-room
-returns-then-high-low-clause-room g c =
-    let q = question (g.G.Graph.rows c.args.graph.now) c.args.self.now c.self.inside.labels.items c.as_slice-labels.result.now c.self.inside.index c.args.from c.args.to
-    c.as_slice-labels.ensures.value c.self.view_is c.self.invariant c.requires.count c.requires.in_range c.requires.descends c.requires.nodes in
-    subst (GivesRoom (g.G.Graph.rows c.args.graph.now) c.args.from c.args.to c.args.self.now) (sym c.none.ensures)
-    (room-fits q c.label_of-low.result c.label_of-high.result c.label_of-low.ensures c.label_of-high.ensures (omega (arith, c.if-high-low.true)))
+pub returns-then-is_below-clause-room : goal.returns-then-is_below-clause-room
+returns-then-is_below-clause-room g c =
+    let kept = (subst (λ (o : Option (List ℕ)). AreKept (ranks_in o)) c.in-Some.is c.self.invariant) in
+    room_fits (g.G.Graph.rows c.args.graph.now) c.args.self.now c.args.from c.args.to (is_order c.in-Some.table c.args.self.now (ap (λ (o : Option (List ℕ)). ranking (ranks_in o)) (sym c.in-Some.is) ∙ c.self.view_is) kept) (subst AreRanks (sym (same_ranks c.in-Some.table c.args.self.now (ap (λ (o : Option (List ℕ)). ranking (ranks_in o)) (sym c.in-Some.is) ∙ c.self.view_is) (subst (λ (o : Option (List ℕ)). AreKept (ranks_in o)) c.in-Some.is c.self.invariant))) kept.ranked) c.requires.in_range c.requires.count c.requires.descends
+    c.requires.nodes.0 c.requires.nodes.1 (subst (λ (rs : List ℕ). slice_index rs c.args.to < slice_index rs c.args.from) (sym (same_ranks c.in-Some.table c.args.self.now (ap (λ (o : Option (List ℕ)). ranking (ranks_in o)) (sym c.in-Some.is) ∙ c.self.view_is) (subst (λ (o : Option (List ℕ)). AreKept (ranks_in o)) c.in-Some.is c.self.invariant))) (c.is_below.ensures.0 c.if-is_below.true)) c.below.result (c.below.ensures ∙ ap (placement_below c.args.from) c.new.ensures.items)
 
-pub returns-then-high-low-clause-apart : goal.returns-then-high-low-clause-apart
-returns-then-high-low-clause-apart g c =
-    let q = question (g.G.Graph.rows c.args.graph.now) c.args.self.now c.self.inside.labels.items c.as_slice-labels.result.now c.self.inside.index c.args.from c.args.to
-    c.as_slice-labels.ensures.value c.self.view_is c.self.invariant c.requires.count c.requires.in_range c.requires.descends c.requires.nodes in
-    apart-fits q c.label_of-low.result c.label_of-high.result c.label_of-low.ensures c.label_of-high.ensures (omega (arith, c.if-high-low.true))
+pub returns-then-is_below-clause-apart : goal.returns-then-is_below-clause-apart
+returns-then-is_below-clause-apart g c =
+    apart_already (g.G.Graph.rows c.args.graph.now) c.args.self.now c.args.from c.args.to c.requires.descends (subst (λ (rs : List ℕ). slice_index rs c.args.to < slice_index rs c.args.from) (sym (same_ranks c.in-Some.table c.args.self.now (ap (λ (o : Option (List ℕ)). ranking (ranks_in o)) (sym c.in-Some.is) ∙ c.self.view_is) (subst (λ (o : Option (List ℕ)). AreKept (ranks_in o)) c.in-Some.is c.self.invariant))) (c.is_below.ensures.0 c.if-is_below.true))
 
-pub search-requires-clause-labelling : goal.search-requires-clause-labelling
-search-requires-clause-labelling g c =
-    let q = question (g.G.Graph.rows c.args.graph.now) c.args.self.now c.self.inside.labels.items c.as_slice-labels.result.now c.self.inside.index c.args.from c.args.to
-    c.as_slice-labels.ensures.value c.self.view_is c.self.invariant c.requires.count c.requires.in_range c.requires.descends c.requires.nodes in
-    labelling q
+pub returns-then-is_below-clause-visits : goal.returns-then-is_below-clause-visits
+returns-then-is_below-clause-visits g c =
+    none_visited (g.G.Graph.rows c.args.graph.now) c.args.self.now c.args.from c.args.to (g.L.Ledger.count c.args.steps.now.ledger) (subst (λ (rs : List ℕ). slice_index rs c.args.to < slice_index rs c.args.from) (sym (same_ranks c.in-Some.table c.args.self.now (ap (λ (o : Option (List ℕ)). ranking (ranks_in o)) (sym c.in-Some.is) ∙ c.self.view_is) (subst (λ (o : Option (List ℕ)). AreKept (ranks_in o)) c.in-Some.is c.self.invariant))) (c.is_below.ensures.0 c.if-is_below.true))
 
-pub search-requires-clause-nodes : goal.search-requires-clause-nodes
-search-requires-clause-nodes g c =
-    let q = question (g.G.Graph.rows c.args.graph.now) c.args.self.now c.self.inside.labels.items c.as_slice-labels.result.now c.self.inside.index c.args.from c.args.to
-    c.as_slice-labels.ensures.value c.self.view_is c.self.invariant c.requires.count c.requires.in_range c.requires.descends c.requires.nodes in
-    both_in q
+pub find_room-answer-requires-clause-kept : goal.find_room-answer-requires-clause-kept
+find_room-answer-requires-clause-kept g c =
+    (subst (λ (o : Option (List ℕ)). AreKept (ranks_in o)) c.in-Some.is c.self.invariant)
 
-pub search-requires-clause-up : goal.search-requires-clause-up
-search-requires-clause-up g c =
-    let q = question (g.G.Graph.rows c.args.graph.now) c.args.self.now c.self.inside.labels.items c.as_slice-labels.result.now c.self.inside.index c.args.from c.args.to
-    c.as_slice-labels.ensures.value c.self.view_is c.self.invariant c.requires.count c.requires.in_range c.requires.descends c.requires.nodes in
-    label_up q c.label_of-low.result c.label_of-high.result c.label_of-low.ensures c.label_of-high.ensures (omega (arith, c.if-high-low.false))
+pub find_room-answer-requires-clause-count : goal.find_room-answer-requires-clause-count
+find_room-answer-requires-clause-count g c =
+    sym (node_count c.in-Some.table c.args.self.now (ap (λ (o : Option (List ℕ)). ranking (ranks_in o)) (sym c.in-Some.is) ∙ c.self.view_is) (subst (λ (o : Option (List ℕ)). AreKept (ranks_in o)) c.in-Some.is c.self.invariant)) ∙ c.requires.count
 
-pub returns-in_err-found-clause-steps : goal.returns-in_err-found-clause-steps
-returns-in_err-found-clause-steps g c =
-    let q = question (g.G.Graph.rows c.args.graph.now) c.args.self.now c.self.inside.labels.items c.as_slice-labels.result.now c.self.inside.index c.args.from c.args.to
-    c.as_slice-labels.ensures.value c.self.view_is c.self.invariant c.requires.count c.requires.in_range c.requires.descends c.requires.nodes in
-    steps_within q _ _ c.in_err-found.ensures.steps
+pub find_room-answer-requires-clause-descends : goal.find_room-answer-requires-clause-descends
+find_room-answer-requires-clause-descends g c =
+    subst (λ (rs : List ℕ). Descends rs (g.G.Graph.rows c.args.graph.now)) (same_ranks c.in-Some.table c.args.self.now (ap (λ (o : Option (List ℕ)). ranking (ranks_in o)) (sym c.in-Some.is) ∙ c.self.view_is) (subst (λ (o : Option (List ℕ)). AreKept (ranks_in o)) c.in-Some.is c.self.invariant)) c.requires.descends
 
-pub path_back-requires-clause-from : goal.path_back-requires-clause-from
-path_back-requires-clause-from g c =
-    let q = question (g.G.Graph.rows c.args.graph.now) c.args.self.now c.self.inside.labels.items c.as_slice-labels.result.now c.self.inside.index c.args.from c.args.to
-    c.as_slice-labels.ensures.value c.self.view_is c.self.invariant c.requires.count c.requires.in_range c.requires.descends c.requires.nodes in
-    (both_in q).0
-
-pub path_back-requires-clause-visited : goal.path_back-requires-clause-visited
-path_back-requires-clause-visited g c =
-    let q = question (g.G.Graph.rows c.args.graph.now) c.args.self.now c.self.inside.labels.items c.as_slice-labels.result.now c.self.inside.index c.args.from c.args.to
-    c.as_slice-labels.ensures.value c.self.view_is c.self.invariant c.requires.count c.requires.in_range c.requires.descends c.requires.nodes in
-    was_found q c.label_of-low.result c.label_of-high.result c.label_of-low.ensures c.label_of-high.ensures c.in_ok-found.found c.in_ok-found.ensures.searched
-    (sym c.contains_key.ensures ∙ c.if-contains_key.true)
-
-pub path_back-requires-clause-up : goal.path_back-requires-clause-up
-path_back-requires-clause-up g c =
-    let q = question (g.G.Graph.rows c.args.graph.now) c.args.self.now c.self.inside.labels.items c.as_slice-labels.result.now c.self.inside.index c.args.from c.args.to
-    c.as_slice-labels.ensures.value c.self.view_is c.self.invariant c.requires.count c.requires.in_range c.requires.descends c.requires.nodes in
-    leads_up (g.G.Graph.rows c.args.graph.now) c.as_slice-labels.result.now c.args.from c.args.to (labelling q) c.in_ok-found.found c.in_ok-found.ensures.searched
-
-pub returns-in_err-path-clause-steps : goal.returns-in_err-path-clause-steps
-returns-in_err-path-clause-steps g c =
-    let q = question (g.G.Graph.rows c.args.graph.now) c.args.self.now c.self.inside.labels.items c.as_slice-labels.result.now c.self.inside.index c.args.from c.args.to
-    c.as_slice-labels.ensures.value c.self.view_is c.self.invariant c.requires.count c.requires.in_range c.requires.descends c.requires.nodes in
-    steps_within q _ _ c.in_ok-found.ensures.steps
-
-pub returns-then-contains_key-clause-path : goal.returns-then-contains_key-clause-path
-returns-then-contains_key-clause-path g c =
-    let rows = g.G.Graph.rows c.args.graph.now in
-    let q = question (g.G.Graph.rows c.args.graph.now) c.args.self.now c.self.inside.labels.items c.as_slice-labels.result.now c.self.inside.index c.args.from c.args.to
-    c.as_slice-labels.ensures.value c.self.view_is c.self.invariant c.requires.count c.requires.in_range c.requires.descends c.requires.nodes in
-    c.in_ok-path.ensures rows (are_linked rows c.as_slice-labels.result.now c.args.from c.args.to (labelling q) c.in_ok-found.found c.in_ok-found.ensures.searched)
-
-pub returns-then-contains_key-clause-steps : goal.returns-then-contains_key-clause-steps
-returns-then-contains_key-clause-steps g c =
-    let q = question (g.G.Graph.rows c.args.graph.now) c.args.self.now c.self.inside.labels.items c.as_slice-labels.result.now c.self.inside.index c.args.from c.args.to
-    c.as_slice-labels.ensures.value c.self.view_is c.self.invariant c.requires.count c.requires.in_range c.requires.descends c.requires.nodes in
-    steps_within q _ _ c.in_ok-found.ensures.steps
-
-pub returns-in_err-placement-clause-steps : goal.returns-in_err-placement-clause-steps
-returns-in_err-placement-clause-steps g c =
-    let q = question (g.G.Graph.rows c.args.graph.now) c.args.self.now c.self.inside.labels.items c.as_slice-labels.result.now c.self.inside.index c.args.from c.args.to
-    c.as_slice-labels.ensures.value c.self.view_is c.self.invariant c.requires.count c.requires.in_range c.requires.descends c.requires.nodes in
-    steps_within q _ _ c.in_ok-found.ensures.steps
+pub find_room-answer-requires-clause-nodes : goal.find_room-answer-requires-clause-nodes
+find_room-answer-requires-clause-nodes g c =
+    (omega (arith, c.requires.nodes.0, (node_count c.in-Some.table c.args.self.now (ap (λ (o : Option (List ℕ)). ranking (ranks_in o)) (sym c.in-Some.is) ∙ c.self.view_is) (subst (λ (o : Option (List ℕ)). AreKept (ranks_in o)) c.in-Some.is c.self.invariant))), omega (arith, c.requires.nodes.1, (node_count c.in-Some.table c.args.self.now (ap (λ (o : Option (List ℕ)). ranking (ranks_in o)) (sym c.in-Some.is) ∙ c.self.view_is) (subst (λ (o : Option (List ℕ)). AreKept (ranks_in o)) c.in-Some.is c.self.invariant))))
 
 pub returns-clause-room : goal.returns-clause-room
 returns-clause-room g c =
-    let q = question (g.G.Graph.rows c.args.graph.now) c.args.self.now c.self.inside.labels.items c.as_slice-labels.result.now c.self.inside.index c.args.from c.args.to
-    c.as_slice-labels.ensures.value c.self.view_is c.self.invariant c.requires.count c.requires.in_range c.requires.descends c.requires.nodes in
-    subst (GivesRoom (g.G.Graph.rows c.args.graph.now) c.args.from c.args.to c.args.self.now) (sym c.in_ok-placement.ensures)
-    (room q c.label_of-low.result c.label_of-high.result c.label_of-low.ensures c.label_of-high.ensures c.in_ok-found.found c.in_ok-found.ensures.searched
-    (omega (arith, c.if-high-low.false)) (sym c.contains_key.ensures ∙ c.if-contains_key.false))
+    subst (λ (o : Ranking). IfOk c.find_room-answer.result (λ answer. IfOk answer (GivesRoom (g.G.Graph.rows c.args.graph.now) c.args.from c.args.to o))) (ap (λ (o : Option (List ℕ)). ranking (ranks_in o)) (sym c.in-Some.is) ∙ c.self.view_is) c.find_room-answer.ensures.room
 
-pub returns-clause-apart : goal.returns-clause-apart
-returns-clause-apart g c =
-    let q = question (g.G.Graph.rows c.args.graph.now) c.args.self.now c.self.inside.labels.items c.as_slice-labels.result.now c.self.inside.index c.args.from c.args.to
-    c.as_slice-labels.ensures.value c.self.view_is c.self.invariant c.requires.count c.requires.in_range c.requires.descends c.requires.nodes in
-    apart q c.label_of-low.result c.label_of-high.result c.label_of-low.ensures c.label_of-high.ensures c.in_ok-found.found c.in_ok-found.ensures.searched
-    (omega (arith, c.if-high-low.false)) (sym c.contains_key.ensures ∙ c.if-contains_key.false)
+pub returns-clause-visits : goal.returns-clause-visits
+returns-clause-visits g c =
+    subst (λ (o : Ranking). OnOk c.find_room-answer.result (CountsVisits (g.G.Graph.rows c.args.graph.now) c.args.from c.args.to o (g.L.Ledger.count c.args.steps.now.ledger) (g.L.Ledger.count c.find_room-answer.new.steps.ledger))) (ap (λ (o : Option (List ℕ)). ranking (ranks_in o)) (sym c.in-Some.is) ∙ c.self.view_is) c.find_room-answer.ensures.visits
 
 pub returns-clause-steps : goal.returns-clause-steps
 returns-clause-steps g c =
-    let q = question (g.G.Graph.rows c.args.graph.now) c.args.self.now c.self.inside.labels.items c.as_slice-labels.result.now c.self.inside.index c.args.from c.args.to
-    c.as_slice-labels.ensures.value c.self.view_is c.self.invariant c.requires.count c.requires.in_range c.requires.descends c.requires.nodes in
-    steps_within q _ _ c.in_ok-found.ensures.steps
+    subst (λ (o : Ranking). g.L.Ledger.count c.find_room-answer.new.steps.ledger ≤ g.L.Ledger.count c.args.steps.now.ledger + most_visits o c.args.from c.args.to) (ap (λ (o : Option (List ℕ)). ranking (ranks_in o)) (sym c.in-Some.is) ∙ c.self.view_is) c.find_room-answer.ensures.steps
