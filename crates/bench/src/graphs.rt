@@ -1,6 +1,6 @@
-//! The graphs: a chain, whose dependencies are added from its front or from its end, layers of crates, each of
-//! which depends on all of the next layer, a chain that takes an equal one in, and chains that are set in a
-//! database.
+//! The graphs: a chain, whose dependencies are added from its front, from its end or in a mixed order, a tree,
+//! layers of crates, each of which depends on all of the next layer, graphs without a shape, a chain that takes
+//! an equal one in, and chains that are set in a database.
 
 use anyhow::{Result, bail};
 use base_text::{AbsPathBuf, CfgOptions, Edition, FileId, Text};
@@ -34,6 +34,12 @@ pub enum Kind {
     Forward,
     /// A chain, each crate of which gets its dependency after the next one did.
     Backward,
+    /// A chain, each crate of which gets its dependency in a mixed order.
+    Mixed,
+    /// A tree, each crate of which is numbered before the crates below it, and has two dependencies.
+    Tree,
+    /// A graph without a shape, which has two dependencies for each crate.
+    Random,
     Layers,
     /// A chain that takes an equal one in.
     Joined,
@@ -49,6 +55,9 @@ impl Kind {
         match word {
             "forward" => Some(Kind::Forward),
             "backward" => Some(Kind::Backward),
+            "mixed" => Some(Kind::Mixed),
+            "tree" => Some(Kind::Tree),
+            "random" => Some(Kind::Random),
             "layers" => Some(Kind::Layers),
             "joined" => Some(Kind::Joined),
             "set" => Some(Kind::Set),
@@ -60,7 +69,7 @@ impl Kind {
     /// How many crates a graph of the kind has where the command line does not say it.
     pub fn count(self) -> u32 {
         match self {
-            Kind::Forward | Kind::Backward => CHAIN,
+            Kind::Forward | Kind::Backward | Kind::Mixed | Kind::Tree | Kind::Random => CHAIN,
             Kind::Layers => LAYERS * WIDTH,
             Kind::Joined => JOINED,
             Kind::Set | Kind::SetApart => SET,
@@ -82,6 +91,9 @@ fn graph(alloc: Global, kind: Kind, count: u32) -> Result<Box<CrateGraphBuilder>
     match kind {
         Kind::Backward => chain(alloc, count, false, false),
         Kind::Layers => layers(alloc),
+        Kind::Mixed => mixed_chain(alloc, count),
+        Kind::Tree => tree(alloc, count),
+        Kind::Random => random(alloc, count),
         Kind::Joined => join_graphs(alloc, count),
         _ => chain(alloc, count, false, true),
     }
@@ -121,6 +133,81 @@ fn link(alloc: Global, graph: &mut CrateGraphBuilder, forward: bool) -> Result<(
         depend(alloc, graph, from, from + 1)?;
     }
     Ok(())
+}
+
+// A number that each number of 32 bits has for itself.
+fn mixed(number: u32) -> u32 {
+    number.wrapping_mul(2_654_435_761)
+}
+
+// A chain, each crate of which gets its dependency in a mixed order.
+fn mixed_chain(alloc: Global, count: u32) -> Result<Box<CrateGraphBuilder>> {
+    let mut graph = crates(alloc, count, false)?;
+    let edges = count.saturating_sub(1);
+    for place in 0..edges {
+        let from = (u64::from(place) * 2_654_435_761 % u64::from(edges)) as u32;
+        depend(alloc, &mut graph, from, from.saturating_add(1))?;
+    }
+    Ok(graph)
+}
+
+// A tree, each crate of which comes before all below it. Half of those below it are below its first dependency.
+fn tree(alloc: Global, count: u32) -> Result<Box<CrateGraphBuilder>> {
+    let mut graph = crates(alloc, count, false)?;
+    let mut sizes = vec![in alloc; count; 1]?;
+    sizes.resize(count as usize, 0)?;
+    for source in 0..count {
+        let size = match sizes.get(source as usize) {
+            Some(size) => *size,
+            None => 0,
+        };
+        let first = source.saturating_add(1);
+        let left = size / 2;
+        let right = size.saturating_sub(left).saturating_sub(1);
+        link_subtree(alloc, &mut graph, &mut sizes, source, first, left)?;
+        let second = first.saturating_add(left);
+        link_subtree(alloc, &mut graph, &mut sizes, source, second, right)?;
+    }
+    Ok(graph)
+}
+
+// Lets a crate depend on the first of so many below it.
+fn link_subtree(
+    alloc: Global,
+    graph: &mut CrateGraphBuilder,
+    sizes: &mut Vec<u32>,
+    source: u32,
+    target: u32,
+    size: u32,
+) -> Result<()> {
+    if size == 0 {
+        return Ok(());
+    }
+    match sizes.get_mut(target as usize) {
+        Some(below) => *below = size,
+        None => bail!("no such crate"),
+    }
+    depend(alloc, graph, source, target)
+}
+
+// Dependencies between any two crates, from the one with the lower mixed number.
+fn random(alloc: Global, count: u32) -> Result<Box<CrateGraphBuilder>> {
+    let mut graph = crates(alloc, count, false)?;
+    let mut state: u64 = 1;
+    for place in 0..count {
+        for _ in 0..2 {
+            state = state
+                .wrapping_mul(6_364_136_223_846_793_005)
+                .wrapping_add(1);
+            let other = ((state >> 33) % u64::from(count)) as u32;
+            if mixed(place) < mixed(other) {
+                depend(alloc, &mut graph, place, other)?;
+            } else if mixed(other) < mixed(place) {
+                depend(alloc, &mut graph, other, place)?;
+            }
+        }
+    }
+    Ok(graph)
 }
 
 fn join_graphs(alloc: Global, count: u32) -> Result<Box<CrateGraphBuilder>> {
