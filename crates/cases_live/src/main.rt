@@ -1,10 +1,8 @@
-//! Cases of live_input, live and live_plain: words of a command line, scripts through the whole program, sessions
-//! step by step, and the plain account of sessions.
+//! Cases of live_input and live: words of a command line, scripts through the whole program, and sessions step by step.
 #![tactic(auto)]
 
 mod config;
 mod generated;
-mod plain;
 mod runs;
 mod scripts;
 mod sessions;
@@ -17,14 +15,14 @@ use std::io;
 use std::process::ExitCode;
 use std::rt::Files;
 
-/// The calls of live_input, live and live_plain.
+/// The calls of live_input and live.
 struct LiveFamily;
 
 impl<R: Files + AllocGlobal> Family<R> for LiveFamily {
     fn answer(rt: &R, file: &str, case: Case<'_>) -> Result<Value, Fault> {
         match file {
+            "errors.jsonl" => runs::memory_error(rt.alloc()),
             "generated.jsonl" => generated::answer(rt.alloc(), case),
-            "plain.jsonl" => plain::answer(rt.alloc(), case),
             "scripts.jsonl" => scripts::answer(rt, case),
             "sessions.jsonl" => sessions::answer(rt.alloc(), case),
             "words.jsonl" => words::answer(rt.alloc(), case),

@@ -1,11 +1,10 @@
-//! Runs of the whole program, over streams of which the reads and writes of some numbers fail, and what the plain
-//! account makes of the same words and script.
+//! Runs of the whole program, over streams of which the reads and writes of some numbers fail, and the error that no script makes.
 
-use base_text::{FaultSink, FaultSource, MemorySink, Text};
-use cases::Fault;
-use live::{Live, live_cli};
-use live_plain::plain_answer;
-use std::alloc::{AllocError, Global};
+use base_text::{FaultSink, FaultSource, MemorySink};
+use cases::{Fault, List};
+use live::{Live, LiveError, fault_text, live_cli};
+use serde_json::Value;
+use std::alloc::Global;
 
 /// What a run leaves: its status, whether its session has ended, and its sinks.
 #[derive(Drop)]
@@ -40,24 +39,12 @@ pub fn run(
     })
 }
 
-/// Whether a run has the status and the pages of the plain account.
-pub fn is_plain(alloc: Global, words: &[String], script: &[u8], ran: &Ran) -> Result<bool, Fault> {
-    let (status, pages) = account(alloc, words, script)?;
-    Ok(ran.status == status && ran.out.bytes() == pages.as_str().as_bytes())
-}
-
-// The status and the pages of the plain account.
-fn account(alloc: Global, words: &[String], script: &[u8]) -> Result<(u8, String), AllocError> {
-    let answer = plain_answer(alloc, words, script)?;
-    let pages = join_pages(alloc, answer.pages.as_slice())?;
-    Ok((answer.status, pages))
-}
-
-/// Pages as one text.
-pub fn join_pages(alloc: Global, pages: &[Text]) -> Result<String, AllocError> {
-    let mut text = String::new(alloc);
-    for page in pages {
-        text.push_str(page.as_str())?;
-    }
-    Ok(text)
+/// The status of out of memory, and its text for people.
+pub fn memory_error(alloc: Global) -> Result<Value, Fault> {
+    let error = LiveError::OutOfMemory;
+    let text = fault_text(alloc, &error)?;
+    List::new(alloc)
+        .number(error.status() as u64)
+        .text(text.as_str())
+        .answer()
 }

@@ -1,7 +1,7 @@
 //! Scripts through the whole program: its status, its pages, and the text of its error.
 
-use crate::runs::{Ran, is_plain, run};
-use crate::values::{numbers_of, pages_of, script_of, words_of};
+use crate::runs::{Ran, run};
+use crate::values::{numbers_of, pages_of, script_of, text_of_bytes, words_of};
 use cases::{Case, Fault, Object};
 use serde_json::Value;
 use std::alloc::Global;
@@ -37,6 +37,7 @@ fn bytes_of<R: Files + AllocGlobal>(rt: &R, name: &str) -> Result<Vec<u8>, Fault
     }
 }
 
+// Runs a script over streams of which the reads and writes fail that the case names.
 fn script_answer(
     alloc: Global,
     case: Case<'_>,
@@ -44,33 +45,25 @@ fn script_answer(
     wanted: Option<&[u8]>,
 ) -> Result<Value, Fault> {
     let words = words_of(alloc, case)?;
-    let ran = run_case(alloc, case, words.as_slice(), script)?;
-    compare_runs(alloc, words.as_slice(), script, &ran, wanted)
-}
-
-// Runs a script over streams of which the reads and writes fail that the case names.
-fn run_case(alloc: Global, case: Case<'_>, words: &[String], script: &[u8]) -> Result<Ran, Fault> {
     let reads = numbers_of(alloc, case, "failing_reads")?;
     let writes = numbers_of(alloc, case, "failing_writes")?;
-    run(alloc, words, script, reads.as_slice(), writes.as_slice())
+    let ran = run(
+        alloc,
+        words.as_slice(),
+        script,
+        reads.as_slice(),
+        writes.as_slice(),
+    )?;
+    run_answer(alloc, &ran, wanted)
 }
 
-// What a run leaves, beside the plain account and the pages that are wanted.
-fn compare_runs(
-    alloc: Global,
-    words: &[String],
-    script: &[u8],
-    ran: &Ran,
-    wanted: Option<&[u8]>,
-) -> Result<Value, Fault> {
-    let is_plain = is_plain(alloc, words, script, ran)?;
-    let err = String::from_utf8_lossy(alloc, ran.err.bytes())?;
+// What a run leaves, beside the pages that are wanted.
+fn run_answer(alloc: Global, ran: &Ran, wanted: Option<&[u8]>) -> Result<Value, Fault> {
     Object::new(alloc)
         .number("status", ran.status as u64)
-        .text("err", err.as_str())
+        .member("err", text_of_bytes(alloc, ran.err.bytes()))
         .member("pages", pages_answer(alloc, ran.out.bytes(), wanted))
         .flag("ended", ran.ended)
-        .flag("plain", is_plain)
         .answer()
 }
 

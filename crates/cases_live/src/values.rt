@@ -57,6 +57,12 @@ fn push_line(alloc: Global, script: &mut String, line: &Value) -> Result<(), All
     script.push_str("\n")
 }
 
+/// The bytes that a sink took, as a text.
+pub fn text_of_bytes(alloc: Global, bytes: &[u8]) -> Result<Value, Fault> {
+    let text = String::from_utf8_lossy(alloc, bytes)?;
+    text_answer(alloc, text.as_str())
+}
+
 /// The pages that a sink took, each a value where its text is what is written of that value, else the text.
 pub fn pages_of(alloc: Global, out: &[u8]) -> Result<Value, Fault> {
     let text = String::from_utf8_lossy(alloc, out)?;
