@@ -1,8 +1,7 @@
 //! A toolchain, and what questions are asked with.
 
 use base_text::{ByText, RecordedRunner, Text};
-use case_lines::{absolute, optional_path, runner_of, variable_of, variables};
-use cases::{Case, Fault, List, text_of};
+use cases::{Case, Fault, List, absolute, optional_path, runner_of, texts_of_pair, variables};
 use crate_values::Env;
 use pm_config::Tools;
 use pm_sysroot::{Ask, Sysroot};
@@ -47,15 +46,10 @@ impl Given {
     // Takes what a case gives, but for the tools.
     fn read(&mut self, alloc: Global, case: Case<'_>) -> Result<(), Fault> {
         self.sysroot = sysroot_of(alloc, case)?;
-        self.process_env = env_of(alloc, case.list("process")?)?;
-        self.extra_env = variables(alloc, case.list("extra")?)?;
-        self.read_outside(alloc, case)
-    }
-
-    // Takes the answers and the files of a case.
-    fn read_outside(&mut self, alloc: Global, case: Case<'_>) -> Result<(), Fault> {
-        self.runner = runner_of(alloc, case.list("answers")?)?;
-        self.tree = tree_of(alloc, case.list("files")?)?;
+        self.process_env = env_of(alloc, case, "process")?;
+        self.extra_env = variables(alloc, case, "extra")?;
+        self.runner = runner_of(alloc, case)?;
+        self.tree = tree_of(alloc, case)?;
         Ok(())
     }
 
@@ -85,20 +79,14 @@ pub fn usual_tools(alloc: Global) -> Result<Tools, AllocError> {
     })
 }
 
-/// The environment of some variables, each with a value.
-pub fn env_of(alloc: Global, variables: &[Value]) -> Result<Env, Fault> {
+/// The environment of the variables of a list, each with a value.
+pub fn env_of(alloc: Global, case: Case<'_>, key: &'static str) -> Result<Env, AllocError> {
     let mut env = Env::new(alloc);
-    for variable in variables {
-        set(alloc, &mut env, variable)?;
+    for pair in case.list(key) {
+        let (name, value) = texts_of_pair(alloc, case.with(pair))?;
+        env.set(name, value)?;
     }
     Ok(env)
-}
-
-fn set(alloc: Global, env: &mut Env, variable: &Value) -> Result<(), Fault> {
-    let (name, value) = variable_of(variable)?;
-    let value = String::from_str(alloc, value.unwrap_or(""))?;
-    env.set(String::from_str(alloc, name)?, value)?;
-    Ok(())
 }
 
 /// An environment as it is compared: its variables with their values.
@@ -110,17 +98,18 @@ pub fn env_answer(alloc: Global, env: &Env) -> Result<Value, Fault> {
     pairs.answer()
 }
 
-fn tree_of(alloc: Global, files: &[Value]) -> Result<MemoryTree, Fault> {
+// The tree of the files of a case, which are empty.
+fn tree_of(alloc: Global, case: Case<'_>) -> Result<MemoryTree, Fault> {
     let mut tree = MemoryTree::new(alloc);
-    for file in files {
-        insert(alloc, &mut tree, text_of(file, "files")?)?;
+    for file in case.list("files") {
+        insert(alloc, &mut tree, case.with(file).as_text(), "")?;
     }
     Ok(tree)
 }
 
-// Puts an empty file in.
-fn insert(alloc: Global, tree: &mut MemoryTree, path: &str) -> Result<(), Fault> {
-    let text = Text::of_str(alloc, "")?;
-    tree.insert(absolute(alloc, path, "files")?, text)?;
+/// Puts a file in.
+pub fn insert(alloc: Global, tree: &mut MemoryTree, path: &str, text: &str) -> Result<(), Fault> {
+    let text = Text::of_str(alloc, text)?;
+    tree.insert(absolute(alloc, path)?, text)?;
     Ok(())
 }

@@ -22,7 +22,7 @@ fn tools(alloc: Global) -> Result<Tools, AllocError> {
 
 /// A tool by its name.
 pub fn tool_of(case: Case<'_>) -> Result<Tool, Fault> {
-    match case.text("tool")? {
+    match case.text("tool") {
         "cargo" => Ok(Tool::Cargo),
         "rustc" => Ok(Tool::Rustc),
         "rustup" => Ok(Tool::Rustup),

@@ -1,15 +1,14 @@
 //! Manifests, versions and features of cases.
 
 use base_text::Version;
-use case_lines::{absolute, texts};
-use cases::{Case, Fault};
+use cases::{Case, Fault, absolute, texts};
 use pm_config::CargoFeatures;
 use pm_packages::ManifestPath;
 use std::alloc::{AllocError, Global};
 
 /// A manifest, which the path has to be one of.
 pub fn manifest_of(alloc: Global, text: &str) -> Result<ManifestPath, Fault> {
-    match ManifestPath::new(absolute(alloc, text, "manifest")?) {
+    match ManifestPath::new(absolute(alloc, text)?) {
         Ok(manifest) => Ok(manifest),
         Err(_root) => Err(Fault::Condition),
     }
@@ -38,7 +37,7 @@ pub fn features_of(alloc: Global, case: Case<'_>) -> Result<CargoFeatures, Fault
         return Ok(CargoFeatures::All);
     }
     Ok(CargoFeatures::Selected {
-        features: texts(alloc, case.list("features")?)?,
+        features: texts(alloc, case, "features")?,
         no_default_features: case.flag("no_default_features"),
     })
 }

@@ -1,10 +1,12 @@
 //! A case: one JSON object, of which each call reads the members that it needs.
 
-ghost use Rattle.std.specs.Prelude.{◌≤◌, IfOk};
+ghost use Rattle.std.specs.Prelude.{◌≤◌};
 
 use crate::answer::Object;
 use serde_json::Value;
 use std::alloc::{AllocError, AllocFailed, Global};
+use std::cell::Cell;
+use std::fmt;
 use thiserror::Error;
 
 /// Why a case gives nothing.
@@ -36,15 +38,29 @@ impl<T: Drop> From<AllocFailed<T>> for Fault {
     }
 }
 
-/// The members of a case.
+/// A case, or a value that stands within it. What is missing, or is of another form, reads as nothing; its key is kept, and the
+/// case fails.
 #[derive(Clone, Copy)]
 pub struct Case<'a> {
     value: &'a Value,
+    missing: &'a Cell<Option<&'static str>>,
 }
 
 impl<'a> Case<'a> {
-    pub fn new(value: &'a Value) -> Self {
-        Case { value }
+    pub fn new(value: &'a Value, missing: &'a Cell<Option<&'static str>>) -> Self {
+        Case { value, missing }
+    }
+
+    /// A value that stands within the case.
+    pub fn with(self, value: &'a Value) -> Self {
+        Case {
+            value,
+            missing: self.missing,
+        }
+    }
+
+    pub fn value(self) -> &'a Value {
+        self.value
     }
 
     /// A member, if there is one.
@@ -52,20 +68,99 @@ impl<'a> Case<'a> {
         self.value.get(key)
     }
 
-    pub fn member(self, key: &'static str) -> Result<&'a Value, Fault> {
-        self.find(key).ok_or(Fault::Member(key))
+    pub fn member(self, key: &'static str) -> &'a Value {
+        match self.find(key) {
+            Some(member) => member,
+            None => {
+                self.missing.set(Some(key));
+                self.value
+            }
+        }
+    }
+
+    /// A member, to read on.
+    pub fn of(self, key: &'static str) -> Self {
+        self.with(self.member(key))
+    }
+
+    /// An item of a list, to read on.
+    pub fn at(self, place: usize) -> Self {
+        let items = self.items();
+        match items.get(place) {
+            Some(item) => self.with(item),
+            None => {
+                self.missing.set(Some("item"));
+                self
+            }
+        }
     }
 
     pub fn optional_text(self, key: &'static str) -> Option<&'a str> {
         self.find(key).and_then(Value::as_str)
     }
 
-    pub fn text(self, key: &'static str) -> Result<&'a str, Fault> {
-        self.optional_text(key).ok_or(Fault::Member(key))
+    pub fn text(self, key: &'static str) -> &'a str {
+        self.text_or_nothing(self.optional_text(key), key)
     }
 
-    pub fn number(self, key: &'static str) -> Result<u64, Fault> {
-        self.member(key)?.as_u64().ok_or(Fault::Member(key))
+    fn text_or_nothing(self, text: Option<&'a str>, key: &'static str) -> &'a str {
+        match text {
+            Some(text) => text,
+            None => {
+                self.missing.set(Some(key));
+                ""
+            }
+        }
+    }
+
+    /// The text that this value is.
+    pub fn as_text(self) -> &'a str {
+        self.text_or_nothing(self.value.as_str(), "text")
+    }
+
+    /// The text of an item of a list.
+    pub fn text_at(self, place: usize) -> &'a str {
+        self.at(place).as_text()
+    }
+
+    /// The number that this value is.
+    pub fn as_number(self) -> u64 {
+        match self.value.as_u64() {
+            Some(number) => number,
+            None => {
+                self.missing.set(Some("number"));
+                0
+            }
+        }
+    }
+
+    pub fn number(self, key: &'static str) -> u64 {
+        self.of(key).as_number()
+    }
+
+    /// A number of at most so much.
+    fn number_within(self, most: u32) -> u32
+        ensures { result ≤ most }
+    {
+        let number = self.as_number();
+        if number <= most as u64 {
+            number as u32
+        } else {
+            self.missing.set(Some("number"));
+            0
+        }
+    }
+
+    /// The number of 32 bits that this value is.
+    pub fn as_u32(self) -> u32 {
+        self.number_within(u32::MAX)
+    }
+
+    /// The number of 31 bits that this value is, as the numbers of files are.
+    pub fn as_file_number(self) -> u32
+        ensures { result ≤ 0x7fff_ffff }
+    {
+        self.number_within(0x7fff_ffff)
     }
 
     /// Whether a flag is set. Without the member it is not.
@@ -73,58 +168,23 @@ impl<'a> Case<'a> {
         self.find(key).and_then(Value::as_bool).unwrap_or(false)
     }
 
-    /// The items of a list. Without the member there are none.
-    pub fn list(self, key: &'static str) -> Result<&'a [Value], Fault> {
-        let Some(value) = self.find(key) else {
-            return Ok(&[]);
-        };
-        let items = value.as_array().ok_or(Fault::Member(key))?;
-        Ok(items.as_slice())
+    /// The items of the list that this value is.
+    pub fn items(self) -> &'a [Value] {
+        match self.value.as_array() {
+            Some(items) => items.as_slice(),
+            None => {
+                self.missing.set(Some("list"));
+                &[]
+            }
+        }
     }
-}
 
-/// An item of a list, which is of the form that the key's list has.
-pub fn item<'a>(items: &'a [Value], place: usize, key: &'static str) -> Result<&'a Value, Fault> {
-    items.get(place).ok_or(Fault::Member(key))
-}
-
-/// The items of a value that is a list.
-pub fn items_of<'a>(value: &'a Value, key: &'static str) -> Result<&'a [Value], Fault> {
-    let items = value.as_array().ok_or(Fault::Member(key))?;
-    Ok(items.as_slice())
-}
-
-/// The two items of a value that is a list of them.
-pub fn pair_of<'a>(value: &'a Value, key: &'static str) -> Result<(&'a Value, &'a Value), Fault> {
-    let items = items_of(value, key)?;
-    Ok((item(items, 0, key)?, item(items, 1, key)?))
-}
-
-/// The two texts of a value that is a list of them.
-pub fn texts_of_pair<'a>(value: &'a Value, key: &'static str) -> Result<(&'a str, &'a str), Fault> {
-    let (first, second) = pair_of(value, key)?;
-    Ok((text_of(first, key)?, text_of(second, key)?))
-}
-
-pub fn text_of<'a>(value: &'a Value, key: &'static str) -> Result<&'a str, Fault> {
-    value.as_str().ok_or(Fault::Member(key))
-}
-
-/// A number of 32 bits.
-pub fn number_of(value: &Value, key: &'static str) -> Result<u32, Fault> {
-    let number = value.as_u64().ok_or(Fault::Member(key))?;
-    u32::try_from(number).ok().ok_or(Fault::Member(key))
-}
-
-/// A number of 31 bits, as the numbers of files are.
-pub fn file_number_of(value: &Value, key: &'static str) -> Result<u32, Fault>
-    ensures { IfOk result (λ number. number ≤ 0x7fff_ffff) }
-{
-    let number = number_of(value, key)?;
-    if number <= 0x7fff_ffff {
-        Ok(number)
-    } else {
-        Err(Fault::Condition)
+    /// The items of a list. Without the member there are none.
+    pub fn list(self, key: &'static str) -> &'a [Value] {
+        match self.find(key) {
+            Some(value) => self.with(value).items(),
+            None => &[],
+        }
     }
 }
 
@@ -139,6 +199,25 @@ pub fn optional_answer(alloc: Global, text: Option<&str>) -> Result<Value, Fault
         Some(text) => text_answer(alloc, text),
         None => Ok(Value::Null),
     }
+}
+
+/// An answer that is what is printed of a value.
+pub fn print_answer<T: fmt::Display>(alloc: Global, value: &T) -> Result<Value, Fault> {
+    Ok(Value::String(format!(in alloc; "{value}")?))
+}
+
+/// An answer that is what is printed of a value that was made.
+pub fn printed_answer<T: fmt::Display + Drop>(
+    alloc: Global,
+    made: Result<T, AllocError>,
+) -> Result<Value, Fault> {
+    print_answer(alloc, &made?)
+}
+
+/// An answer that is bytes as a text.
+pub fn bytes_answer(alloc: Global, bytes: &[u8]) -> Result<Value, Fault> {
+    let text = String::from_utf8_lossy(alloc, bytes)?;
+    text_answer(alloc, text.as_str())
 }
 
 /// An answer that is an error, by its name.

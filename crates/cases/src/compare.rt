@@ -2,6 +2,7 @@
 
 use crate::case::{Case, Fault};
 use serde_json::Value;
+use std::cell::Cell;
 use std::env::Env;
 use std::process::ExitCode;
 use std::rt::Files;
@@ -48,13 +49,26 @@ fn run_line<F: Family<R>, R: Print + AllocGlobal>(
         println!(rt; "{file}: no JSON: {line}")?;
         return Ok(false);
     };
-    let case = Case::new(&value);
-    match F::answer(rt, file, case) {
+    let missing = Cell::new(None);
+    let case = Case::new(&value, &missing);
+    let answer = F::answer(rt, file, case);
+    match whole_answer(answer, missing.get()) {
         Ok(answer) => compare(rt, case, &answer),
         Err(fault) => {
             println!(rt; "{file}: {fault}: {line}")?;
             Ok(false)
         }
+    }
+}
+
+// An answer to a case that lacks no member.
+fn whole_answer(
+    answer: Result<Value, Fault>,
+    missing: Option<&'static str>,
+) -> Result<Value, Fault> {
+    match missing {
+        Some(key) => Err(Fault::Member(key)),
+        None => answer,
     }
 }
 

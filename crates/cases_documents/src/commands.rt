@@ -1,25 +1,24 @@
 //! Commands that ask for metadata, and what is read of their recorded answers.
 
 use crate::packages::refusal;
-use base_text::{RecordedRunner, Text, TryClone};
+use base_text::{Items, RecordedRunner, Text, TryClone};
 use cargo_meta::{CargoOpt, MetadataCommand};
-use case_lines::{line_answer, output_of, texts};
-use cases::{Case, Fault, Object, item, items_of, text_answer, text_of};
+use cases::{Case, Fault, Object, line_answer, output_of, text_answer};
 use serde_json::Value;
 use std::alloc::Global;
 
 /// What a call on a command gives.
 pub fn answer(alloc: Global, case: Case<'_>) -> Result<Value, Fault> {
-    match case.text("call")? {
+    match case.text("call") {
         "MetadataCommand::cargo_command" => {
             let command = command(alloc, case)?;
             words(alloc, &command)
         }
         "MetadataCommand::exec" => {
             let command = command(alloc, case)?;
-            exec(alloc, &command, case.find("answer"))
+            exec(alloc, &command, case)
         }
-        "MetadataCommand::parse" => parse(alloc, case.text("text")?),
+        "MetadataCommand::parse" => parse(alloc, case.text("text")),
         _ => Err(Fault::Call),
     }
 }
@@ -34,31 +33,26 @@ fn parse(alloc: Global, text: &str) -> Result<Value, Fault> {
 
 // The command after the calls of a case, in their order.
 fn command(alloc: Global, case: Case<'_>) -> Result<Box<MetadataCommand>, Fault> {
-    let calls = case.list("set")?;
     let mut command = Box::new(alloc, MetadataCommand::new(alloc))?;
-    for call in calls {
-        set(alloc, &mut command, call)?;
+    for call in case.list("set") {
+        set(alloc, &mut command, case.with(call))?;
     }
     Ok(command)
 }
 
 // One call: a list of its name, and of the words that it is given.
-fn set(alloc: Global, command: &mut MetadataCommand, call: &Value) -> Result<(), Fault> {
-    let call = items_of(call, "set")?;
-    let name = word_at(call, 0)?;
+fn set(alloc: Global, command: &mut MetadataCommand, call: Case<'_>) -> Result<(), Fault> {
+    let name = call.text_at(0);
     match name {
         "no_deps" | "verbose" | "all_features" | "no_default_features" => set_flag(command, name),
         "features" | "other_options" => set_words(alloc, command, name, call),
-        "cargo_path" | "manifest_path" | "current_dir" | "env_remove" => {
-            set_text(command, name, Text::of_str(alloc, word_at(call, 1)?)?)
+        "env" => {
+            let value = Text::of_str(alloc, call.text_at(2))?;
+            drop(command.env(Text::of_str(alloc, call.text_at(1))?, value)?);
+            Ok(())
         }
-        "env" => set_variable(alloc, command, call),
-        _ => Err(Fault::Member("set")),
+        _ => set_text(command, name, Text::of_str(alloc, call.text_at(1))?),
     }
-}
-
-fn word_at(call: &[Value], place: usize) -> Result<&str, Fault> {
-    text_of(item(call, place, "set")?, "set")
 }
 
 fn set_flag(command: &mut MetadataCommand, name: &str) -> Result<(), Fault> {
@@ -85,15 +79,18 @@ fn set_words(
     alloc: Global,
     command: &mut MetadataCommand,
     name: &str,
-    call: &[Value],
+    call: Case<'_>,
 ) -> Result<(), Fault> {
-    let words = texts(alloc, call.get(1..).unwrap_or(&[]))?;
-    match name {
-        "features" => {
-            let features = CargoOpt::SomeFeatures(words).try_clone(alloc)?;
-            drop(command.features(features)?);
-        }
-        _ => drop(command.other_options(words)),
+    let mut words = Vec::new(alloc);
+    for word in call.items().get(1..).unwrap_or(&[]) {
+        words.push(Text::of_str(alloc, call.with(word).as_text())?)?;
+    }
+    let words = Items::new(words);
+    if name == "features" {
+        let features = CargoOpt::SomeFeatures(words).try_clone(alloc)?;
+        drop(command.features(features)?);
+    } else {
+        drop(command.other_options(words));
     }
     Ok(())
 }
@@ -103,15 +100,9 @@ fn set_text(command: &mut MetadataCommand, name: &str, text: Text) -> Result<(),
         "cargo_path" => drop(command.cargo_path(text)),
         "manifest_path" => drop(command.manifest_path(text)),
         "current_dir" => drop(command.current_dir(text)),
-        _ => drop(command.env_remove(text)?),
+        "env_remove" => drop(command.env_remove(text)?),
+        _ => return Err(Fault::Member("set")),
     }
-    Ok(())
-}
-
-fn set_variable(alloc: Global, command: &mut MetadataCommand, call: &[Value]) -> Result<(), Fault> {
-    let (name, value) = (word_at(call, 1)?, word_at(call, 2)?);
-    let name = Text::of_str(alloc, name)?;
-    drop(command.env(name, Text::of_str(alloc, value)?)?);
     Ok(())
 }
 
@@ -131,34 +122,15 @@ fn line_of_copy(alloc: Global, command: &MetadataCommand) -> Result<Value, Fault
 }
 
 // What a command gives whose answer is recorded, if there is one: the workspace's root.
-fn exec(alloc: Global, command: &MetadataCommand, answer: Option<&Value>) -> Result<Value, Fault> {
-    let runner = record_answer(alloc, command, answer)?;
+fn exec(alloc: Global, command: &MetadataCommand, case: Case<'_>) -> Result<Value, Fault> {
+    let mut runner = RecordedRunner::new(alloc);
+    if case.find("answer").is_some() {
+        let output = output_of(alloc, case.of("answer"))?;
+        runner.insert(command.cargo_command(alloc)?, output)?;
+    }
     let reading = Box::new(alloc, command.exec(alloc, &runner))?;
     match &*reading {
         Ok(metadata) => text_answer(alloc, metadata.workspace_root.as_str()),
         Err(error) => refusal(alloc, error),
     }
-}
-
-fn record_answer(
-    alloc: Global,
-    command: &MetadataCommand,
-    answer: Option<&Value>,
-) -> Result<RecordedRunner, Fault> {
-    let mut runner = RecordedRunner::new(alloc);
-    if let Some(answer) = answer {
-        record(alloc, &mut runner, command, Case::new(answer))?;
-    }
-    Ok(runner)
-}
-
-fn record(
-    alloc: Global,
-    runner: &mut RecordedRunner,
-    command: &MetadataCommand,
-    answer: Case<'_>,
-) -> Result<(), Fault> {
-    let output = output_of(alloc, answer)?;
-    runner.insert(command.cargo_command(alloc)?, output)?;
-    Ok(())
 }

@@ -9,7 +9,6 @@ mod messages;
 mod metadata;
 mod names;
 mod packages;
-mod recursive;
 mod release;
 mod streams;
 mod values;
@@ -27,7 +26,6 @@ impl<R: Files + AllocGlobal> Family<R> for DocumentFamily {
     fn answer(rt: &R, file: &str, case: Case<'_>) -> Result<Value, Fault> {
         match file {
             "fields.jsonl" => fields::answer(rt.alloc(), case),
-            "recursive.jsonl" => recursive::answer(rt.alloc(), case),
             "values.jsonl" => values::answer(rt.alloc(), case),
             "packages.jsonl" => packages::answer(rt.alloc(), case),
             "metadata.jsonl" => metadata::answer(rt, case),

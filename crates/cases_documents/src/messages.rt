@@ -1,15 +1,14 @@
 //! Lines as messages: the value of each, and what is printed of it.
 
-use crate::names::print_value;
 use base_text::TryClone;
 use cargo_msgs::{ArtifactDebuginfo, Message};
-use cases::{Case, Fault, Object};
+use cases::{Case, Fault, Object, print_answer};
 use serde_json::Value;
 use std::alloc::Global;
 
 /// What a call on a line gives.
 pub fn answer(alloc: Global, case: Case<'_>) -> Result<Value, Fault> {
-    let (line, call) = (case.text("line")?, case.text("call")?);
+    let (line, call) = (case.text("line"), case.text("call"));
     let message = Box::new(alloc, Message::of_line(alloc, line)?)?;
     of_message(alloc, call, &message)
 }
@@ -26,16 +25,11 @@ fn of_message(alloc: Global, call: &str, message: &Message) -> Result<Value, Fau
 
 /// The value of a message, or the text of a line that is no message.
 pub fn write_message(alloc: Global, message: &Message) -> Result<Value, Fault> {
+    let value = message.to_value(alloc)?;
     match message {
-        Message::TextLine(_) => Object::new(alloc)
-            .member("text", value_of(alloc, message))
-            .answer(),
-        _ => value_of(alloc, message),
+        Message::TextLine(_) => Object::new(alloc).member("text", Ok(value)).answer(),
+        _ => Ok(value),
     }
-}
-
-fn value_of(alloc: Global, message: &Message) -> Result<Value, Fault> {
-    Ok(message.to_value(alloc)?)
 }
 
 // The value of a message's copy.
@@ -47,7 +41,7 @@ fn copy_message(alloc: Global, message: &Message) -> Result<Value, Fault> {
 // What is printed of what the compiler said.
 fn compiler_message(alloc: Global, message: &Message) -> Result<Value, Fault> {
     match message {
-        Message::CompilerMessage(message) => print_value(alloc, message),
+        Message::CompilerMessage(message) => print_answer(alloc, message),
         _ => Err(Fault::Member("line")),
     }
 }
@@ -59,7 +53,7 @@ fn debuginfo(alloc: Global, message: &Message) -> Result<Value, Fault> {
             let debuginfo = &artifact.profile.debuginfo;
             let is_default = *debuginfo == ArtifactDebuginfo::default();
             Object::new(alloc)
-                .member("printed", print_value(alloc, debuginfo))
+                .member("printed", print_answer(alloc, debuginfo))
                 .flag("default", is_default)
                 .answer()
         }

@@ -1,9 +1,9 @@
 //! Whole documents: the first place that does not fit, what is written of them, and what they select.
 
 use crate::packages::refusal;
-use base_text::{Text, TryClone};
+use base_text::Text;
 use cargo_meta::{Error, Metadata, MetadataCommand, Package, PackageId};
-use cases::{Case, Fault, List, Object, text_answer, text_of, texts_of_pair};
+use cases::{Case, Fault, List, Object, is_copied, text_answer};
 use serde_json::Value;
 use std::alloc::{AllocError, Global};
 use std::fs;
@@ -26,7 +26,7 @@ fn reading_of<R: Files + AllocGlobal>(
             let text = text_of_file(rt, case, file)?;
             Ok(MetadataCommand::parse(alloc, text.as_str()))
         }
-        None => Ok(Metadata::of_value(alloc, case.member("document")?)),
+        None => Ok(Metadata::of_value(alloc, case.member("document"))),
     }
 }
 
@@ -36,21 +36,22 @@ fn text_of_file<R: Files + AllocGlobal>(
     case: Case<'_>,
     file: &str,
 ) -> Result<String, Fault> {
-    let pairs = case.list("replace")?;
     let Ok(text) = fs::read_to_string(rt, file) else {
         return Err(Fault::Member("file"));
     };
     let mut text = text;
-    for pair in pairs {
-        text = replace(rt.alloc(), text.as_str(), pair)?;
+    for pair in case.list("replace") {
+        text = replace(rt.alloc(), text.as_str(), case.with(pair))?;
     }
     Ok(text)
 }
 
-fn replace(alloc: Global, text: &str, pair: &Value) -> Result<String, Fault> {
-    let (old, new) = texts_of_pair(pair, "replace")?;
-    match text.split_once(old) {
-        Some((front, rest)) => Ok(format!(in alloc; "{front}{new}{rest}")?),
+fn replace(alloc: Global, text: &str, pair: Case<'_>) -> Result<String, Fault> {
+    match text.split_once(pair.text_at(0)) {
+        Some((front, rest)) => {
+            let new = pair.text_at(1);
+            Ok(format!(in alloc; "{front}{new}{rest}")?)
+        }
         None => Err(Fault::Member("replace")),
     }
 }
@@ -67,7 +68,7 @@ fn of_reading(
 }
 
 fn of_metadata(alloc: Global, case: Case<'_>, metadata: &Metadata) -> Result<Value, Fault> {
-    match case.text("call")? {
+    match case.text("call") {
         "Metadata::of_value" => is_read_again(alloc, metadata),
         "Metadata::to_value" => members(alloc, case, &metadata.to_value(alloc)?),
         "Metadata" => selection(alloc, metadata),
@@ -87,29 +88,17 @@ fn is_read_again(alloc: Global, metadata: &Metadata) -> Result<Value, Fault> {
     }
 }
 
-fn is_copied(alloc: Global, metadata: &Metadata) -> Result<bool, AllocError> {
-    Ok(metadata.try_clone(alloc)? == *metadata)
-}
-
 // The members of what is written, in a list each: empty where it is left out.
 fn members(alloc: Global, case: Case<'_>, written: &Value) -> Result<Value, Fault> {
-    let keys = case.list("members")?;
     let mut members = List::new(alloc);
-    for key in keys {
-        members = members.item(member_answer(alloc, written, key));
+    for key in case.list("members") {
+        let member = List::new(alloc);
+        members = match written.get(case.with(key).as_text()) {
+            Some(value) => members.item(member.item(Ok(value.clone()?)).answer()),
+            None => members.item(member.answer()),
+        };
     }
     members.answer()
-}
-
-fn member_answer(alloc: Global, written: &Value, key: &Value) -> Result<Value, Fault> {
-    match written.get(text_of(key, "members")?) {
-        Some(member) => List::new(alloc).item(copy_of(member)).answer(),
-        None => List::new(alloc).answer(),
-    }
-}
-
-fn copy_of(value: &Value) -> Result<Value, Fault> {
-    Ok(value.clone()?)
 }
 
 // The names of the packages at the root, of the members and of the default members.
@@ -140,7 +129,7 @@ fn names(alloc: Global, packages: Result<Vec<&Package>, AllocError>) -> Result<V
 }
 
 fn id_of(alloc: Global, case: Case<'_>) -> Result<PackageId, Fault> {
-    let repr = Text::of_str(alloc, case.text("id")?)?;
+    let repr = Text::of_str(alloc, case.text("id"))?;
     Ok(PackageId { repr })
 }
 

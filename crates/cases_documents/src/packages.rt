@@ -1,18 +1,18 @@
 //! Packages and targets of a document, and the texts of kinds.
 
-use crate::names::print_value;
 use base_text::Text;
 use cargo_meta::{CrateType, Error, Package, PackageId, PackageName, Target, TargetKind};
-use case_lines::optional_text;
-use cases::{Case, Fault, List, Object, missed_answer, optional_answer, text_of};
+use cases::{
+    Case, Fault, List, Object, missed_answer, optional_answer, optional_text, print_answer,
+};
 use json_fields::bare_version;
 use serde_json::Value;
 use std::alloc::{AllocError, Global};
 
 /// What a call on a package, a target or a kind gives.
 pub fn answer(alloc: Global, case: Case<'_>) -> Result<Value, Fault> {
-    match case.text("call")? {
-        "from_text" => kinds_of_text(alloc, case.text("text")?),
+    match case.text("call") {
+        "from_text" => kinds_of_text(alloc, case.text("text")),
         "Package::new" => package(alloc, case),
         "Target::of_value" => target(alloc, case),
         _ => Err(Fault::Call),
@@ -23,15 +23,12 @@ pub fn answer(alloc: Global, case: Case<'_>) -> Result<Value, Fault> {
 fn kinds_of_text(alloc: Global, text: &str) -> Result<Value, Fault> {
     let kind = TargetKind::from_text(alloc, text)?;
     let crate_type = CrateType::from_text(alloc, text)?;
+    let printed = format!(in alloc; "{kind} {crate_type}")?;
     List::new(alloc)
         .text(kind.as_str())
         .text(crate_type.as_str())
-        .item(printed_kinds(alloc, &kind, &crate_type))
+        .text(printed.as_str())
         .answer()
-}
-
-fn printed_kinds(alloc: Global, kind: &TargetKind, crate_type: &CrateType) -> Result<Value, Fault> {
-    Ok(Value::String(format!(in alloc; "{kind} {crate_type}")?))
 }
 
 // A new package of a manifest.
@@ -47,15 +44,10 @@ fn of_manifest(alloc: Global, manifest: &str) -> Result<Package, AllocError> {
 
 // The files that a new package names as its license and its readme, and what else it has.
 fn package(alloc: Global, case: Case<'_>) -> Result<Value, Fault> {
-    let mut package = Box::new(alloc, of_manifest(alloc, case.text("manifest")?)?)?;
-    set_files(alloc, case, &mut package)?;
-    package_answer(alloc, &package)
-}
-
-fn set_files(alloc: Global, case: Case<'_>, package: &mut Package) -> Result<(), Fault> {
+    let mut package = Box::new(alloc, of_manifest(alloc, case.text("manifest"))?)?;
     package.license_file = optional_text(alloc, case, "license_file")?;
     package.readme = optional_text(alloc, case, "readme")?;
-    Ok(())
+    package_answer(alloc, &package)
 }
 
 fn package_answer(alloc: Global, package: &Package) -> Result<Value, Fault> {
@@ -79,13 +71,13 @@ pub fn refusal(alloc: Global, error: &Error) -> Result<Value, Fault> {
     match error {
         Error::Json { field } => missed_answer(alloc, field.as_str()),
         _ => Object::new(alloc)
-            .member("error", print_value(alloc, error))
+            .member("error", print_answer(alloc, error))
             .answer(),
     }
 }
 
 fn target(alloc: Global, case: Case<'_>) -> Result<Value, Fault> {
-    let reading = Target::of_value(alloc, case.member("document")?);
+    let reading = Target::of_value(alloc, case.member("document"));
     let reading = Box::new(alloc, reading)?;
     match &*reading {
         Ok(target) => target_answer(alloc, case, target),
@@ -101,28 +93,20 @@ fn target_answer(alloc: Global, case: Case<'_>, target: &Target) -> Result<Value
     }
 }
 
+// The names of those kinds that the target is of. Both ways to ask have to agree.
 fn kinds(alloc: Global, case: Case<'_>, target: &Target) -> Result<Value, Fault> {
-    let names = case.list("kinds")?;
     let mut kinds = List::new(alloc);
-    for name in names {
-        kinds = match kind_of(alloc, target, name) {
-            Ok(Some(kind)) => kinds.text(kind),
-            Ok(None) => kinds,
-            Err(fault) => kinds.item(Err(fault)),
-        };
+    for name in case.list("kinds") {
+        let name = case.with(name).as_text();
+        let is_of = is_of(target, name);
+        if target.is_kind(&TargetKind::from_text(alloc, name)?) != is_of {
+            return Err(Fault::Condition);
+        }
+        if is_of {
+            kinds = kinds.text(name);
+        }
     }
     kinds.answer()
-}
-
-// The name of a kind, if the target is of it. Both ways to ask have to agree.
-fn kind_of<'a>(alloc: Global, target: &Target, name: &'a Value) -> Result<Option<&'a str>, Fault> {
-    let name = text_of(name, "kinds")?;
-    let kind = TargetKind::from_text(alloc, name)?;
-    match (target.is_kind(&kind), is_of(target, name)) {
-        (true, true) => Ok(Some(name)),
-        (false, false) => Ok(None),
-        _ => Err(Fault::Condition),
-    }
 }
 
 fn is_of(target: &Target, kind: &str) -> bool {

@@ -8,7 +8,7 @@ use json_fields::{
 use serde_json::{Map, Value};
 use std::alloc::{AllocError, Global};
 
-#[derive(PartialEq, Eq, Drop)]
+#[derive(Drop)]
 pub struct Release {
     pub name: Text,
     pub version: Version,

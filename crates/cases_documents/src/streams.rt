@@ -3,7 +3,7 @@
 use crate::messages::write_message;
 use base_text::FaultSource;
 use cargo_msgs::{ItemFault, Message, MessageIter};
-use cases::{Case, Fault, List, Object, error_answer};
+use cases::{Case, Fault, List, Object, print_answer};
 use serde_json::Value;
 use std::alloc::Global;
 
@@ -18,7 +18,7 @@ fn of_stream(
     case: Case<'_>,
     messages: &mut MessageIter<FaultSource>,
 ) -> Result<Value, Fault> {
-    match case.text("call")? {
+    match case.text("call") {
         "items" => items(alloc, messages),
         "count" => count(alloc, messages),
         _ => Err(Fault::Call),
@@ -27,73 +27,29 @@ fn of_stream(
 
 // The messages of the bytes of a case. The source fails at the reads that the case names.
 fn messages_of(alloc: Global, case: Case<'_>) -> Result<MessageIter<FaultSource>, Fault> {
-    let max_line = case.number("max_line")? as usize;
-    let failing = case.list("failing")?;
-    let bytes = stream_bytes(alloc, case)?;
-    let source = FaultSource::new(bytes, numbers(alloc, failing)?);
-    Ok(Message::parse_stream(alloc, source, max_line)?)
+    let mut failing = Vec::new(alloc);
+    for number in case.list("failing") {
+        failing.push(case.with(number).as_number())?;
+    }
+    let source = FaultSource::new(stream_bytes(alloc, case)?, failing);
+    Ok(Message::parse_stream(alloc, source, case.number("max_line") as usize)?)
 }
 
-// The text so many times, or the bytes.
+// The text so many times, once where the case does not say it, or the bytes, each at most 255.
 fn stream_bytes(alloc: Global, case: Case<'_>) -> Result<Vec<u8>, Fault> {
-    match case.optional_text("text") {
-        Some(text) => repeat_text(alloc, text, times_of(case)?),
-        None => bytes_of(alloc, case.list("bytes")?),
-    }
-}
-
-// How many times the text stands. Without the member it stands once.
-fn times_of(case: Case<'_>) -> Result<u64, Fault> {
-    match case.find("times") {
-        Some(_) => case.number("times"),
-        None => Ok(1),
-    }
-}
-
-fn repeat_text(alloc: Global, text: &str, times: u64) -> Result<Vec<u8>, Fault> {
     let mut bytes = Vec::new(alloc);
-    for _ in 0..times {
+    for byte in case.list("bytes") {
+        bytes.push(case.with(byte).as_number().min(255) as u8)?;
+    }
+    let text = case.optional_text("text").unwrap_or("");
+    for _ in 0..case.find("times").and_then(Value::as_u64).unwrap_or(1) {
         bytes.extend_from_slice(text.as_bytes())?;
     }
     Ok(bytes)
 }
 
-fn bytes_of(alloc: Global, values: &[Value]) -> Result<Vec<u8>, Fault> {
-    let mut bytes = Vec::new(alloc);
-    for value in values {
-        push_byte(&mut bytes, value)?;
-    }
-    Ok(bytes)
-}
-
-fn push_byte(bytes: &mut Vec<u8>, value: &Value) -> Result<(), Fault> {
-    let byte = u8::try_from(number(value)?);
-    bytes.push(byte.ok().ok_or(Fault::Member("bytes"))?)?;
-    Ok(())
-}
-
-fn numbers(alloc: Global, values: &[Value]) -> Result<Vec<u64>, Fault> {
-    let mut numbers = Vec::new(alloc);
-    for value in values {
-        numbers.push(number(value)?)?;
-    }
-    Ok(numbers)
-}
-
-fn number(value: &Value) -> Result<u64, Fault> {
-    value.as_u64().ok_or(Fault::Member("number"))
-}
-
 // All items. After the end there is none.
 fn items(alloc: Global, messages: &mut MessageIter<FaultSource>) -> Result<Value, Fault> {
-    let items = items_to_end(alloc, messages)?;
-    match next_answer(alloc, messages)? {
-        Some(_) => Err(Fault::Condition),
-        None => Ok(items),
-    }
-}
-
-fn items_to_end(alloc: Global, messages: &mut MessageIter<FaultSource>) -> Result<Value, Fault> {
     let mut items = List::new(alloc);
     for _ in 0..u64::MAX {
         match next_answer(alloc, messages)? {
@@ -101,7 +57,10 @@ fn items_to_end(alloc: Global, messages: &mut MessageIter<FaultSource>) -> Resul
             None => break,
         }
     }
-    items.answer()
+    match next_answer(alloc, messages)? {
+        Some(_) => Err(Fault::Condition),
+        None => items.answer(),
+    }
 }
 
 fn next_answer(
@@ -126,7 +85,9 @@ fn item_answer(
 fn fault_answer(alloc: Global, fault: &ItemFault) -> Result<Value, Fault> {
     match fault {
         ItemFault::OutOfMemory => Err(Fault::OutOfMemory),
-        _ => error_answer(alloc, format!(in alloc; "{fault}")?.as_str()),
+        _ => Object::new(alloc)
+            .member("error", print_answer(alloc, fault))
+            .answer(),
     }
 }
 

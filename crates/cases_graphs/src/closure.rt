@@ -2,8 +2,8 @@
 
 ghost use Rattle.std.specs.Prelude.{◌≤◌, ◌<◌};
 
-use case_graph::{add, depend_on};
-use cases::{Case, Fault, Object};
+use crate::making::{add, depend_on};
+use cases::{Case, Fault};
 use crate_graph::{CrateBuilderId, CrateGraphBuilder};
 use std::alloc::Global;
 
@@ -57,16 +57,6 @@ fn either(row: [bool; 4], other: [bool; 4]) -> [bool; 4] {
     either
 }
 
-fn add_crates(alloc: Global, graph: &mut CrateGraphBuilder, count: u32) -> Result<(), Fault> {
-    let krate = Object::new(alloc).number("file", 1).answer()?;
-    for _ in 0..count {
-        if add(alloc, graph, Case::new(&krate))?.is_err() {
-            return Err(Fault::Condition);
-        }
-    }
-    Ok(())
-}
-
 /// Adds an edge, and returns whether it was taken, if the answer agrees with the closure of the edges before.
 fn agrees_on_edge(
     alloc: Global,
@@ -88,11 +78,15 @@ fn agrees_on_edge(
 }
 
 /// Whether each answer agrees on the graph of a mask.
-fn agrees(alloc: Global, count: u32, mask: u32) -> Result<bool, Fault>
+fn agrees(alloc: Global, krate: Case<'_>, count: u32, mask: u32) -> Result<bool, Fault>
     requires { count ≤ 4 }
 {
     let mut graph = Box::new(alloc, CrateGraphBuilder::new(alloc, count))?;
-    add_crates(alloc, &mut graph, count)?;
+    for _ in 0..count {
+        if add(alloc, &mut graph, krate)?.is_err() {
+            return Err(Fault::Condition);
+        }
+    }
     agrees_on_edges(alloc, &mut graph, count, mask)
 }
 
@@ -126,11 +120,11 @@ fn agrees_on_edges(
     Ok(true)
 }
 
-/// Whether each answer agrees, on all graphs of up to four crates.
-pub fn agrees_on_all(alloc: Global) -> Result<bool, Fault> {
+/// Whether each answer agrees, on all graphs of up to four crates, which are all alike.
+pub fn agrees_on_all(alloc: Global, krate: Case<'_>) -> Result<bool, Fault> {
     for (count, graphs) in [(0, 1), (1, 1), (2, 4), (3, 64), (4, 4096)] {
         for mask in 0..graphs {
-            if !agrees(alloc, count, mask)? {
+            if !agrees(alloc, krate, count, mask)? {
                 return Ok(false);
             }
         }

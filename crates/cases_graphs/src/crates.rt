@@ -1,110 +1,93 @@
 //! What a crate is made of: names, dependencies, origins, kinds, channels, targets and toolchains.
 
+use crate::making::toolchain;
 use base_text::{Text, TryClone};
-use case_values::agreement_answer;
-use cases::{Case, Fault, List, Object, error_answer, text_answer};
+use cases::{
+    Case, Fault, List, Object, agreement_answer, copied_answer, optional_answer, print_answer,
+    printed_answer, text_answer,
+};
 use crate_graph::target::{Arch, TargetData, TargetLoadError};
 use crate_graph::{
     CrateBuilderId, CrateDisplayName, CrateName, CrateOrigin, CrateWorkspaceData, Dependency,
     DependencyBuilder, LangCrateOrigin, ProcMacroLoadingError, ReleaseChannel, TargetKind,
-    ToolchainVersion,
 };
 use serde_json::Value;
 use std::alloc::{AllocError, Global};
 
 /// What a call on a part of a crate gives.
 pub fn answer(alloc: Global, case: Case<'_>) -> Result<Value, Fault> {
-    match case.text("call")? {
-        "CrateDisplayName" => display_name(alloc, case),
-        "CrateDisplayName::eq" => names_equal(alloc, case.text("text")?, case.text("other")?),
-        "CrateOrigin::lt" => origins_ascend(case.text("text")?, case.text("other")?),
-        "CrateWorkspaceData::is_atleast_187" => workspace(alloc, case),
-        "Dependency::with_prelude" => dependency(alloc, case, case.text("text")?),
-        call => of_text(alloc, call, case.text("text")?),
+    match case.text("call") {
+        "CrateDisplayName" => names(alloc, case),
+        "CrateOrigin" => origins(alloc),
+        "CrateWorkspaceData" => workspace(alloc, case),
+        "Dependency::with_prelude" => dependency(alloc, case),
+        call => of_text(alloc, call, case.text("text")),
     }
 }
 
 // What a call on one text gives.
 fn of_text(alloc: Global, call: &str, text: &str) -> Result<Value, Fault> {
     match call {
-        "CrateName::new" => new_name(alloc, text),
-        "CrateName::normalize_dashes" => code_name(alloc, text),
         "LangCrateOrigin::from_text" => lang_origin(alloc, text),
-        "CrateOrigin" => origin(alloc, text),
         "TargetKind" => kind(alloc, text),
-        "ReleaseChannel::from_text" => channel(alloc, text),
-        "ProcMacroLoadingError" => loading_error(alloc, text),
-        "TargetLoadError" => target_error(alloc, text),
+        "ReleaseChannel::from_text" => {
+            let channel = ReleaseChannel::from_text(text);
+            optional_answer(alloc, channel.map(ReleaseChannel::as_str))
+        }
+        "ProcMacroLoadingError" => loading_error(alloc, Text::of_str(alloc, text)?),
         _ => Err(Fault::Call),
     }
 }
 
-fn new_name(alloc: Global, text: &str) -> Result<Value, Fault> {
-    match CrateName::new(String::from_str(alloc, text)?) {
-        Ok(name) => text_answer(alloc, name.symbol().as_str()),
-        Err(text) => error_answer(alloc, text.as_str()),
-    }
-}
-
-fn code_name(alloc: Global, text: &str) -> Result<Value, Fault> {
-    let name = CrateName::normalize_dashes(alloc, text)?;
-    Ok(Value::String(format!(in alloc; "{name}")?))
-}
-
-fn display_name(alloc: Global, case: Case<'_>) -> Result<Value, Fault> {
-    let name = name_of(alloc, case.text("text")?, case.flag("of_code"))?;
-    copied_name(alloc, &name)
-}
-
-fn name_of(alloc: Global, text: &str, is_of_code: bool) -> Result<CrateDisplayName, AllocError> {
-    if is_of_code {
-        let name = CrateName::normalize_dashes(alloc, text)?;
-        CrateDisplayName::from_name(alloc, name)
-    } else {
-        CrateDisplayName::from_canonical_name(alloc, text)
-    }
-}
-
-// A name, which has to equal its copy.
-fn copied_name(alloc: Global, name: &CrateDisplayName) -> Result<Value, Fault> {
-    if name.try_clone(alloc)? == *name {
-        name_answer(alloc, name)
-    } else {
-        Err(Fault::Condition)
-    }
-}
-
-// A name as it was given, as code has it, and printed.
-fn name_answer(alloc: Global, name: &CrateDisplayName) -> Result<Value, Fault> {
-    let printed = format!(in alloc; "{name}")?;
-    List::new(alloc)
-        .text(name.canonical_name().as_str())
-        .text(name.crate_name().symbol().as_str())
-        .text(printed.as_str())
+// A text as a name of code, with its dashes replaced, and as the name of a crate: as that was given, as code has it, and
+// printed; and the same of the name of a crate that is made of the name of code.
+fn names(alloc: Global, case: Case<'_>) -> Result<Value, Fault> {
+    let (text, other) = (case.text("text"), case.text("other"));
+    let name = CrateDisplayName::from_canonical_name(alloc, text)?;
+    let of_code = CrateDisplayName::from_name(alloc, CrateName::normalize_dashes(alloc, text)?)?;
+    let other = CrateDisplayName::from_canonical_name(alloc, other)?;
+    Object::new(alloc)
+        .member("new", new_name(alloc, text))
+        .member(
+            "code",
+            printed_answer(alloc, CrateName::normalize_dashes(alloc, text)),
+        )
+        .member("name", name_answer(alloc, &name))
+        .member("of_code", name_answer(alloc, &of_code))
+        .member("copied", copied_answer(alloc, &name))
+        .flag("other", name == other)
         .answer()
 }
 
-fn names_equal(alloc: Global, text: &str, other: &str) -> Result<Value, Fault> {
-    let name = CrateDisplayName::from_canonical_name(alloc, text)?;
-    let other = CrateDisplayName::from_canonical_name(alloc, other)?;
-    Ok(Value::from(name == other))
+// A name of code, or the text in a list where it is none.
+fn new_name(alloc: Global, text: &str) -> Result<Value, Fault> {
+    match CrateName::new(String::from_str(alloc, text)?) {
+        Ok(name) => text_answer(alloc, name.symbol().as_str()),
+        Err(text) => List::new(alloc).text(text.as_str()).answer(),
+    }
+}
+
+fn name_answer(alloc: Global, name: &CrateDisplayName) -> Result<Value, Fault> {
+    List::new(alloc)
+        .text(name.canonical_name().as_str())
+        .text(name.crate_name().symbol().as_str())
+        .item(print_answer(alloc, name))
+        .answer()
 }
 
 fn lang_origin(alloc: Global, text: &str) -> Result<Value, Fault> {
     let origin = LangCrateOrigin::from_text(text);
-    let printed = format!(in alloc; "{origin}")?;
-    if printed.as_str() == origin.as_str() {
-        text_answer(alloc, origin.as_str())
-    } else {
-        Err(Fault::Condition)
-    }
+    List::new(alloc)
+        .text(origin.as_str())
+        .item(print_answer(alloc, &origin))
+        .answer()
 }
 
 // The marks of a plain dependency and of one with the marks of the case, and whether the two agree.
-fn dependency(alloc: Global, case: Case<'_>, text: &str) -> Result<Value, Fault> {
+fn dependency(alloc: Global, case: Case<'_>) -> Result<Value, Fault> {
     let id = CrateBuilderId::from_raw(0);
-    let plain = Dependency::new(CrateName::normalize_dashes(alloc, text)?, id);
-    let name = CrateName::normalize_dashes(alloc, text)?;
+    let plain = Dependency::new(CrateName::normalize_dashes(alloc, "dep")?, id);
+    let name = CrateName::normalize_dashes(alloc, "dep")?;
     let marked = Dependency::with_prelude(name, id, case.flag("prelude"), case.flag("sysroot"));
     Object::new(alloc)
         .member("plain", marks(alloc, &plain))
@@ -121,56 +104,33 @@ fn marks(alloc: Global, dep: &DependencyBuilder) -> Result<Value, Fault> {
         .answer()
 }
 
-fn origin_of(text: &str) -> Result<CrateOrigin, Fault> {
-    match text {
-        "local" => Ok(CrateOrigin::Local {
-            repo: None,
-            name: None,
-        }),
-        "std" => Ok(CrateOrigin::Lang(LangCrateOrigin::Std)),
-        _ => Err(Fault::Member("text")),
-    }
-}
-
-fn origins_ascend(text: &str, other: &str) -> Result<Value, Fault> {
-    let origin = origin_of(text)?;
-    is_before(&origin, other)
-}
-
-// Whether an origin comes before that of a text.
-fn is_before(origin: &CrateOrigin, other: &str) -> Result<Value, Fault> {
-    let other = origin_of(other)?;
-    Ok(Value::from(*origin < other))
-}
-
-// Whether an origin is local, a library, or of the language.
-fn origin(alloc: Global, text: &str) -> Result<Value, Fault> {
-    let origin = origin_of(text)?;
+// Whether a local crate and std are local, of a library and of the language, and whether the first comes before the second.
+fn origins(alloc: Global) -> Result<Value, Fault> {
+    let local = CrateOrigin::Local {
+        repo: None,
+        name: None,
+    };
+    let std = CrateOrigin::Lang(LangCrateOrigin::Std);
     List::new(alloc)
-        .flag(origin.is_local())
-        .flag(origin.is_lib())
-        .flag(origin.is_lang())
+        .flag(local.is_local())
+        .flag(local.is_lib())
+        .flag(local.is_lang())
+        .flag(std.is_local())
+        .flag(std.is_lib())
+        .flag(std.is_lang())
+        .flag(local < std)
         .answer()
-}
-
-fn kind_of(text: &str) -> Result<TargetKind, Fault> {
-    match text {
-        "lib" => Ok(TargetKind::Lib {
-            is_proc_macro: false,
-        }),
-        "proc-macro" => Ok(TargetKind::Lib {
-            is_proc_macro: true,
-        }),
-        "bin" => Ok(TargetKind::Bin),
-        "example" => Ok(TargetKind::Example),
-        "custom-build" => Ok(TargetKind::BuildScript),
-        _ => Err(Fault::Member("text")),
-    }
 }
 
 // Whether a target's kind is executable, whether it is a procedural macro, and cargo's name of it.
 fn kind(alloc: Global, text: &str) -> Result<Value, Fault> {
-    let kind = kind_of(text)?;
+    let is_proc_macro = text == "proc-macro";
+    let kind = match text {
+        "lib" | "proc-macro" => TargetKind::Lib { is_proc_macro },
+        "bin" => TargetKind::Bin,
+        "example" => TargetKind::Example,
+        _ => TargetKind::BuildScript,
+    };
     List::new(alloc)
         .flag(kind.is_executable())
         .flag(kind.is_proc_macro())
@@ -178,55 +138,32 @@ fn kind(alloc: Global, text: &str) -> Result<Value, Fault> {
         .answer()
 }
 
-fn channel(alloc: Global, text: &str) -> Result<Value, Fault> {
-    match ReleaseChannel::from_text(text) {
-        Some(channel) => text_answer(alloc, channel.as_str()),
-        None => Ok(Value::Null),
-    }
-}
-
-fn error_of(alloc: Global, text: &str) -> Result<ProcMacroLoadingError, Fault> {
-    match text {
-        "Disabled" => Ok(ProcMacroLoadingError::Disabled),
-        "NotYetBuilt" => Ok(ProcMacroLoadingError::NotYetBuilt),
-        text => {
-            let text = Text::of_str(alloc, text)?;
-            Ok(ProcMacroLoadingError::ProcMacroSrvError(text))
-        }
-    }
-}
-
-fn loading_error(alloc: Global, text: &str) -> Result<Value, Fault> {
-    let error = error_of(alloc, text)?;
-    loading_error_answer(alloc, &error)
-}
-
-// What is printed of an error of a procedural macro, and whether its copy is a fault.
-fn loading_error_answer(alloc: Global, error: &ProcMacroLoadingError) -> Result<Value, Fault> {
-    let is_hard = error.try_clone(alloc)?.is_hard_error();
-    let printed = format!(in alloc; "{error}")?;
+// What is printed of an error of a procedural macro that is not yet built, and of one of the server with a text, and whether a
+// copy of each is a fault.
+fn loading_error(alloc: Global, text: Text) -> Result<Value, Fault> {
+    let error = ProcMacroLoadingError::ProcMacroSrvError(text);
+    let copy = error.try_clone(alloc)?;
     List::new(alloc)
-        .text(printed.as_str())
-        .flag(is_hard)
+        .item(print_answer(alloc, &ProcMacroLoadingError::NotYetBuilt))
+        .flag(ProcMacroLoadingError::NotYetBuilt.is_hard_error())
+        .item(print_answer(alloc, &copy))
+        .flag(copy.is_hard_error())
         .answer()
 }
 
-fn toolchain(alloc: Global, version: Option<&str>) -> Result<Option<ToolchainVersion>, Fault> {
-    let Some(text) = version else {
-        return Ok(None);
-    };
-    match semver::Version::parse(alloc, text) {
-        Ok(version) => Ok(Some(ToolchainVersion::new(version))),
-        Err(_) => Err(Fault::Member("version")),
-    }
-}
-
-// Whether the toolchain of a version is 1.87.0 or later. Without a version it is not known.
+// Whether the toolchain of a version is 1.87.0 or later, which is not known without one; whether what is known of a workspace
+// equals its copy; and what is printed of the error of its target, where it has none.
 fn workspace(alloc: Global, case: Case<'_>) -> Result<Value, Fault> {
     let target = target(alloc, case.optional_text("layout"))?;
     let toolchain = toolchain(alloc, case.optional_text("version"))?;
     let data = CrateWorkspaceData { target, toolchain };
-    is_atleast_187(alloc, &data)
+    let answer = List::new(alloc)
+        .flag(data.is_atleast_187())
+        .item(copied_answer(alloc, &data));
+    match &data.target {
+        Ok(_) => answer.answer(),
+        Err(error) => answer.item(print_answer(alloc, error)).answer(),
+    }
 }
 
 // The target of a layout. Without a layout it is not known.
@@ -240,24 +177,5 @@ fn target(
             arch: Arch::Other,
         })),
         None => Ok(Err(TargetLoadError(Text::of_str(alloc, "no rustc")?))),
-    }
-}
-
-// What is printed of an error of a target, which has to equal its copy.
-fn target_error(alloc: Global, text: &str) -> Result<Value, Fault> {
-    let error = TargetLoadError(Text::of_str(alloc, text)?);
-    if error.try_clone(alloc)? == error {
-        Ok(Value::String(format!(in alloc; "{error}")?))
-    } else {
-        Err(Fault::Condition)
-    }
-}
-
-// What is known of a workspace, which has to equal its copy.
-fn is_atleast_187(alloc: Global, data: &CrateWorkspaceData) -> Result<Value, Fault> {
-    if data.try_clone(alloc)? == *data {
-        Ok(Value::from(data.is_atleast_187()))
-    } else {
-        Err(Fault::Condition)
     }
 }

@@ -3,10 +3,12 @@
 
 mod closure;
 mod crates;
+mod databases;
 mod edges;
 mod envs;
 mod graphs;
 mod joining;
+mod making;
 
 use cases::{Case, Family, Fault, run_files};
 use serde_json::Value;
@@ -22,7 +24,7 @@ impl<R: AllocGlobal> Family<R> for GraphFamily {
             "crates.jsonl" => crates::answer(rt.alloc(), case),
             "envs.jsonl" => envs::answer(rt.alloc(), case),
             "graphs.jsonl" => graphs::answer(rt.alloc(), case),
-            _ => case_databases::answer(rt.alloc(), file, case),
+            _ => databases::answer(rt.alloc(), file, case),
         }
     }
 }

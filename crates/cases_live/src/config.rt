@@ -1,7 +1,7 @@
 //! Configurations as they are compared.
 
-use base_text::{AbsPathBuf, Items, Limits, Text};
-use cases::{Fault, List, Object, text_answer};
+use base_text::Limits;
+use cases::{Fault, List, Object, paths_answer, text_answer, texts_answer};
 use crate_values::Env;
 use live_input::LiveConfig;
 use pm_config::{CargoConfig, CargoFeatures, Tools};
@@ -23,7 +23,10 @@ fn cargo_answer(alloc: Global, cargo: &CargoConfig) -> Result<Value, Fault> {
     Object::new(alloc)
         .member("features", features_answer(alloc, &cargo.features))
         .optional("target", target)
-        .member("includes", paths_answer(alloc, &cargo.extra_includes))
+        .member(
+            "includes",
+            paths_answer(alloc, cargo.extra_includes.as_slice()),
+        )
         .member("env", extra_answer(alloc, cargo))
         .flag("no_deps", cargo.no_deps)
         .answer()
@@ -36,26 +39,10 @@ fn features_answer(alloc: Global, features: &CargoFeatures) -> Result<Value, Fau
             features,
             no_default_features,
         } => Object::new(alloc)
-            .member("names", texts_answer(alloc, features))
+            .member("names", texts_answer(alloc, features.as_slice()))
             .flag("no_default", *no_default_features)
             .answer(),
     }
-}
-
-fn texts_answer(alloc: Global, texts: &Items<Text>) -> Result<Value, Fault> {
-    let mut list = List::new(alloc);
-    for text in texts.as_slice() {
-        list = list.text(text.as_str());
-    }
-    list.answer()
-}
-
-fn paths_answer(alloc: Global, paths: &Items<AbsPathBuf>) -> Result<Value, Fault> {
-    let mut list = List::new(alloc);
-    for path in paths.as_slice() {
-        list = list.text(path.as_str());
-    }
-    list.answer()
 }
 
 // The variables of commands, with null for one that is removed.

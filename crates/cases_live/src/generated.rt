@@ -1,22 +1,22 @@
 //! Generated scripts, with what an independent reading of the definitions gives for each.
 
-use crate::values::{text_of_bytes, words_of};
+use crate::values::words_at;
 use base_text::{MemorySink, MemorySource};
-use cases::{Case, Fault, Object};
+use cases::{Case, Fault, Object, bytes_answer};
 use live::live_top;
 use serde_json::Value;
 use std::alloc::Global;
 
 /// The status, the output and the error output of a script, which the case gives as one text.
 pub fn answer(alloc: Global, case: Case<'_>) -> Result<Value, Fault> {
-    let words = words_of(alloc, case)?;
-    let mut input = MemorySource::new(case.text("script")?.as_bytes().to_vec(alloc)?);
+    let words = words_at(alloc, case, "words")?;
+    let mut input = MemorySource::new(case.text("script").as_bytes().to_vec(alloc)?);
     let mut out = MemorySink::new(alloc);
     let mut err = MemorySink::new(alloc);
     let status = live_top(alloc, words.as_slice(), &mut input, &mut out, &mut err);
     Object::new(alloc)
         .number("status", status as u64)
-        .member("out", text_of_bytes(alloc, out.bytes()))
-        .member("err", text_of_bytes(alloc, err.bytes()))
+        .member("out", bytes_answer(alloc, out.bytes()))
+        .member("err", bytes_answer(alloc, err.bytes()))
         .answer()
 }

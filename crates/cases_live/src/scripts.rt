@@ -1,8 +1,8 @@
 //! Scripts through the whole program: its status, its pages, and the text of its error.
 
 use crate::runs::{Ran, run};
-use crate::values::{numbers_of, pages_of, script_of, text_of_bytes, words_of};
-use cases::{Case, Fault, Object};
+use crate::values::{numbers_of, pages_of, script_of, words_at};
+use cases::{Case, Fault, Object, bytes_answer};
 use serde_json::Value;
 use std::alloc::Global;
 use std::fs;
@@ -19,7 +19,7 @@ pub fn answer<R: Files + AllocGlobal>(rt: &R, case: Case<'_>) -> Result<Value, F
 fn script_given<R: Files + AllocGlobal>(rt: &R, case: Case<'_>) -> Result<Vec<u8>, Fault> {
     match case.optional_text("file") {
         Some(name) => bytes_of(rt, name),
-        None => script_of(rt.alloc(), case),
+        None => Ok(script_of(rt.alloc(), case)?),
     }
 }
 
@@ -44,7 +44,7 @@ fn script_answer(
     script: &[u8],
     wanted: Option<&[u8]>,
 ) -> Result<Value, Fault> {
-    let words = words_of(alloc, case)?;
+    let words = words_at(alloc, case, "words")?;
     let reads = numbers_of(alloc, case, "failing_reads")?;
     let writes = numbers_of(alloc, case, "failing_writes")?;
     let ran = run(
@@ -61,7 +61,7 @@ fn script_answer(
 fn run_answer(alloc: Global, ran: &Ran, wanted: Option<&[u8]>) -> Result<Value, Fault> {
     Object::new(alloc)
         .number("status", ran.status as u64)
-        .member("err", text_of_bytes(alloc, ran.err.bytes()))
+        .member("err", bytes_answer(alloc, ran.err.bytes()))
         .member("pages", pages_answer(alloc, ran.out.bytes(), wanted))
         .flag("ended", ran.ended)
         .answer()

@@ -2,7 +2,7 @@
 
 use crate::values::{numbers_of, pages_of, words_at};
 use base_text::{FaultSink, FileId, TryClone};
-use cases::{Case, Fault, List, Object, text_answer, text_of};
+use cases::{Case, Fault, List, Object, text_answer};
 use input_db::{InputDb, SourceDatabase};
 use live::{Event, Live, LiveConfig, StepError};
 use serde_json::Value;
@@ -24,9 +24,8 @@ fn session(
     live: &mut Live,
     out: &mut FaultSink,
 ) -> Result<Value, Fault> {
-    let lines = case.list("lines")?;
     Object::new(alloc)
-        .member("answers", step_all(alloc, live, out, lines))
+        .member("answers", step_all(alloc, live, out, case))
         .member("pages", pages_of(alloc, out.bytes()))
         .member("database", database(alloc, case, live.files(), live.db()))
         .number("probes", live.probes())
@@ -46,11 +45,11 @@ fn step_all(
     alloc: Global,
     live: &mut Live,
     out: &mut FaultSink,
-    lines: &[Value],
+    case: Case<'_>,
 ) -> Result<Value, Fault> {
     let mut answers = List::new(alloc);
-    for line in lines {
-        answers = answers.item(step_line(alloc, live, out, line));
+    for line in case.list("lines") {
+        answers = answers.item(step_line(alloc, live, out, case.with(line)));
     }
     answers.answer()
 }
@@ -59,14 +58,14 @@ fn step_line(
     alloc: Global,
     live: &mut Live,
     out: &mut FaultSink,
-    line: &Value,
+    line: Case<'_>,
 ) -> Result<Value, Fault> {
-    if Case::new(line).find("configure").is_some() {
-        return configure(alloc, live, Case::new(line));
+    if line.find("configure").is_some() {
+        return configure(alloc, live, line);
     }
-    let line = line.to_string(alloc)?;
+    let line = line.value().to_string(alloc)?;
     match Event::of_line(alloc, line.as_str().as_bytes()) {
-        Ok(event) => step_copy(alloc, live, out, &event),
+        Ok(event) => text_answer(alloc, step(alloc, live, &event.try_clone(alloc)?, out)),
         Err(_) => Err(Fault::Member("lines")),
     }
 }
@@ -81,16 +80,6 @@ fn configure(alloc: Global, live: &mut Live, line: Case<'_>) -> Result<Value, Fa
     text_answer(alloc, "configured")
 }
 
-fn step_copy(
-    alloc: Global,
-    live: &mut Live,
-    out: &mut FaultSink,
-    event: &Event,
-) -> Result<Value, Fault> {
-    let copy = event.try_clone(alloc)?;
-    text_answer(alloc, step(alloc, live, &copy, out))
-}
-
 // Steps an event, and says what became of it.
 fn step(alloc: Global, live: &mut Live, event: &Event, out: &mut FaultSink) -> &'static str {
     match live.step(alloc, event, out) {
@@ -102,25 +91,23 @@ fn step(alloc: Global, live: &mut Live, event: &Event, out: &mut FaultSink) -> &
 
 // The files at the paths of a case, and how many local roots and how many libraries the database lists.
 fn database(alloc: Global, case: Case<'_>, vfs: &Vfs, db: &InputDb) -> Result<Value, Fault> {
-    let paths = case.list("paths")?;
     Object::new(alloc)
-        .member("files", files(alloc, vfs, db, paths))
+        .member("files", files(alloc, case, vfs, db))
         .number("local", db.local_roots().roots.len() as u64)
         .number("library", db.library_roots().roots.len() as u64)
         .answer()
 }
 
 // Of each path the text and the root that the database has, and its number; and null for a file that does not live.
-fn files(alloc: Global, vfs: &Vfs, db: &InputDb, paths: &[Value]) -> Result<Value, Fault> {
+fn files(alloc: Global, case: Case<'_>, vfs: &Vfs, db: &InputDb) -> Result<Value, Fault> {
     let mut files = List::new(alloc);
-    for path in paths {
-        files = files.item(file_at(alloc, vfs, db, path));
+    for path in case.list("paths") {
+        files = files.item(file_at(alloc, vfs, db, case.with(path).as_text()));
     }
     files.answer()
 }
 
-fn file_at(alloc: Global, vfs: &Vfs, db: &InputDb, path: &Value) -> Result<Value, Fault> {
-    let text = text_of(path, "paths")?;
+fn file_at(alloc: Global, vfs: &Vfs, db: &InputDb, text: &str) -> Result<Value, Fault> {
     let Ok(path) = VfsPath::new_real_path(alloc, text) else {
         return Err(Fault::Member("paths"));
     };

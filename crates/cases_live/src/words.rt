@@ -1,7 +1,7 @@
 //! What words ask for.
 
 use crate::config::config_answer;
-use crate::values::words_of;
+use crate::values::words_at;
 use base_text::TryClone;
 use cases::{Case, Fault, Object};
 use live_input::{Command, LiveConfig, WordsError};
@@ -10,7 +10,7 @@ use std::alloc::Global;
 
 /// The configuration that the words of a case set, and null where they are wrong.
 pub fn answer(alloc: Global, case: Case<'_>) -> Result<Value, Fault> {
-    let words = words_of(alloc, case)?;
+    let words = words_at(alloc, case, "words")?;
     match Command::of_words(alloc, words.as_slice()) {
         Ok(command) => {
             let command = Box::new(alloc, command)?;

@@ -1,53 +1,36 @@
 //! What a tree in memory answers about a path.
 
-use crate::paths::path_of;
 use base_text::{AbsPath, Items, Text, TryClone};
-use case_lines::texts_answer;
-use cases::{Case, Fault, optional_answer, texts_of_pair};
+use cases::{Case, Fault, absolute, optional_answer, texts_answer};
 use serde_json::Value;
 use std::alloc::{AllocError, Global};
 use trees::{MemoryTree, Tree};
 
-/// The answer of the tree with the files of a case, or of a copy of it where the case asks for one.
+/// What a copy of the tree of the files of a case answers.
 pub fn answer(alloc: Global, case: Case<'_>) -> Result<Value, Fault> {
-    let path = path_of(alloc, case.text("path")?)?;
-    let tree = tree_of_case(alloc, case)?;
-    ask(alloc, &tree, case, path.as_path())
-}
-
-fn tree_of_case(alloc: Global, case: Case<'_>) -> Result<MemoryTree, Fault> {
-    let tree = tree_of(alloc, case.list("files")?)?;
-    if case.flag("copy") {
-        Ok(tree.try_clone(alloc)?)
-    } else {
-        Ok(tree)
-    }
+    let path = absolute(alloc, case.text("path"))?;
+    let tree = tree_of(alloc, case)?.try_clone(alloc)?;
+    ask(alloc, &tree, case.text("call"), path.as_path())
 }
 
 // The tree of files, each a path and a text, which are put in one after the other.
-fn tree_of(alloc: Global, files: &[Value]) -> Result<MemoryTree, Fault> {
+fn tree_of(alloc: Global, case: Case<'_>) -> Result<MemoryTree, Fault> {
     let mut tree = MemoryTree::new(alloc);
-    for file in files {
-        insert(alloc, &mut tree, file)?;
+    for file in case.list("files") {
+        insert(alloc, &mut tree, case.with(file))?;
     }
     Ok(tree)
 }
 
-fn insert(alloc: Global, tree: &mut MemoryTree, file: &Value) -> Result<(), Fault> {
-    let (path, text) = texts_of_pair(file, "files")?;
-    let path = path_of(alloc, path)?;
-    tree.insert(path, Text::of_str(alloc, text)?)?;
+fn insert(alloc: Global, tree: &mut MemoryTree, file: Case<'_>) -> Result<(), Fault> {
+    let text = Text::of_str(alloc, file.text_at(1))?;
+    tree.insert(absolute(alloc, file.text_at(0))?, text)?;
     Ok(())
 }
 
-// What the call of a case gives, of any tree.
-fn ask<T: Tree>(
-    alloc: Global,
-    tree: &T,
-    case: Case<'_>,
-    path: AbsPath<'_>,
-) -> Result<Value, Fault> {
-    match case.text("call")? {
+// What a call gives, of any tree.
+fn ask<T: Tree>(alloc: Global, tree: &T, call: &str, path: AbsPath<'_>) -> Result<Value, Fault> {
+    match call {
         "Tree::holds" => Ok(Value::from(tree.holds(alloc, path)?)),
         "Tree::lists" => names_answer(alloc, tree.lists(alloc, path)),
         "Tree::reads" => {

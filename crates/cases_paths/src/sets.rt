@@ -2,62 +2,78 @@
 
 use crate::vfs_paths::vfs_path;
 use base_text::{Counter, Ledger, Steps, TryClone};
-use cases::{Case, Fault, List, Object, file_number_of, items_of, pair_of, text_of};
+use cases::{Case, Fault, List, Object, bytes_answer};
 use serde_json::Value;
-use std::alloc::{AllocError, Global};
+use std::alloc::Global;
 use vfs_core::{AnchoredPath, FileId, Vfs, VfsPath};
 use vfs_sets::{FileSet, FileSetConfig, FileSetConfigBuilder};
 
 /// What a call on sets gives.
 pub fn answer(alloc: Global, case: Case<'_>) -> Result<Value, Fault> {
-    match case.text("call")? {
-        "FileSetConfig::classify_path" => classify(alloc, case),
-        "FileSetConfig::classify_counted" => classify_counted(alloc, case),
-        "FileSetConfig::partition" => partition(alloc, case),
-        "FileSetConfig::roots" => roots(alloc, &config(alloc, case)?),
-        "FileSetConfig::try_clone" => copied_config(alloc, case),
+    match case.text("call") {
         "FileSet::resolve_path" => resolve(alloc, case),
         "FileSet::try_clone" => copied_set(alloc, case),
-        _ => Err(Fault::Call),
+        call => of_config(alloc, case, call, &*builder(alloc, case)?),
     }
 }
 
-fn config(alloc: Global, case: Case<'_>) -> Result<FileSetConfig, Fault> {
-    Ok(builder(alloc, case)?.build()?)
-}
-
 // Roots of each set, as virtual paths.
-fn builder(alloc: Global, case: Case<'_>) -> Result<FileSetConfigBuilder, Fault> {
-    let sets = case.list("roots")?;
-    let mut builder = FileSetConfig::builder(alloc);
-    for roots in sets {
-        builder.add_file_set(paths(alloc, roots)?)?;
+fn builder(alloc: Global, case: Case<'_>) -> Result<Box<FileSetConfigBuilder>, Fault> {
+    let mut builder = Box::new(alloc, FileSetConfig::builder(alloc))?;
+    for roots in case.list("roots") {
+        builder.add_file_set(virtual_paths(alloc, case.with(roots))?)?;
     }
     Ok(builder)
 }
 
-fn paths(alloc: Global, roots: &Value) -> Result<Vec<VfsPath>, Fault> {
-    let roots = items_of(roots, "roots")?;
+fn virtual_paths(alloc: Global, roots: Case<'_>) -> Result<Vec<VfsPath>, Fault> {
     let mut paths = Vec::new(alloc);
-    for root in roots {
-        paths.push(virtual_path(alloc, root, "roots")?)?;
+    for root in roots.items() {
+        paths.push(vfs_path(alloc, roots.with(root).as_text(), true)?)?;
     }
     Ok(paths)
 }
 
-fn virtual_path(alloc: Global, text: &Value, key: &'static str) -> Result<VfsPath, Fault> {
-    vfs_path(alloc, text_of(text, key)?, true)
+// What a call gives on what a copy of the builder makes.
+fn of_config(
+    alloc: Global,
+    case: Case<'_>,
+    call: &str,
+    builder: &FileSetConfigBuilder,
+) -> Result<Value, Fault> {
+    let config = Box::new(alloc, builder.try_clone(alloc)?.build()?)?;
+    match call {
+        "FileSetConfig::classify_path" => places(alloc, case, &config, builder.len()),
+        "FileSetConfig::partition" => partition(alloc, &config, &*table(alloc, case)?),
+        "FileSetConfig::roots" => roots(alloc, &config),
+        _ => Err(Fault::Call),
+    }
 }
 
-// The path of a case, which is a virtual one unless the case says that it is real.
-fn path_of(alloc: Global, case: Case<'_>) -> Result<VfsPath, Fault> {
-    vfs_path(alloc, case.text("path")?, !case.flag("real"))
-}
-
-fn classify(alloc: Global, case: Case<'_>) -> Result<Value, Fault> {
-    let path = path_of(alloc, case)?;
-    let config = config(alloc, case)?;
-    Ok(set_answer(&config, &path))
+// Of the path of a case, which is a virtual one unless the case says that it is real: the set that takes it, by the
+// configuration and by its copy, and none without roots; the same set, or the number of sets, as it is found in counted steps,
+// and whether these are as few as the case says.
+fn places(
+    alloc: Global,
+    case: Case<'_>,
+    config: &FileSetConfig,
+    sets: usize,
+) -> Result<Value, Fault> {
+    let path = vfs_path(alloc, case.text("path"), !case.flag("real"))?;
+    let copy = Box::new(alloc, config.try_clone(alloc)?)?;
+    let without = Box::new(alloc, FileSetConfig::new(alloc)?)?;
+    let mut steps = Steps {
+        ledger: Counter::new(),
+    };
+    let counted = config.classify_counted(&path, &mut steps);
+    Object::new(alloc)
+        .number("sets", sets as u64)
+        .member("set", Ok(set_answer(config, &path)))
+        .member("by_copy", Ok(set_answer(&copy, &path)))
+        .member("without_roots", Ok(set_answer(&without, &path)))
+        .number("counted", counted as u64)
+        .flag("within", steps.ledger.count() <= case.number("most_steps"))
+        .answer()
 }
 
 // The set that takes a path, or null.
@@ -68,52 +84,9 @@ fn set_answer(config: &FileSetConfig, path: &VfsPath) -> Value {
     }
 }
 
-// How many sets a copy of the builder has, which set takes a path by a copy of what that builds, and which one
-// without roots.
-fn copied_config(alloc: Global, case: Case<'_>) -> Result<Value, Fault> {
-    let path = path_of(alloc, case)?;
-    let builder = builder(alloc, case)?.try_clone(alloc)?;
-    let sets = builder.len() as u64;
-    let config = Box::new(alloc, builder.build()?)?;
-    Object::new(alloc)
-        .number("sets", sets)
-        .member("by_copy", set_by_copy(alloc, &config, &path))
-        .member("without_roots", set_without_roots(alloc, &path))
-        .answer()
-}
-
-fn set_by_copy(alloc: Global, config: &FileSetConfig, path: &VfsPath) -> Result<Value, Fault> {
-    let copy = Box::new(alloc, config.try_clone(alloc)?)?;
-    Ok(set_answer(&copy, path))
-}
-
-fn set_without_roots(alloc: Global, path: &VfsPath) -> Result<Value, Fault> {
-    let config = Box::new(alloc, FileSetConfig::new(alloc)?)?;
-    Ok(set_answer(&config, path))
-}
-
-// The set that takes a path, or the number of sets, and whether it was found in so many steps.
-fn classify_counted(alloc: Global, case: Case<'_>) -> Result<Value, Fault> {
-    let most_steps = case.number("most_steps")?;
-    let path = path_of(alloc, case)?;
-    let config = config(alloc, case)?;
-    let mut steps = Steps {
-        ledger: Counter::new(),
-    };
-    let set = config.classify_counted(&path, &mut steps);
-    let is_within = steps.ledger.count() <= most_steps;
-    List::new(alloc).number(set as u64).flag(is_within).answer()
-}
-
 // The paths of each set's files.
-fn partition(alloc: Global, case: Case<'_>) -> Result<Value, Fault> {
-    let vfs = table(alloc, case)?;
-    let config = config(alloc, case)?;
-    sets_answer(alloc, config.partition(alloc, &vfs))
-}
-
-fn sets_answer(alloc: Global, sets: Result<Vec<FileSet>, AllocError>) -> Result<Value, Fault> {
-    let sets = sets?;
+fn partition(alloc: Global, config: &FileSetConfig, files: &Vfs) -> Result<Value, Fault> {
+    let sets = config.partition(alloc, files)?;
     let mut answers = List::new(alloc);
     for set in sets.iter() {
         answers = answers.item(paths_of(alloc, set));
@@ -123,12 +96,10 @@ fn sets_answer(alloc: Global, sets: Result<Vec<FileSet>, AllocError>) -> Result<
 
 // A table of empty files.
 fn table(alloc: Global, case: Case<'_>) -> Result<Box<Vfs>, Fault> {
-    let files = case.list("files")?;
     let mut vfs = Box::new(alloc, Vfs::new(alloc, 100))?;
-    for file in files {
-        let path = virtual_path(alloc, file, "files")?;
-        let set = vfs.set_file_contents(path, Some(Vec::new(alloc)));
-        if set.is_err() {
+    for file in case.list("files") {
+        let path = vfs_path(alloc, case.with(file).as_text(), true)?;
+        if vfs.set_file_contents(path, Some(Vec::new(alloc))).is_err() {
             return Err(Fault::Member("files"));
         }
     }
@@ -150,65 +121,43 @@ fn roots(alloc: Global, config: &FileSetConfig) -> Result<Value, Fault> {
     let roots = config.roots(alloc)?;
     let mut answers = List::new(alloc);
     for (bytes, set) in roots.iter() {
-        answers = answers.item(root_answer(alloc, bytes.as_slice(), *set));
+        let root = List::new(alloc).item(bytes_answer(alloc, bytes.as_slice()));
+        answers = answers.item(root.number(*set).answer());
     }
     answers.answer()
 }
 
-fn root_answer(alloc: Global, bytes: &[u8], set: u64) -> Result<Value, Fault> {
-    let text = String::from_utf8_lossy(alloc, bytes)?;
-    List::new(alloc).text(text.as_str()).number(set).answer()
-}
-
 // A set of files, each a number and a virtual path.
-fn set_of(alloc: Global, files: &[Value]) -> Result<FileSet, Fault> {
-    let mut set = FileSet::new(alloc);
-    insert_all(alloc, &mut set, files)?;
+fn set_of(alloc: Global, case: Case<'_>, key: &'static str) -> Result<Box<FileSet>, Fault> {
+    let mut set = Box::new(alloc, FileSet::new(alloc))?;
+    for pair in case.list(key) {
+        let pair = case.with(pair);
+        let path = vfs_path(alloc, pair.text_at(1), true)?;
+        set.insert(FileId::from_raw(pair.at(0).as_file_number()), path)?;
+    }
     Ok(set)
 }
 
-fn insert_all(alloc: Global, set: &mut FileSet, files: &[Value]) -> Result<(), Fault> {
-    for pair in files {
-        insert(alloc, set, pair)?;
-    }
-    Ok(())
-}
-
-fn insert(alloc: Global, set: &mut FileSet, pair: &Value) -> Result<(), Fault> {
-    let (id, path) = pair_of(pair, "files")?;
-    let id = file_number_of(id, "files")?;
-    let path = virtual_path(alloc, path, "files")?;
-    set.insert(FileId::from_raw(id), path)?;
-    Ok(())
-}
-
-// Whether a copy equals the set, whether it still does once more files are in the set, and how many the set has then.
+// How many files a set has, and whether it equals its copy and the set of other files.
 fn copied_set(alloc: Global, case: Case<'_>) -> Result<Value, Fault> {
-    let (files, more) = (case.list("files")?, case.list("more")?);
-    let mut set = Box::new(alloc, set_of(alloc, files)?)?;
+    let set = set_of(alloc, case, "files")?;
+    let other = set_of(alloc, case, "other")?;
     let copy = Box::new(alloc, set.try_clone(alloc)?)?;
-    let is_equal = *copy == *set;
-    insert_all(alloc, &mut set, more)?;
     Object::new(alloc)
-        .flag("before", is_equal)
-        .flag("after", *copy == *set)
+        .flag("copied", *copy == *set)
+        .flag("other", *copy == *other)
         .number("files", set.len() as u64)
         .answer()
 }
 
 // The number of the file that a path beside a file names.
 fn resolve(alloc: Global, case: Case<'_>) -> Result<Value, Fault> {
-    let path = case.text("path")?;
-    let anchor = file_number_of(case.member("anchor")?, "anchor")?;
     let path = AnchoredPath {
-        anchor: FileId::from_raw(anchor),
-        path,
+        anchor: FileId::from_raw(case.of("anchor").as_file_number()),
+        path: case.text("path"),
     };
-    let file = {
-        let set = set_of(alloc, case.list("files")?)?;
-        set.resolve_path(alloc, path)
-    };
-    match file? {
+    let set = set_of(alloc, case, "files")?;
+    match set.resolve_path(alloc, path)? {
         Some(id) => Ok(Value::from(id.index())),
         None => Ok(Value::Null),
     }

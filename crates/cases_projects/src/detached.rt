@@ -3,8 +3,9 @@
 use crate::loaders::live_loader;
 use crate::lowerings::{graph_answer, limits_of, workspace_data};
 use crate::roots::out_dirs_of;
-use case_workspaces::{manifest_of, paths_of, roots_answer, workspace_of};
-use cases::{Case, Fault};
+use crate::values::{roots_answer, workspace_of};
+use case_tools::manifest_of;
+use cases::{Case, Fault, paths};
 use pm_cargo::CargoWorkspace;
 use pm_detached::{detached_roots, lower_detached};
 use serde_json::Value;
@@ -14,7 +15,7 @@ use std::alloc::Global;
 pub fn answer(alloc: Global, case: Case<'_>) -> Result<Value, Fault> {
     let cargo = cargo_of(alloc, case)?;
     let cargo = cargo.as_deref();
-    match case.text("call")? {
+    match case.text("call") {
         "lower_detached" => lower_case(alloc, case, cargo),
         "detached_roots" => roots(alloc, case, cargo),
         _ => Err(Fault::Call),
@@ -34,17 +35,17 @@ fn lower_case(
     case: Case<'_>,
     cargo: Option<&CargoWorkspace>,
 ) -> Result<Value, Fault> {
-    let limits = limits_of(case)?;
-    let file = manifest_of(alloc, case.text("manifest")?)?;
-    let mut loader = live_loader(alloc, case.list("live")?)?;
+    let limits = limits_of(case);
+    let file = manifest_of(alloc, case.text("manifest"))?;
+    let mut loader = live_loader(alloc, case)?;
     let shared = workspace_data(alloc)?;
     let graph = lower_detached(alloc, &file, cargo, &shared, &mut loader, &limits);
     graph_answer(alloc, case, &graph)
 }
 
 fn roots(alloc: Global, case: Case<'_>, cargo: Option<&CargoWorkspace>) -> Result<Value, Fault> {
-    let file = manifest_of(alloc, case.text("manifest")?)?;
-    let (out_dirs, extra) = (out_dirs_of(alloc, case)?, paths_of(alloc, case, "extra")?);
+    let file = manifest_of(alloc, case.text("manifest"))?;
+    let (out_dirs, extra) = (out_dirs_of(alloc, case)?, paths(alloc, case, "extra")?);
     let roots = detached_roots(alloc, &file, cargo, &out_dirs, extra.as_slice())?;
     roots_answer(alloc, roots.as_slice())
 }

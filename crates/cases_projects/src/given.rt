@@ -2,15 +2,13 @@
 
 ghost use Rattle.std.specs.Prelude.{◌≡◌};
 
-use base_text::{Items, Limits, RecordedRunner, Text};
-use case_lines::{optional_path, optional_text, runner_of, variables};
-use case_tools::usual_tools;
-use case_workspaces::{path_of, paths_of};
-use cases::{Case, Fault, number_of, texts_of_pair};
+use crate::values::limit_of;
+use base_text::{Limits, RecordedRunner};
+use case_tools::{insert, usual_tools};
+use cases::{Case, Fault, optional_path, optional_text, paths, runner_of, variables};
 use crate_graph::Env;
 use pm_config::{CargoConfig, Tools};
 use pm_sysroot::Ask;
-use serde_json::Value;
 use std::alloc::Global;
 use trees::MemoryTree;
 
@@ -26,9 +24,9 @@ pub struct Given {
 
 impl Given {
     pub fn of_case(alloc: Global, case: Case<'_>) -> Result<Given, Fault> {
-        let (limits, answers) = (limits_of(case)?, case.list("answers")?);
-        let runner = runner_of(alloc, answers)?;
-        let tree = tree_of(alloc, case.list("files")?)?;
+        let limits = limits_of(case);
+        let runner = runner_of(alloc, case)?;
+        let tree = tree_of(alloc, case)?;
         let tools = usual_tools(alloc)?;
         Ok(Given {
             limits,
@@ -58,38 +56,26 @@ pub fn configure(alloc: Global, case: Case<'_>, config: &mut CargoConfig) -> Res
     config.config_path = optional_path(alloc, case, "config_path")?;
     config.no_deps = case.flag("no_deps");
     config.set_test = case.flag("set_test");
-    config.extra_env = variables(alloc, case.list("env")?)?;
-    config.extra_includes = Items::new(paths_of(alloc, case, "extra")?);
+    config.extra_env = variables(alloc, case, "env")?;
+    config.extra_includes = paths(alloc, case, "extra")?;
     Ok(())
 }
 
 // The limits of a case. One that is left out is the greatest.
-fn limits_of(case: Case<'_>) -> Result<Limits, Fault> {
+fn limits_of(case: Case<'_>) -> Limits {
     let mut limits = Limits::greatest();
-    if let Some(packages) = case.find("packages") {
-        limits.packages = number_of(packages, "packages")?;
-    }
-    if let Some(targets) = case.find("targets") {
-        limits.targets = number_of(targets, "targets")?;
-    }
-    if let Some(crates) = case.find("crates") {
-        limits.crates = number_of(crates, "crates")?;
-    }
-    Ok(limits)
+    limits.packages = limit_of(case, "packages", limits.packages);
+    limits.targets = limit_of(case, "targets", limits.targets);
+    limits.crates = limit_of(case, "crates", limits.crates);
+    limits
 }
 
 // The files of a case, each a path and a text.
-fn tree_of(alloc: Global, files: &[Value]) -> Result<MemoryTree, Fault> {
+fn tree_of(alloc: Global, case: Case<'_>) -> Result<MemoryTree, Fault> {
     let mut tree = MemoryTree::new(alloc);
-    for file in files {
-        insert(alloc, &mut tree, file)?;
+    for file in case.list("files") {
+        let file = case.with(file);
+        insert(alloc, &mut tree, file.text_at(0), file.text_at(1))?;
     }
     Ok(tree)
-}
-
-fn insert(alloc: Global, tree: &mut MemoryTree, file: &Value) -> Result<(), Fault> {
-    let (path, text) = texts_of_pair(file, "files")?;
-    let text = Text::of_str(alloc, text)?;
-    tree.insert(path_of(alloc, path)?, text)?;
-    Ok(())
 }

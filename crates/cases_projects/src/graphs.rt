@@ -1,9 +1,9 @@
 //! The graph of a project's crates.
 
 use crate::loaders::live_loader;
+use crate::lowerings::refusal;
 use crate::projects::has_no_rustc;
 use base_text::{Limits, RecordedRunner};
-use case_workspaces::{limit_name, with_text};
 use cases::{Case, Fault, List};
 use crate_graph::{CrateBuilder, CrateGraphBuilder, ProcMacroPaths};
 use pm_lower::{LowerError, ProjectWorkspace};
@@ -24,7 +24,7 @@ pub fn answer(
     if !has_no_rustc(project) {
         return Err(Fault::Condition);
     }
-    let mut loader = live_loader(alloc, case.list("live")?)?;
+    let mut loader = live_loader(alloc, case)?;
     graph_or_refusal(
         alloc,
         &project.to_crate_graph(alloc, &mut loader, limits, ask),
@@ -45,17 +45,12 @@ fn crates(alloc: Global, graph: &CrateGraphBuilder) -> Result<Value, Fault> {
     let mut answers = List::new(alloc);
     for id in graph.iter() {
         if graph.contains(id) {
-            answers = answers.item(crate_answer(alloc, &graph[id]));
+            let file = graph[id].basic.root_file_id.index() as u64;
+            let answer = List::new(alloc).number(file);
+            answers = answers.item(answer.item(deps_answer(alloc, &graph[id])).answer());
         }
     }
     answers.answer()
-}
-
-fn crate_answer(alloc: Global, krate: &CrateBuilder) -> Result<Value, Fault> {
-    List::new(alloc)
-        .number(krate.basic.root_file_id.index() as u64)
-        .item(deps_answer(alloc, krate))
-        .answer()
 }
 
 fn deps_answer(alloc: Global, krate: &CrateBuilder) -> Result<Value, Fault> {
@@ -65,13 +60,4 @@ fn deps_answer(alloc: Global, krate: &CrateBuilder) -> Result<Value, Fault> {
         answers = answers.item(answer.number(dep.crate_id.into_raw() as u64).answer());
     }
     answers.answer()
-}
-
-// A refusal by its name, with a text: the bad name, or what there is too much of.
-fn refusal(alloc: Global, error: &LowerError) -> Result<Value, Fault> {
-    match error {
-        LowerError::BadCrateName(name) => with_text(alloc, "BadCrateName", name.as_str()),
-        LowerError::TooMany(limit) => with_text(alloc, "TooMany", limit_name(*limit)),
-        LowerError::OutOfMemory => Err(Fault::OutOfMemory),
-    }
 }

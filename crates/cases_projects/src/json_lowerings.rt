@@ -2,9 +2,9 @@
 
 use crate::loaders::live_loader;
 use crate::lowerings::{graph_answer, limits_of, workspace_data};
+use crate::values::roots_answer;
 use base_text::Limits;
-use case_workspaces::{path_of, paths_of, roots_answer};
-use cases::{Case, Fault};
+use cases::{Case, Fault, absolute, paths};
 use pm_json::ProjectJson;
 use pm_json_data::ProjectJsonData;
 use pm_json_rows::{json_roots, lower_json};
@@ -13,7 +13,7 @@ use std::alloc::Global;
 
 /// What a case asks of the graph of its project, or the roots of that.
 pub fn answer(alloc: Global, case: Case<'_>) -> Result<Value, Fault> {
-    match case.text("call")? {
+    match case.text("call") {
         "lower_json" => lower_case(alloc, case),
         "json_roots" => roots(alloc, case),
         _ => Err(Fault::Call),
@@ -21,9 +21,9 @@ pub fn answer(alloc: Global, case: Case<'_>) -> Result<Value, Fault> {
 }
 
 fn lower_case(alloc: Global, case: Case<'_>) -> Result<Value, Fault> {
-    let limits = limits_of(case)?;
+    let limits = limits_of(case);
     let project = project_of(alloc, case)?;
-    let mut loader = live_loader(alloc, case.list("live")?)?;
+    let mut loader = live_loader(alloc, case)?;
     let shared = workspace_data(alloc)?;
     let graph = lower_json(alloc, &project, &shared, &mut loader, &limits);
     graph_answer(alloc, case, &graph)
@@ -31,14 +31,14 @@ fn lower_case(alloc: Global, case: Case<'_>) -> Result<Value, Fault> {
 
 fn roots(alloc: Global, case: Case<'_>) -> Result<Value, Fault> {
     let project = project_of(alloc, case)?;
-    let extra = paths_of(alloc, case, "extra")?;
+    let extra = paths(alloc, case, "extra")?;
     let roots = json_roots(alloc, &project, extra.as_slice())?;
     roots_answer(alloc, roots.as_slice())
 }
 
 fn project_of(alloc: Global, case: Case<'_>) -> Result<ProjectJson, Fault> {
-    let base = path_of(alloc, case.text("base")?)?;
-    let Ok(document) = ProjectJsonData::of_value(alloc, case.member("document")?) else {
+    let base = absolute(alloc, case.text("base"))?;
+    let Ok(document) = ProjectJsonData::of_value(alloc, case.member("document")) else {
         return Err(Fault::Member("document"));
     };
     match ProjectJson::new(alloc, None, base.as_path(), document, &Limits::greatest()) {

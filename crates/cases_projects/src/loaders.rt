@@ -1,73 +1,39 @@
 //! Loaders in memory: files by their paths, and the file at a path.
 
-ghost use Rattle.std.specs.Prelude.{◌≤◌};
-
-use base_text::{AbsPath, FileId};
-use case_workspaces::path_of;
-use cases::{Case, Fault, file_number_of, pair_of, text_of};
+use base_text::FileId;
+use cases::{Case, Fault, absolute};
 use pm_loader::{Loader, MapLoader};
 use serde_json::Value;
 use std::alloc::Global;
 
 /// The number of the file at the path of a case, or null.
 pub fn answer(alloc: Global, case: Case<'_>) -> Result<Value, Fault> {
-    if case.text("call")? != "MapLoader::load" {
-        return Err(Fault::Call);
+    let path = absolute(alloc, case.text("path"))?;
+    let mut loader = MapLoader::new(alloc);
+    for file in case.list("files") {
+        let file = case.with(file);
+        let place = file.at(1).as_file_number() as usize;
+        insert(alloc, &mut loader, file.text_at(0), place)?;
     }
-    let files = case.list("files")?;
-    let path = path_of(alloc, case.text("path")?)?;
-    let mut loader = loader_of(alloc, files)?;
-    file_at(alloc, &mut loader, path.as_path())
-}
-
-fn file_at(alloc: Global, loader: &mut MapLoader, path: AbsPath<'_>) -> Result<Value, Fault> {
-    match loader.load(alloc, path)? {
+    match loader.load(alloc, path.as_path())? {
         Some(file) => Ok(Value::from(file.index())),
         None => Ok(Value::Null),
     }
 }
 
-fn loader_of(alloc: Global, files: &[Value]) -> Result<MapLoader, Fault> {
-    let mut loader = MapLoader::new(alloc);
-    for file in files {
-        insert_file(alloc, &mut loader, file)?;
-    }
-    Ok(loader)
-}
-
-// A file is its path and its number.
-fn insert_file(alloc: Global, loader: &mut MapLoader, file: &Value) -> Result<(), Fault> {
-    let (path, number) = pair_of(file, "files")?;
-    insert(alloc, loader, path, file_number_of(number, "files")?)
-}
-
-fn insert(alloc: Global, loader: &mut MapLoader, path: &Value, number: u32) -> Result<(), Fault>
-    requires { number ≤ 0x7fff_ffff }
-{
-    let path = path_of(alloc, text_of(path, "files")?)?;
-    loader.insert(path, FileId::from_raw(number))?;
-    Ok(())
-}
-
 /// The files that are live, each under its place in the list.
-pub fn live_loader(alloc: Global, live: &[Value]) -> Result<MapLoader, Fault> {
+pub fn live_loader(alloc: Global, case: Case<'_>) -> Result<MapLoader, Fault> {
     let mut loader = MapLoader::new(alloc);
-    for (place, path) in live.iter().enumerate() {
-        insert_live(alloc, &mut loader, place, path)?;
+    for (place, path) in case.list("live").iter().enumerate() {
+        insert(alloc, &mut loader, case.with(path).as_text(), place)?;
     }
     Ok(loader)
 }
 
-fn insert_live(
-    alloc: Global,
-    loader: &mut MapLoader,
-    place: usize,
-    path: &Value,
-) -> Result<(), Fault> {
+fn insert(alloc: Global, loader: &mut MapLoader, path: &str, place: usize) -> Result<(), Fault> {
     if place > 0x7fff_ffff {
         return Err(Fault::Condition);
     }
-    let path = path_of(alloc, text_of(path, "live")?)?;
-    loader.insert(path, FileId::from_raw(place as u32))?;
+    loader.insert(absolute(alloc, path)?, FileId::from_raw(place as u32))?;
     Ok(())
 }

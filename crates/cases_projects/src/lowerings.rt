@@ -4,9 +4,9 @@ mod columns;
 mod crates;
 
 use crate::loaders::live_loader;
+use crate::values::{limit_name, limit_of, with_text, workspace_of};
 use base_text::{Limits, Text};
-use case_workspaces::{limit_name, workspace_of};
-use cases::{Case, Fault, Object, number_of};
+use cases::{Case, Fault};
 use crate_graph::target::TargetLoadError;
 use crate_graph::{CrateGraphBuilder, CrateWorkspaceData};
 use pm_rows::{LowerError, lower_cargo};
@@ -16,7 +16,7 @@ use std::rc::Rc;
 
 /// What a case asks of the graph of its document, or why there is none.
 pub fn answer(alloc: Global, case: Case<'_>) -> Result<Value, Fault> {
-    if case.text("call")? != "lower_cargo" {
+    if case.text("call") != "lower_cargo" {
         return Err(Fault::Call);
     }
     graph_answer(alloc, case, &lower(alloc, case)?)
@@ -35,20 +35,18 @@ pub fn graph_answer(
 }
 
 fn lower(alloc: Global, case: Case<'_>) -> Result<Result<CrateGraphBuilder, LowerError>, Fault> {
-    let limits = limits_of(case)?;
+    let limits = limits_of(case);
     let workspace = workspace_of(alloc, case)?;
-    let mut loader = live_loader(alloc, case.list("live")?)?;
+    let mut loader = live_loader(alloc, case)?;
     let shared = workspace_data(alloc)?;
     Ok(lower_cargo(alloc, &workspace, &shared, &mut loader, &limits))
 }
 
 /// The limits of a case. The limit of crates is the greatest where it is left out.
-pub fn limits_of(case: Case<'_>) -> Result<Limits, Fault> {
+pub fn limits_of(case: Case<'_>) -> Limits {
     let mut limits = Limits::greatest();
-    if let Some(crates) = case.find("limit") {
-        limits.crates = number_of(crates, "limit")?;
-    }
-    Ok(limits)
+    limits.crates = limit_of(case, "limit", limits.crates);
+    limits
 }
 
 /// What the crates of a graph share.
@@ -61,17 +59,11 @@ pub fn workspace_data(alloc: Global) -> Result<Rc<CrateWorkspaceData>, Fault> {
     Ok(Rc::new(alloc, data)?)
 }
 
-// A refusal by its name, with the name or with what there is too much of.
-fn refusal(alloc: Global, error: &LowerError) -> Result<Value, Fault> {
+/// A refusal by its name, with a text: the bad name, or what there is too much of.
+pub fn refusal(alloc: Global, error: &LowerError) -> Result<Value, Fault> {
     match error {
-        LowerError::BadCrateName(name) => Object::new(alloc)
-            .text("error", "BadCrateName")
-            .text("name", name.as_str())
-            .answer(),
-        LowerError::TooMany(limit) => Object::new(alloc)
-            .text("error", "TooMany")
-            .text("of", limit_name(*limit))
-            .answer(),
+        LowerError::BadCrateName(name) => with_text(alloc, "BadCrateName", name.as_str()),
+        LowerError::TooMany(limit) => with_text(alloc, "TooMany", limit_name(*limit)),
         LowerError::OutOfMemory => Err(Fault::OutOfMemory),
     }
 }

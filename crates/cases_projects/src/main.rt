@@ -11,8 +11,10 @@ mod lowerings;
 mod project_builds;
 mod projects;
 mod roots;
+mod values;
+mod workspace_builds;
+mod workspaces;
 
-use case_workspaces::{workspace_builds, workspaces};
 use cases::{Case, Family, Fault, run_files};
 use serde_json::Value;
 use std::io;

@@ -2,13 +2,11 @@
 
 use crate::given::{Given, configure};
 use crate::projects::{answer_question, cargo_of, load_project, project_manifest_of};
+use crate::workspace_builds::build_config::command_of;
+use crate::workspace_builds::outputs::{refusal_answer, result_answer};
 use base_text::TryClone;
-use case_lines::output_of;
 use case_tools::Lines;
-use case_workspaces::path_of;
-use case_workspaces::workspace_builds::build_config::command_of;
-use case_workspaces::workspace_builds::outputs::{refusal_answer, result_answer};
-use cases::{Case, Fault, List, Object, text_of};
+use cases::{Case, Fault, List, Object, absolute, output_of};
 use pm_build::WorkspaceBuildScripts;
 use pm_config::{CargoConfig, InvocationStrategy, Quiet};
 use pm_lower::ProjectWorkspace;
@@ -20,17 +18,11 @@ use std::alloc::Global;
 pub fn answer(alloc: Global, case: Case<'_>) -> Result<Value, Fault> {
     let mut config = Box::new(alloc, CargoConfig::new(alloc))?;
     configure(alloc, case, &mut config)?;
-    configure_builds(alloc, case, &mut config)?;
-    with_config(alloc, case, &config)
-}
-
-// Sets what a case configures of builds.
-fn configure_builds(alloc: Global, case: Case<'_>, config: &mut CargoConfig) -> Result<(), Fault> {
     config.run_build_script_command = command_of(alloc, case)?;
     if case.flag("once") {
         config.invocation_strategy = InvocationStrategy::Once;
     }
-    Ok(())
+    with_config(alloc, case, &config)
 }
 
 fn with_config(alloc: Global, case: Case<'_>, config: &CargoConfig) -> Result<Value, Fault> {
@@ -47,7 +39,7 @@ fn of_projects(
     given: &Given,
     projects: &mut [ProjectWorkspace],
 ) -> Result<Value, Fault> {
-    match case.text("call")? {
+    match case.text("call") {
         "ProjectWorkspace::run_all_build_scripts" => run_all(alloc, case, projects, config, given),
         "ProjectWorkspace::run_build_scripts" => run(alloc, projects, config, given),
         "ProjectWorkspace::set_build_scripts" => after_builds(alloc, case, projects),
@@ -63,9 +55,9 @@ fn projects_of(
     config: &CargoConfig,
     given: &Given,
 ) -> Result<Vec<ProjectWorkspace>, Fault> {
-    let manifests = case.list("manifests")?;
     let mut projects = Vec::new(alloc);
-    for manifest in manifests {
+    for manifest in case.list("manifests") {
+        let manifest = case.with(manifest).as_text();
         push_project(alloc, &mut projects, manifest, config, given)?;
     }
     Ok(projects)
@@ -74,11 +66,11 @@ fn projects_of(
 fn push_project(
     alloc: Global,
     projects: &mut Vec<ProjectWorkspace>,
-    manifest: &Value,
+    manifest: &str,
     config: &CargoConfig,
     given: &Given,
 ) -> Result<(), Fault> {
-    let manifest = project_manifest_of(alloc, text_of(manifest, "manifests")?)?;
+    let manifest = project_manifest_of(alloc, manifest)?;
     match load_project(alloc, &manifest, config, given, &mut Quiet)? {
         Ok(project) => projects.push(project)?,
         Err(_) => return Err(Fault::Condition),
@@ -94,7 +86,7 @@ fn run_all(
     config: &CargoConfig,
     given: &Given,
 ) -> Result<Value, Fault> {
-    let dir = path_of(alloc, case.text("dir")?)?;
+    let dir = absolute(alloc, case.text("dir"))?;
     let ask = given.ask(config);
     let mut lines = Lines::new(alloc);
     let each = ProjectWorkspace::run_all_build_scripts(
@@ -157,13 +149,12 @@ fn after_builds(
         return Err(Fault::Member("manifests"));
     };
     let before = Box::new(alloc, project.try_clone(alloc)?)?;
-    let builds = case.list("builds")?;
-    for build in builds {
-        if let Some(refusal) = set_build(alloc, Case::new(build), project)? {
+    for build in case.list("builds") {
+        if let Some(refusal) = set_build(alloc, case.with(build), project)? {
             return Ok(refusal);
         }
     }
-    match case.text("ask")? {
+    match case.text("ask") {
         "equal" => Ok(Value::Bool(project.eq_ignore_build_data(&before))),
         question => answer_question(alloc, question, project),
     }

@@ -5,15 +5,16 @@ ghost use Rattle.pm_lower.specs.ToRoots.{HasNoRustc};
 
 use crate::given::{Given, configure};
 use crate::graphs;
-use base_text::{CfgAtom, Items, RecordedRunner, Text, Version, write_cfg};
-use case_tools::Lines;
-use case_workspaces::{limit_name, path_of, paths_answer, roots_answer, with_text};
-use cases::{Case, Fault, List, error_answer, optional_answer, text_answer};
-use crate_graph::Env;
+use crate::values::{limit_name, roots_answer, with_text};
+use base_text::{RecordedRunner, Text, Version};
+use case_tools::{Lines, env_answer};
+use cases::{
+    Case, Fault, List, absolute, atoms_answer, error_answer, optional_answer, paths_answer,
+    text_answer,
+};
 use crate_graph::target::{Arch, TargetLoadResult};
 use pm_cargo::CargoWorkspace;
 use pm_config::{CargoConfig, Progress};
-use pm_json::ProjectJson;
 use pm_lower::{LoadError, ProjectWorkspace, ProjectWorkspaceKind};
 use pm_sysroot::Ask;
 use pm_tools::ProjectManifest;
@@ -23,16 +24,16 @@ use trees::MemoryTree;
 
 /// What a case gives.
 pub fn answer(alloc: Global, case: Case<'_>) -> Result<Value, Fault> {
-    if case.text("call")? != "ProjectWorkspace::load" {
+    if case.text("call") != "ProjectWorkspace::load" {
         return Err(Fault::Call);
     }
-    let manifest = project_manifest_of(alloc, case.text("manifest")?)?;
+    let manifest = project_manifest_of(alloc, case.text("manifest"))?;
     with_manifest(alloc, case, &manifest)
 }
 
 /// The manifest at a path, of the kind that its name says.
 pub fn project_manifest_of(alloc: Global, text: &str) -> Result<ProjectManifest, Fault> {
-    match ProjectManifest::from_manifest_file(path_of(alloc, text)?) {
+    match ProjectManifest::from_manifest_file(absolute(alloc, text)?) {
         Ok(manifest) => Ok(manifest),
         Err(_) => Err(Fault::Condition),
     }
@@ -128,10 +129,10 @@ pub fn answer_question(
         "names" => names(alloc, project),
         "roots" => roots(alloc, project),
         "error" | "env" => asked_of_cargo(alloc, question, project),
-        "cfgs" => cfgs_answer(alloc, &project.rustc_cfg),
+        "cfgs" => atoms_answer(alloc, project.rustc_cfg.as_slice()),
         "toolchain" => version_answer(alloc, project.toolchain.as_ref()),
         "target" => target_answer(alloc, &project.target),
-        "buildfiles" => buildfiles(alloc, project),
+        "buildfiles" => paths_answer(alloc, project.buildfiles(alloc)?.as_slice()),
         _ => Err(Fault::Member("ask")),
     }
 }
@@ -178,10 +179,6 @@ fn version_answer(alloc: Global, version: Option<&Version>) -> Result<Value, Fau
     }
 }
 
-fn buildfiles(alloc: Global, project: &ProjectWorkspace) -> Result<Value, Fault> {
-    paths_answer(alloc, &project.buildfiles(alloc)?)
-}
-
 // The roots of a project beside which no crates of the compiler were read.
 fn roots(alloc: Global, project: &ProjectWorkspace) -> Result<Value, Fault> {
     if !has_no_rustc(project) {
@@ -207,19 +204,17 @@ fn summary(alloc: Global, project: &ProjectWorkspace) -> Result<Value, Fault> {
 
 // The names of the packages, or the root modules of the crates of a JSON project; null for a detached file alone.
 fn names(alloc: Global, project: &ProjectWorkspace) -> Result<Value, Fault> {
-    match (&project.kind, cargo_of(project)) {
-        (ProjectWorkspaceKind::Json(project), _) => root_modules(alloc, project),
-        (_, Some((cargo, _))) => package_names(alloc, cargo),
-        (_, None) => Ok(Value::Null),
-    }
-}
-
-fn root_modules(alloc: Global, project: &ProjectJson) -> Result<Value, Fault> {
     let mut answers = List::new(alloc);
-    for krate in project.crates.as_slice() {
-        answers = answers.text(krate.root_module.as_str());
+    if let ProjectWorkspaceKind::Json(project) = &project.kind {
+        for krate in project.crates.as_slice() {
+            answers = answers.text(krate.root_module.as_str());
+        }
+        return answers.answer();
     }
-    answers.answer()
+    match cargo_of(project) {
+        Some((cargo, _)) => package_names(alloc, cargo),
+        None => Ok(Value::Null),
+    }
 }
 
 fn package_names(alloc: Global, cargo: &CargoWorkspace) -> Result<Value, Fault> {
@@ -230,26 +225,6 @@ fn package_names(alloc: Global, cargo: &CargoWorkspace) -> Result<Value, Fault> 
         }
     }
     answers.answer()
-}
-
-fn env_answer(alloc: Global, env: &Env) -> Result<Value, Fault> {
-    let mut answers = List::new(alloc);
-    for (name, value) in env.iter() {
-        answers = answers.item(List::new(alloc).text(name).text(value).answer());
-    }
-    answers.answer()
-}
-
-fn cfgs_answer(alloc: Global, atoms: &Items<CfgAtom>) -> Result<Value, Fault> {
-    let mut answers = List::new(alloc);
-    for atom in atoms.as_slice() {
-        answers = answers.item(cfg_answer(alloc, atom));
-    }
-    answers.answer()
-}
-
-fn cfg_answer(alloc: Global, atom: &CfgAtom) -> Result<Value, Fault> {
-    Ok(Value::String(write_cfg(alloc, atom)?))
 }
 
 fn target_answer(alloc: Global, target: &TargetLoadResult) -> Result<Value, Fault> {

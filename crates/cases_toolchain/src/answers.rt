@@ -1,8 +1,7 @@
 //! What answers say.
 
 use base_text::{TryClone, Version};
-use case_lines::atoms_answer;
-use cases::{Case, Fault, List, optional_answer};
+use cases::{Case, Fault, List, atoms_answer, optional_answer};
 use crate_values::target::{Arch, TargetData};
 use serde_json::Value;
 use std::alloc::Global;
@@ -10,24 +9,17 @@ use toolchain_answers::{TargetSpec, atoms_of, host_of, spec_of, version_behind};
 
 /// What a call on a text gives.
 pub fn answer(alloc: Global, case: Case<'_>) -> Result<Value, Fault> {
-    let text = case.text("text")?;
-    match case.text("call")? {
-        "version_behind" => version(alloc, case.text("front")?, text),
+    let text = case.text("text");
+    match case.text("call") {
+        "version_behind" => {
+            let version = version_behind(alloc, case.text("front"), text)?;
+            version_answer(alloc, version.as_ref())
+        }
         "host_of" => optional_answer(alloc, host_of(text)),
-        "atoms_of" => atoms(alloc, text),
+        "atoms_of" => atoms_answer(alloc, atoms_of(alloc, text)?.as_slice()),
         "spec_of" => specification(alloc, text),
         _ => Err(Fault::Call),
     }
-}
-
-fn version(alloc: Global, front: &str, text: &str) -> Result<Value, Fault> {
-    let version = version_behind(alloc, front, text)?;
-    version_answer(alloc, version.as_ref())
-}
-
-fn atoms(alloc: Global, text: &str) -> Result<Value, Fault> {
-    let atoms = atoms_of(alloc, text)?;
-    atoms_answer(alloc, atoms.as_slice())
 }
 
 fn specification(alloc: Global, text: &str) -> Result<Value, Fault> {

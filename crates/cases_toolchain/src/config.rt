@@ -1,23 +1,24 @@
 //! What is configured, and what versions allow.
 
 use base_text::{ByText, CfgAtom, CfgDiff, CfgOptions, Items, Text, TryClone, Version, parse_cfg};
-use case_lines::{atoms_answer, optional_path, texts, variables};
 use case_tools::{features_of, optional_version, version_of};
-use cases::{Case, Fault, items_of, optional_answer, pair_of, text_of};
+use cases::{
+    Case, Fault, atoms_answer, is_copied, optional_answer, optional_path, texts, variables,
+};
 use pm_config::{
     CargoConfig, CargoFeatures, CargoMetadataConfig, CfgOverrides, InvocationStrategy,
     LockfileUsage, TargetDirectoryConfig, lockfile_usage, needs_json_flag,
 };
 use serde_json::Value;
-use std::alloc::{AllocError, Global};
+use std::alloc::Global;
 
 /// What a call on a configuration gives.
 pub fn answer(alloc: Global, case: Case<'_>) -> Result<Value, Fault> {
-    match case.text("call")? {
-        "lockfile_usage" => usage(alloc, case.text("version")?),
-        "needs_json_flag" => needs_flag(alloc, case.text("target")?, case.text("version")?),
+    match case.text("call") {
+        "lockfile_usage" => usage(alloc, case.text("version")),
+        "needs_json_flag" => needs_flag(alloc, case.text("target"), case.text("version")),
         "TargetDirectoryConfig::target_dir" => target_dir(alloc, case),
-        "CfgOverrides::len" => count(alloc, case),
+        "CfgOverrides::len" => Ok(Value::from(overrides_of(alloc, case)?.len() as u64)),
         "CfgOverrides::apply" => apply(alloc, case),
         "new" => is_default(alloc),
         _ => Err(Fault::Call),
@@ -43,13 +44,8 @@ fn needs_flag(alloc: Global, target: &str, version: &str) -> Result<Value, Fault
     Ok(Value::from(needs_json_flag(target, Some(&version))))
 }
 
-fn count(alloc: Global, case: Case<'_>) -> Result<Value, Fault> {
-    let overrides = overrides_of(alloc, case)?;
-    Ok(Value::from(overrides.len() as u64))
-}
-
 fn target_dir(alloc: Global, case: Case<'_>) -> Result<Value, Fault> {
-    let config = match case.text("config")? {
+    let config = match case.text("config") {
         "None" => TargetDirectoryConfig::default(),
         "UseSubdirectory" => TargetDirectoryConfig::UseSubdirectory,
         dir => TargetDirectoryConfig::Directory(Text::of_str(alloc, dir)?),
@@ -67,64 +63,43 @@ fn dir_of_copy(
     optional_answer(alloc, dir.as_ref().map(Text::as_str))
 }
 
-// The atoms after the overrides of a case, as they are written.
+// The atoms after a copy of the overrides of a case, as they are written.
 fn apply(alloc: Global, case: Case<'_>) -> Result<Value, Fault> {
-    let name = case.text("name")?;
-    let mut options = options_of(alloc, case.list("options")?)?;
-    apply_copy(alloc, case, &mut options, name)?;
+    let overrides = overrides_of(alloc, case)?.try_clone(alloc)?;
+    let mut options = CfgOptions::new(alloc);
+    for atom in case.list("options") {
+        options.insert_atom(atom_named(alloc, case.with(atom).as_text())?)?;
+    }
+    overrides.apply(&mut options, case.text("name"))?;
     atoms_answer(alloc, options.as_slice())
 }
 
-// Applies a copy of the overrides of a case.
-fn apply_copy(
-    alloc: Global,
-    case: Case<'_>,
-    options: &mut CfgOptions,
-    name: &str,
-) -> Result<(), Fault> {
-    let copy = copied_overrides(alloc, case)?;
-    copy.apply(options, name)?;
-    Ok(())
-}
-
-fn copied_overrides(alloc: Global, case: Case<'_>) -> Result<CfgOverrides, Fault> {
-    let overrides = overrides_of(alloc, case)?;
-    Ok(overrides.try_clone(alloc)?)
-}
-
-fn options_of(alloc: Global, atoms: &[Value]) -> Result<CfgOptions, Fault> {
-    let mut options = CfgOptions::new(alloc);
-    for atom in atoms {
-        options.insert_atom(atom_of(alloc, atom)?)?;
-    }
-    Ok(options)
-}
-
-// The overrides of a case: each has the atoms to enable, and those to disable.
+// The overrides of a case: the atoms to change of all crates, and of those of a name.
 fn overrides_of(alloc: Global, case: Case<'_>) -> Result<CfgOverrides, Fault> {
-    let (entries, atoms) = (case.list("selective")?, case.list("global")?);
     let mut selective = ByText::empty(alloc);
-    for entry in entries {
-        insert_diff(alloc, &mut selective, entry)?;
+    for entry in case.list("selective") {
+        insert_diff(alloc, &mut selective, case.with(entry))?;
     }
-    let global = diff_of(alloc, atoms)?;
+    let global = match case.find("global") {
+        Some(atoms) => diff_of(alloc, case.with(atoms))?,
+        None => CfgDiff::new(Vec::new(alloc), Vec::new(alloc)),
+    };
     Ok(CfgOverrides { global, selective })
 }
 
 // Puts the change of a name in.
-fn insert_diff(alloc: Global, diffs: &mut ByText<CfgDiff>, entry: &Value) -> Result<(), Fault> {
-    let (name, atoms) = pair_of(entry, "selective")?;
-    let (name, atoms) = (text_of(name, "selective")?, items_of(atoms, "selective")?);
-    let name = String::from_str(alloc, name)?;
-    drop(diffs.insert(name, diff_of(alloc, atoms)?)?);
+fn insert_diff(alloc: Global, diffs: &mut ByText<CfgDiff>, entry: Case<'_>) -> Result<(), Fault> {
+    let name = String::from_str(alloc, entry.text_at(0))?;
+    drop(diffs.insert(name, diff_of(alloc, entry.at(1))?)?);
     Ok(())
 }
 
 // A change: an atom behind `!` is disabled, another is enabled.
-fn diff_of(alloc: Global, atoms: &[Value]) -> Result<CfgDiff, Fault> {
+fn diff_of(alloc: Global, atoms: Case<'_>) -> Result<CfgDiff, Fault> {
     let mut enable = Vec::new(alloc);
     let mut disable = Vec::new(alloc);
-    for atom in atoms {
+    for atom in atoms.items() {
+        let atom = atoms.with(atom).as_text();
         push_atom(alloc, &mut enable, &mut disable, atom)?;
     }
     Ok(CfgDiff::new(enable, disable))
@@ -134,17 +109,13 @@ fn push_atom(
     alloc: Global,
     enable: &mut Vec<CfgAtom>,
     disable: &mut Vec<CfgAtom>,
-    atom: &Value,
+    atom: &str,
 ) -> Result<(), Fault> {
-    match text_of(atom, "atoms")?.strip_prefix('!') {
+    match atom.strip_prefix('!') {
         Some(name) => disable.push(atom_named(alloc, name)?)?,
-        None => enable.push(atom_of(alloc, atom)?)?,
+        None => enable.push(atom_named(alloc, atom)?)?,
     }
     Ok(())
-}
-
-fn atom_of(alloc: Global, atom: &Value) -> Result<CfgAtom, Fault> {
-    atom_named(alloc, text_of(atom, "atoms")?)
 }
 
 fn atom_named(alloc: Global, name: &str) -> Result<CfgAtom, Fault> {
@@ -161,7 +132,7 @@ fn is_default(alloc: Global) -> Result<Value, Fault> {
     let is_default = is_nothing_configured(&config)
         && has_no_features(alloc, &config.features)
         && has_no_features(alloc, &metadata.features);
-    let is_copied = is_copied(alloc, &config)? && is_metadata_copied(alloc, &metadata)?;
+    let is_copied = is_copied(alloc, &*config)? && is_copied(alloc, &*metadata)?;
     Ok(Value::from(is_default && is_copied))
 }
 
@@ -180,14 +151,6 @@ fn has_no_features(alloc: Global, features: &CargoFeatures) -> bool {
     *features == none
 }
 
-fn is_copied(alloc: Global, config: &CargoConfig) -> Result<bool, AllocError> {
-    Ok(config.try_clone(alloc)? == *config)
-}
-
-fn is_metadata_copied(alloc: Global, config: &CargoMetadataConfig) -> Result<bool, AllocError> {
-    Ok(config.try_clone(alloc)? == *config)
-}
-
 /// The configuration of a metadata question.
 pub fn metadata_config(alloc: Global, case: Case<'_>) -> Result<Box<CargoMetadataConfig>, Fault> {
     let mut config = Box::new(alloc, CargoMetadataConfig::new(alloc))?;
@@ -200,7 +163,7 @@ pub fn metadata_config(alloc: Global, case: Case<'_>) -> Result<Box<CargoMetadat
 fn set_rest(alloc: Global, case: Case<'_>, config: &mut CargoMetadataConfig) -> Result<(), Fault> {
     config.features = features_of(alloc, case)?;
     config.config_path = optional_path(alloc, case, "config_path")?;
-    config.extra_env = variables(alloc, case.list("env")?)?;
+    config.extra_env = variables(alloc, case, "env")?;
     config.kind = "workspace";
     config.toolchain_version = optional_version(alloc, case)?;
     Ok(())
@@ -208,8 +171,8 @@ fn set_rest(alloc: Global, case: Case<'_>, config: &mut CargoMetadataConfig) -> 
 
 // Sets the words of a metadata question.
 fn set_words(alloc: Global, case: Case<'_>, config: &mut CargoMetadataConfig) -> Result<(), Fault> {
-    config.targets = texts(alloc, case.list("targets")?)?;
-    config.extra_args = texts(alloc, case.list("extra_args")?)?;
-    config.metadata_extra_args = texts(alloc, case.list("metadata_extra_args")?)?;
+    config.targets = texts(alloc, case, "targets")?;
+    config.extra_args = texts(alloc, case, "extra_args")?;
+    config.metadata_extra_args = texts(alloc, case, "metadata_extra_args")?;
     Ok(())
 }

@@ -1,6 +1,6 @@
 //! The environments that configurations give.
 
-use crate::origins::text_of_lines;
+use crate::origins::text_of_case;
 use case_tools::{env_answer, given_of};
 use cases::{Case, Fault};
 use pm_tools::{CargoConfigFile, cargo_config_env};
@@ -22,6 +22,5 @@ fn config_of(alloc: Global, case: Case<'_>) -> Result<Option<CargoConfigFile>, F
     if case.find("lines").is_none() {
         return Ok(None);
     }
-    let text = text_of_lines(alloc, case.list("lines")?)?;
-    Ok(Some(CargoConfigFile::from_text(text)))
+    Ok(Some(CargoConfigFile::from_text(text_of_case(alloc, case)?)))
 }

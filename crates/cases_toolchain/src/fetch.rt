@@ -4,9 +4,8 @@ use crate::config::metadata_config;
 use crate::tools::root_of;
 use base_text::{RecordedRunner, TryClone};
 use cargo_meta::{Error, Metadata};
-use case_lines::{absolute, line_answer, runner_of};
 use case_tools::{Lines, manifest_of};
-use cases::{Case, Fault, Object};
+use cases::{Case, Fault, Object, absolute, line_answer, print_answer, runner_of};
 use pm_config::{Progress, Quiet};
 use pm_fetch::FetchMetadata;
 use serde_json::Value;
@@ -14,7 +13,7 @@ use std::alloc::{AllocError, Global};
 
 /// What a call on a question for metadata gives.
 pub fn answer(alloc: Global, case: Case<'_>) -> Result<Value, Fault> {
-    let runner = runner_of(alloc, case.list("answers")?)?;
+    let runner = runner_of(alloc, case)?;
     let fetch = fetch_of(alloc, case, &runner)?;
     of_fetch(alloc, case, fetch, &runner)
 }
@@ -25,7 +24,7 @@ fn of_fetch(
     fetch: Box<FetchMetadata>,
     runner: &RecordedRunner,
 ) -> Result<Value, Fault> {
-    match case.text("call")? {
+    match case.text("call") {
         "FetchMetadata::new" => line_answer(alloc, fetch.question()),
         "FetchMetadata::exec" => exec(alloc, case, fetch, runner),
         _ => Err(Fault::Call),
@@ -38,12 +37,12 @@ fn fetch_of(
     case: Case<'_>,
     runner: &RecordedRunner,
 ) -> Result<Box<FetchMetadata>, Fault> {
-    let (manifest, dir) = (case.text("manifest")?, case.text("dir")?);
+    let (manifest, dir) = (case.text("manifest"), case.text("dir"));
     let no_deps = case.flag("no_deps");
     let root = root_of(alloc, case)?;
     let config = metadata_config(alloc, case)?;
     let manifest = manifest_of(alloc, manifest)?;
-    let dir = absolute(alloc, dir, "dir")?;
+    let dir = absolute(alloc, dir)?;
     let dir = dir.as_path();
     let fetch = FetchMetadata::new(alloc, &manifest, dir, &config, &root, no_deps, runner);
     fetch_boxed(alloc, fetch)
@@ -69,28 +68,11 @@ fn exec(
     let mut lines = Lines::new(alloc);
     let fetched = fetch_with(alloc, fetch, locked, runner, &mut lines);
     Object::new(alloc)
-        .member("fetched", equal_to(fetched, &quietly))
-        .member("lines", lines_answer(lines))
+        .member("fetched", fetched)
+        .member("quietly", Ok(quietly))
+        .flag("whole", lines.is_whole)
+        .member("lines", Ok(Value::Array(lines.kept)))
         .answer()
-}
-
-// An answer that has to be equal to another.
-fn equal_to(answer: Result<Value, Fault>, other: &Value) -> Result<Value, Fault> {
-    let answer = answer?;
-    if answer == *other {
-        Ok(answer)
-    } else {
-        Err(Fault::Condition)
-    }
-}
-
-fn lines_answer(lines: Lines) -> Result<Value, Fault> {
-    let Lines { kept, is_whole } = lines;
-    if is_whole {
-        Ok(Value::Array(kept))
-    } else {
-        Err(Fault::Condition)
-    }
 }
 
 fn fetch_with<P: Progress>(
@@ -132,6 +114,6 @@ fn beside_answer(alloc: Global, error: &Option<Error>) -> Result<Value, Fault> {
 fn error_answer(alloc: Global, error: &Error) -> Result<Value, Fault> {
     match error {
         Error::OutOfMemory => Err(Fault::OutOfMemory),
-        _ => Ok(Value::String(format!(in alloc; "{error}")?)),
+        _ => print_answer(alloc, error),
     }
 }

@@ -8,7 +8,7 @@ use std::alloc::Global;
 
 /// The kind of a manifest and its path.
 pub fn answer(alloc: Global, case: Case<'_>) -> Result<Value, Fault> {
-    match AbsPathBuf::new(alloc, case.text("path")?) {
+    match AbsPathBuf::new(alloc, case.text("path")) {
         Ok(path) => of_path(alloc, path),
         Err(PathError::NotAbsolute) => error_answer(alloc, "NotAbsolute"),
         Err(PathError::OutOfMemory) => Err(Fault::OutOfMemory),

@@ -1,9 +1,8 @@
 //! A toolchain of a case, and where it is asked.
 
 use base_text::AbsPathBuf;
-use case_lines::absolute;
 use case_tools::{CaseAsk, Given, manifest_of, usual_tools};
-use cases::{Case, Fault};
+use cases::{Case, Fault, absolute};
 use pm_packages::ManifestPath;
 use pm_tools::CargoConfigFile;
 use std::alloc::Global;
@@ -51,7 +50,7 @@ fn place_of(alloc: Global, case: Case<'_>) -> Result<Place, Fault> {
             let manifest = manifest_of(alloc, manifest)?;
             Ok(Place::Manifest(manifest, printed_of(alloc, case)?))
         }
-        None => Ok(Place::Directory(absolute(alloc, case.text("dir")?, "dir")?)),
+        None => Ok(Place::Directory(absolute(alloc, case.text("dir"))?)),
     }
 }
 

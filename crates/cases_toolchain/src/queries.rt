@@ -2,10 +2,8 @@
 
 use crate::answers::{machine_answer, version_answer};
 use crate::placed_given::PlacedGiven;
-use base_text::TryClone;
-use case_lines::{atoms_answer, texts_answer};
 use case_tools::{CaseAsk, optional_version};
-use cases::{Case, Fault, Object, error_answer};
+use cases::{Case, Fault, Object, atoms_answer, copied_answer, print_answer, texts_answer};
 use serde_json::Value;
 use std::alloc::Global;
 use toolchain_info::{QueryConfig, QueryError, rustc_cfg, target_data, target_tuple, version};
@@ -18,11 +16,14 @@ pub fn answer(alloc: Global, case: Case<'_>) -> Result<Value, Fault> {
 
 fn of_given(alloc: Global, case: Case<'_>, given: &PlacedGiven) -> Result<Value, Fault> {
     let target = case.optional_text("target");
-    match case.text("call")? {
+    match case.text("call") {
         "version::get" => versions(alloc, given.config(), &given.ask()),
         "target_tuple::get" => platforms(alloc, given.config(), target, &given.ask()),
         "target_data::get" => machines(alloc, case, given.config(), target, &given.ask()),
-        "rustc_cfg::get" => atoms(alloc, given.config(), target, &given.ask()),
+        "rustc_cfg::get" => {
+            let atoms = rustc_cfg::get(alloc, given.config(), target, &given.ask())?;
+            atoms_answer(alloc, atoms.as_slice())
+        }
         _ => Err(Fault::Call),
     }
 }
@@ -60,28 +61,14 @@ fn machines(
     }
 }
 
-fn atoms(
-    alloc: Global,
-    config: QueryConfig<'_>,
-    target: Option<&str>,
-    ask: &CaseAsk<'_>,
-) -> Result<Value, Fault> {
-    let atoms = rustc_cfg::get(alloc, config, target, ask)?;
-    atoms_answer(alloc, atoms.as_slice())
-}
-
-// An error by the name that it prints, and the line of one that carries a line, where its copy equals it.
+// An error by the name that it prints, whether its copy equals it, and the line of one that carries a line.
 fn refusal(alloc: Global, error: &QueryError) -> Result<Value, Fault> {
-    if error.try_clone(alloc)? != *error {
-        return Err(Fault::Condition);
-    }
-    let name = format!(in alloc; "{error}")?;
+    let answer = Object::new(alloc)
+        .member("error", print_answer(alloc, error))
+        .member("copied", copied_answer(alloc, error));
     match error {
-        QueryError::Failed(line) => Object::new(alloc)
-            .text("error", name.as_str())
-            .text("line", line.as_str())
-            .answer(),
-        QueryError::NoHost | QueryError::BadSpec => error_answer(alloc, name.as_str()),
+        QueryError::Failed(line) => answer.text("line", line.as_str()).answer(),
+        QueryError::NoHost | QueryError::BadSpec => answer.answer(),
         QueryError::OutOfMemory => Err(Fault::OutOfMemory),
     }
 }

@@ -1,9 +1,11 @@
 //! Questions to the tools of a toolchain, and what is made of their answers.
 
-use base_text::{AbsPath, AbsPathBuf, CommandLine, Text, TryClone};
-use case_lines::{line_answer, line_of, optional_path};
+use base_text::{AbsPath, AbsPathBuf, CommandLine, Text};
 use case_tools::{Given, env_of, given_of, manifest_of, tool_of};
-use cases::{Case, Fault, Object, optional_answer, text_answer};
+use cases::{
+    Case, Fault, Object, copied_answer, line_answer, line_of, optional_answer, optional_path,
+    print_answer, text_answer,
+};
 use pm_sysroot::{Sysroot, serving_answer, set_variable, words_of};
 use pm_tools::CargoConfigFile;
 use pm_tools::config_question::config_question;
@@ -17,7 +19,7 @@ pub fn answer(alloc: Global, case: Case<'_>) -> Result<Value, Fault> {
 }
 
 fn of_given(alloc: Global, case: Case<'_>, given: &Given) -> Result<Value, Fault> {
-    match case.text("call")? {
+    match case.text("call") {
         "Sysroot" => sysroot(alloc, &given.sysroot),
         "Sysroot::tool" => tool(alloc, case, given),
         "Sysroot::question" => question(alloc, case, given),
@@ -30,19 +32,15 @@ fn of_given(alloc: Global, case: Case<'_>, given: &Given) -> Result<Value, Fault
     }
 }
 
-// What a toolchain is, where its copy equals it.
+// What a toolchain is, and whether its copy equals it.
 fn sysroot(alloc: Global, sysroot: &Sysroot) -> Result<Value, Fault> {
-    if sysroot.try_clone(alloc)? != *sysroot {
-        return Err(Fault::Condition);
-    }
-    let workspace = sysroot.workspace();
-    let workspace = format!(in alloc; "{workspace}")?;
     let is_empty = *sysroot == Sysroot::empty();
     Object::new(alloc)
         .optional("root", sysroot.root().map(AbsPath::as_str))
         .optional("src", sysroot.rust_lib_src_root().map(AbsPath::as_str))
-        .text("workspace", workspace.as_str())
+        .member("workspace", print_answer(alloc, &sysroot.workspace()))
         .flag("empty", is_empty)
+        .member("copied", copied_answer(alloc, sysroot))
         .answer()
 }
 
@@ -52,16 +50,16 @@ fn question_answer(alloc: Global, line: Result<CommandLine, AllocError>) -> Resu
 }
 
 fn tool(alloc: Global, case: Case<'_>, given: &Given) -> Result<Value, Fault> {
-    let (tool, dir) = (tool_of(case)?, case.text("dir")?);
+    let (tool, dir) = (tool_of(case)?, case.text("dir"));
     let line = given.sysroot.tool(alloc, tool, dir, &given.ask());
     question_answer(alloc, line)
 }
 
 // A question with one word, and a variable that is set last.
 fn question(alloc: Global, case: Case<'_>, given: &Given) -> Result<Value, Fault> {
-    let (tool, dir) = (tool_of(case)?, case.text("dir")?);
-    let (name, value) = (case.text("name")?, case.text("value")?);
-    let words = words_of(alloc, &[case.text("word")?])?;
+    let (tool, dir) = (tool_of(case)?, case.text("dir"));
+    let (name, value) = (case.text("name"), case.text("value"));
+    let words = words_of(alloc, &[case.text("word")])?;
     let line = given
         .sysroot
         .question(alloc, tool, dir, words, &given.ask())?;
@@ -69,8 +67,8 @@ fn question(alloc: Global, case: Case<'_>, given: &Given) -> Result<Value, Fault
 }
 
 fn tool_path(alloc: Global, case: Case<'_>, given: &Given) -> Result<Value, Fault> {
-    let (tool, dir) = (tool_of(case)?, case.text("dir")?);
-    let envs = env_of(alloc, case.list("envs")?)?;
+    let (tool, dir) = (tool_of(case)?, case.text("dir"));
+    let envs = env_of(alloc, case, "envs")?;
     let sysroot = &given.sysroot;
     match sysroot.tool_path(alloc, tool, dir, &envs, &given.ask()) {
         Ok(path) => text_answer(alloc, path.as_str()),
@@ -79,8 +77,8 @@ fn tool_path(alloc: Global, case: Case<'_>, given: &Given) -> Result<Value, Faul
 }
 
 fn tool_path_question(alloc: Global, case: Case<'_>, given: &Given) -> Result<Value, Fault> {
-    let (tool, dir) = (tool_of(case)?, case.text("dir")?);
-    let envs = env_of(alloc, case.list("envs")?)?;
+    let (tool, dir) = (tool_of(case)?, case.text("dir"));
+    let envs = env_of(alloc, case, "envs")?;
     let line = given
         .sysroot
         .tool_path_question(alloc, tool, dir, &envs, &given.ask());
@@ -96,7 +94,7 @@ fn answer_serving(alloc: Global, case: Case<'_>, given: &Given) -> Result<Value,
 }
 
 fn question_of_config(alloc: Global, case: Case<'_>, given: &Given) -> Result<Value, Fault> {
-    let manifest = manifest_of(alloc, case.text("manifest")?)?;
+    let manifest = manifest_of(alloc, case.text("manifest"))?;
     let config = optional_path(alloc, case, "config_path")?;
     let config = config.as_ref().map(AbsPathBuf::as_path);
     let line = config_question(alloc, &manifest, &given.sysroot, config, &given.ask());
@@ -104,7 +102,7 @@ fn question_of_config(alloc: Global, case: Case<'_>, given: &Given) -> Result<Va
 }
 
 fn load(alloc: Global, case: Case<'_>, given: &Given) -> Result<Value, Fault> {
-    let manifest = manifest_of(alloc, case.text("manifest")?)?;
+    let manifest = manifest_of(alloc, case.text("manifest"))?;
     let config = optional_path(alloc, case, "config_path")?;
     let config = config.as_ref().map(AbsPathBuf::as_path);
     match CargoConfigFile::load(alloc, &manifest, &given.sysroot, config, &given.ask()) {

@@ -1,8 +1,8 @@
 //! The values of a printed configuration.
 
-use crate::origins::{item_of_case, keys_of_case, root_answer, text_of_case};
+use crate::origins::{item_of_case, root_answer, text_of_case};
 use base_text::Text;
-use cases::{Case, Fault, text_answer};
+use cases::{Case, Fault, text_answer, texts};
 use pm_tools::CargoConfigFile;
 use serde_json::Value;
 use std::alloc::{AllocError, Global};
@@ -10,7 +10,7 @@ use std::alloc::{AllocError, Global};
 /// What a call of a printed configuration gives.
 pub fn answer(alloc: Global, case: Case<'_>) -> Result<Value, Fault> {
     let file = CargoConfigFile::from_text(text_of_case(alloc, case)?);
-    let keys = keys_of_case(alloc, case)?;
+    let keys = texts(alloc, case, "keys")?;
     of_file(alloc, case, &file, keys.as_slice())
 }
 
@@ -20,10 +20,10 @@ fn of_file(
     file: &CargoConfigFile,
     keys: &[Text],
 ) -> Result<Value, Fault> {
-    match case.text("call")? {
+    match case.text("call") {
         "CargoConfigFile::get" => value_answer(alloc, file.get(alloc, keys)),
         "CargoConfigFile::origin_root" => {
-            let item = item_of_case(case)?;
+            let item = item_of_case(case);
             root_answer(alloc, file.origin_root(alloc, keys, item))
         }
         _ => Err(Fault::Call),

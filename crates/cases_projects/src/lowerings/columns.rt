@@ -1,7 +1,7 @@
 //! What is known of a crate beside its root and its dependencies.
 
+use crate::values::edition_name;
 use base_text::Text;
-use case_workspaces::edition_name;
 use cases::{Fault, List, Object};
 use crate_graph::{CrateBuilder, CrateOrigin, CrateWorkspaceData};
 use serde_json::Value;

@@ -1,14 +1,14 @@
 //! The crates of a graph: what each depends on, and what is known of it.
 
 use crate::lowerings::columns;
-use cases::{Case, Fault, List, item, text_answer, text_of};
+use cases::{Case, Fault, List, text_answer};
 use crate_graph::{CrateBuilder, CrateGraphBuilder, DependencyBuilder};
 use serde_json::Value;
 use std::alloc::Global;
 
 /// What a case asks of each crate of a graph, in order.
 pub fn answer(alloc: Global, case: Case<'_>, graph: &CrateGraphBuilder) -> Result<Value, Fault> {
-    let question = case.text("ask")?;
+    let question = case.text("ask");
     let mut answers = List::new(alloc);
     for id in graph.iter() {
         if graph.contains(id) {
@@ -36,10 +36,7 @@ fn of_crate(
 // The path of the file that a crate begins in.
 fn root(alloc: Global, case: Case<'_>, krate: &CrateBuilder) -> Result<Value, Fault> {
     let place = krate.basic.root_file_id.index() as usize;
-    text_answer(
-        alloc,
-        text_of(item(case.list("live")?, place, "live")?, "live")?,
-    )
+    text_answer(alloc, case.of("live").text_at(place))
 }
 
 // The root of a crate, with its dependencies in order.

@@ -1,7 +1,7 @@
 //! A crate of a project as JSON.
 
-use base_text::{AbsPathBuf, ByText, CfgAtom, Edition, Text, write_cfg};
-use cases::{Fault, List, Object};
+use base_text::{AbsPathBuf, ByText, Edition, Text};
+use cases::{Fault, List, Object, atoms_answer, paths_answer, texts_answer};
 use crate_graph::{CrateDisplayName, TargetKind};
 use pm_json::{Build, Crate, Dep};
 use serde_json::Value;
@@ -28,7 +28,7 @@ fn with_module(alloc: Global, answer: Object, krate: &Crate) -> Object {
 // Under which conditions it is compiled.
 fn with_conditions(alloc: Global, answer: Object, krate: &Crate) -> Object {
     answer
-        .member("cfg", cfgs_answer(alloc, krate.cfg.as_slice()))
+        .member("cfg", atoms_answer(alloc, krate.cfg.as_slice()))
         .optional("target", krate.target.as_ref().map(Text::as_str))
         .member("env", env_answer(alloc, &krate.env))
         .member(
@@ -83,34 +83,8 @@ fn edition(edition: Edition) -> &'static str {
 fn deps_answer(alloc: Global, deps: &[Dep]) -> Result<Value, Fault> {
     let mut answers = List::new(alloc);
     for dep in deps {
-        answers = answers.item(dep_answer(alloc, dep));
-    }
-    answers.answer()
-}
-
-fn dep_answer(alloc: Global, dep: &Dep) -> Result<Value, Fault> {
-    List::new(alloc)
-        .number(dep.krate.0 as u64)
-        .text(dep.name.symbol().as_str())
-        .answer()
-}
-
-fn cfgs_answer(alloc: Global, cfgs: &[CfgAtom]) -> Result<Value, Fault> {
-    let mut answers = List::new(alloc);
-    for atom in cfgs {
-        answers = answers.item(cfg_answer(alloc, atom));
-    }
-    answers.answer()
-}
-
-fn cfg_answer(alloc: Global, atom: &CfgAtom) -> Result<Value, Fault> {
-    Ok(Value::String(write_cfg(alloc, atom)?))
-}
-
-fn texts_answer(alloc: Global, texts: &[Text]) -> Result<Value, Fault> {
-    let mut answers = List::new(alloc);
-    for text in texts {
-        answers = answers.text(text.as_str());
+        let answer = List::new(alloc).number(dep.krate.0 as u64);
+        answers = answers.item(answer.text(dep.name.symbol().as_str()).answer());
     }
     answers.answer()
 }
@@ -120,15 +94,6 @@ fn env_answer(alloc: Global, env: &ByText<Text>) -> Result<Value, Fault> {
     for (name, value) in env.as_map().iter() {
         let pair = List::new(alloc).text(name.as_str()).text(value.as_str());
         answers = answers.item(pair.answer());
-    }
-    answers.answer()
-}
-
-/// Paths as texts.
-pub fn paths_answer(alloc: Global, paths: &[AbsPathBuf]) -> Result<Value, Fault> {
-    let mut answers = List::new(alloc);
-    for path in paths {
-        answers = answers.text(path.as_str());
     }
     answers.answer()
 }

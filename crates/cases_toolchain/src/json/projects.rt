@@ -1,9 +1,12 @@
 //! Projects on a base: their crates, and what they are asked.
 
-use crate::json::crates::{build_answer, crate_answer, paths_answer};
+use crate::json::crates::{build_answer, crate_answer};
 use crate::json::documents::refusal;
-use base_text::{AbsPath, AbsPathBuf, Limits, PathError, TryClone};
-use cases::{Case, Fault, List, Object, error_answer, text_answer, text_of};
+use base_text::{AbsPath, Limits};
+use case_tools::manifest_of;
+use cases::{
+    Case, Fault, List, Object, absolute, error_answer, is_copied, paths_answer, text_answer,
+};
 use json_fields::TextJson;
 use pm_json::{Crate, CrateArrayIdx, ProjectJson, RunnableKind, WorkspaceJsonError};
 use pm_json_data::ProjectJsonData;
@@ -13,12 +16,11 @@ use std::alloc::Global;
 
 /// What a project answers. It is that of the case's document on its base.
 pub fn answer(alloc: Global, case: Case<'_>) -> Result<Value, Fault> {
-    let (base, document) = (case.text("base")?, case.member("document")?);
-    let limits = limits_of(case)?;
-    let base = path(alloc, base)?;
+    let base = absolute(alloc, case.text("base"))?;
     let manifest = manifest(alloc, case)?;
-    match ProjectJsonData::of_value(alloc, document) {
+    match ProjectJsonData::of_value(alloc, case.member("document")) {
         Ok(document) => {
+            let limits = limits_of(case);
             let project = ProjectJson::new(alloc, manifest, base.as_path(), document, &limits);
             of_outcome(alloc, case, project)
         }
@@ -27,29 +29,18 @@ pub fn answer(alloc: Global, case: Case<'_>) -> Result<Value, Fault> {
 }
 
 // The limits of a case. That of the crates is the greatest, unless the case gives it.
-fn limits_of(case: Case<'_>) -> Result<Limits, Fault> {
+fn limits_of(case: Case<'_>) -> Limits {
     let mut limits = Limits::greatest();
-    if let Some(limit) = case.find("limit").and_then(Value::as_u64) {
-        limits.crates = u32::try_from(limit).ok().ok_or(Fault::Member("limit"))?;
+    if case.find("limit").is_some() {
+        limits.crates = case.of("limit").as_u32();
     }
-    Ok(limits)
-}
-
-fn path(alloc: Global, text: &str) -> Result<AbsPathBuf, Fault> {
-    match AbsPathBuf::new(alloc, text) {
-        Ok(path) => Ok(path),
-        Err(PathError::NotAbsolute) => Err(Fault::Member("path")),
-        Err(PathError::OutOfMemory) => Err(Fault::OutOfMemory),
-    }
+    limits
 }
 
 fn manifest(alloc: Global, case: Case<'_>) -> Result<Option<ManifestPath>, Fault> {
-    let Some(text) = case.optional_text("manifest") else {
-        return Ok(None);
-    };
-    match ManifestPath::new(path(alloc, text)?) {
-        Ok(manifest) => Ok(Some(manifest)),
-        Err(_) => Err(Fault::Member("manifest")),
+    match case.optional_text("manifest") {
+        Some(text) => Ok(Some(manifest_of(alloc, text)?)),
+        None => Ok(None),
     }
 }
 
@@ -70,10 +61,10 @@ fn of_outcome(
 }
 
 fn of_project(alloc: Global, case: Case<'_>, project: &mut ProjectJson) -> Result<Value, Fault> {
-    if project.try_clone(alloc)? != *project {
+    if !is_copied(alloc, &*project)? {
         return Err(Fault::Condition);
     }
-    match case.text("call")? {
+    match case.text("call") {
         "ProjectJson::take_sysroot_project" => take_sysroot_project(alloc, case, project),
         call => answer_question(alloc, case, call, project),
     }
@@ -91,14 +82,14 @@ fn answer_question(
         "ProjectJson::index" => crate_members(alloc, case, crate_at(case, project)?),
         "Crate::iter_deps" => deps(alloc, crate_at(case, project)?),
         "ProjectJson::crate_by_root" => {
-            let root = path(alloc, case.text("root")?)?;
+            let root = absolute(alloc, case.text("root"))?;
             root_answer(alloc, project.crate_by_root(root.as_path()))
         }
         "ProjectJson::crate_by_label" => {
-            root_answer(alloc, project.crate_by_label(case.text("label")?))
+            root_answer(alloc, project.crate_by_label(case.text("label")))
         }
         "ProjectJson::crate_by_buildfile" => {
-            let file = path(alloc, case.text("file")?)?;
+            let file = absolute(alloc, case.text("file"))?;
             build_answer(alloc, project.crate_by_buildfile(file.as_path()))
         }
         "ProjectJson::runnable_template" => template(alloc, case, project),
@@ -142,30 +133,22 @@ fn crates(alloc: Global, case: Case<'_>, project: &ProjectJson) -> Result<Value,
 
 // The members of a crate that the case names, in its order, or all of them.
 fn crate_members(alloc: Global, case: Case<'_>, krate: &Crate) -> Result<Value, Fault> {
+    let whole = crate_answer(alloc, krate)?;
     if case.find("members").is_none() {
-        return crate_answer(alloc, krate);
+        return Ok(whole);
     }
-    let keys = case.list("members")?;
-    members_of(alloc, &crate_answer(alloc, krate)?, keys)
-}
-
-fn members_of(alloc: Global, whole: &Value, keys: &[Value]) -> Result<Value, Fault> {
     let mut members = List::new(alloc);
-    for key in keys {
-        members = members.item(member_of(whole, key));
+    for key in case.list("members") {
+        match whole.get(case.with(key).as_text()) {
+            Some(member) => members = members.item(Ok(member.clone()?)),
+            None => return Err(Fault::Member("members")),
+        }
     }
     members.answer()
 }
 
-fn member_of(whole: &Value, key: &Value) -> Result<Value, Fault> {
-    match whole.get(text_of(key, "members")?) {
-        Some(member) => Ok(member.clone()?),
-        None => Err(Fault::Member("members")),
-    }
-}
-
 fn crate_at<'p>(case: Case<'_>, project: &'p ProjectJson) -> Result<&'p Crate, Fault> {
-    let place = case.number("place")? as usize;
+    let place = case.number("place") as usize;
     if place < project.n_crates() {
         Ok(&project[CrateArrayIdx(place)])
     } else {
@@ -211,7 +194,7 @@ fn root_answer(alloc: Global, krate: Option<&Crate>) -> Result<Value, Fault> {
 }
 
 fn template(alloc: Global, case: Case<'_>, project: &ProjectJson) -> Result<Value, Fault> {
-    let Ok(kind) = RunnableKind::read_text(alloc, case.text("kind")?) else {
+    let Ok(kind) = RunnableKind::read_text(alloc, case.text("kind")) else {
         return Err(Fault::Member("kind"));
     };
     match project.runnable_template(kind) {
