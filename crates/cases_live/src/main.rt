@@ -22,7 +22,7 @@ impl<R: Files + AllocGlobal> Family<R> for LiveFamily {
     fn answer(rt: &R, file: &str, case: Case<'_>) -> Result<Value, Fault> {
         match file {
             "errors.jsonl" => runs::memory_error(rt.alloc()),
-            "generated.jsonl" => generated::answer(rt.alloc(), case),
+            "generated.jsonl" | "recorded.jsonl" => generated::answer(rt.alloc(), case),
             "scripts.jsonl" => scripts::answer(rt, case),
             "sessions.jsonl" => sessions::answer(rt.alloc(), case),
             "words.jsonl" => words::answer(rt.alloc(), case),
