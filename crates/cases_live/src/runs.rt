@@ -30,7 +30,7 @@ pub fn run(
     let mut out = FaultSink::new(alloc, writes);
     let mut err = MemorySink::new(alloc);
     let status = live_cli(alloc, words, &mut live, &mut input, &mut out, &mut err);
-    let ended = live.has_ended();
+    let ended = live.ended();
     Ok(Ran {
         status,
         ended,

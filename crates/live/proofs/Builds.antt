@@ -1,6 +1,6 @@
 -- One event that is a build: what it gives the project, or why it is refused.
 use Rattle.std.proofs.Common.{◌≡◌, ℕ, Bool, true, false, cond, List, [], Option, Some, None, Result, Ok, Err, inl, inr, ◌⊎◌, refl, sym, ap, subst, ◌∙◌, arith}
-use Rattle.std.specs.Prelude.{IfErr, OnErr, OnOk, is_err}
+use Rattle.std.specs.Prelude.{IfErr, IsErrOf, OnErr, OnOk, is_err}
 use Rattle.outside.specs.Sink.{Appends-nil}
 use Rattle.outside.specs.declared.command.Output.{Output}
 use Rattle.outside.specs.declared.limits.Limit.TheVariants.{Bytes}
@@ -126,7 +126,7 @@ build_cause project output (Err error) count (inr refused) =
     }
 
 pub build_leaves : (live live' : Live) (output : Output) (result : Result (Unit {0}) LiveError) (event : Event) → (event ≡ Flush → ⊥)
-    → OnOk result (BuildsProject live live' output) → OnErr result (live' ≡ live) → LeavesAsWas event (is_err result) live live'
+    → OnOk result (BuildsProject live live' output) → OnErr result (live' ≡ live) → LeavesAsWas event (is_err result) (IsErrOf result OutOfMemory) live live'
 build_leaves live live' output (Ok done) event other builds same =
-    others_leave live live' (Ok done) event other builds.after.config builds.after.db builds.after.probes builds.after.ended same
-build_leaves live live' output (Err error) event other builds same = others_leave live live' (Err error) event other tt tt tt tt same
+    others_leave live live' (Ok done) event other builds.after.config builds.after.files builds.after.db builds.after.probes builds.after.ended same
+build_leaves live live' output (Err error) event other builds same = others_leave live live' (Err error) event other tt tt tt tt tt same

@@ -7,11 +7,10 @@ use Rattle.vfs_core.specs.VfsPath.{PathContent}
 use Rattle.crate_graph.specs.Graph.{Graph}
 use Rattle.input_db.specs.Database.{Database}
 use Rattle.crate_graph.specs.Extend.{Id}
-use Rattle.vfs_sets.specs.Probes.{CountsPlacing}
 use Rattle.live_input.specs.declared.event.Event.TheVariants.{Flush as FlushEvent}
 use Rattle.pages.specs.Page.{page_of}
-use Rattle.live_flush.specs.FileRoots.{root_lists}
-use Rattle.live_flush.specs.Refresh.{GivesCrates, KeepsCrates, Refreshes}
+use Rattle.live_flush.proofs.Stable.{same_identities}
+use Rattle.live_flush.specs.Refresh.{GivesCrates, KeepsCrates, KeepsIdentities, Refreshes}
 use Rattle.live_flush.specs.declared.file_root.FileRoot.{FileRoot}
 use Rattle.live_project.specs.Project.{ProjectContent}
 use Rattle.live.specs.declared.fault.LiveError.{LiveError}
@@ -19,11 +18,13 @@ use Rattle.live.specs.declared.fault.LiveError.TheVariants.{OutOfMemory, WriteFa
 use Rattle.live.specs.declared.last_flush.LastFlush.{LastFlush}
 use Rattle.live.specs.declared.session.Live.{Live}
 use Rattle.live.specs.Fault.{IsRefusal}
+use Rattle.live.specs.Marked.{SparesFiles}
 use Rattle.live.specs.Page.{page, roots_by}
 use Rattle.live.specs.Refresh.{IsGraphBy, KeepsLast, RefreshesLive}
 use Rattle.live.specs.Session.{State, ended_state, flush_of, flush_turn}
-use Rattle.live.specs.Turn.{CountsFlush, EndsTurn, HasEnded, Holds, KeepsFlush, LeavesAsWas, ShowsShape, TakesTurn}
+use Rattle.live.specs.Turn.{CountsFlush, EndsTurn, HasEnded, Holds, KeepsFlush, KeepsNames, LeavesAsWas, ShowsShape, TakesTurn}
 use Rattle.live.specs.Written.{AppendsFront, AppendsProperFront}
+use Rattle.live.proofs.Names.{numbers_same}
 use Rattle.live.proofs.FlushPage.{IsStored, holds_flush, made, page_shown, shows_shape, turn_is}
 
 -- a session has ended; the rest is as it was, but for the database, of which nothing is said
@@ -110,16 +111,16 @@ writes_flush live live' ended s error old new r h going only cut front is =
 -- of a session whose files, database and probes it was given, with the roots and the graph of its project
 pub refreshes_live : (live live' : Live) (given : List FileRoot) (graph : Option Graph) (cmp : Id → Id → Ordering) → given ≡ roots_by live.project
     → IsGraphBy live.project (existing_files live.files) graph → GivesCrates cmp graph live.db live'.db → Refreshes given live.files live.db live'.db
-    → CountsPlacing (root_lists given) (existing_files live.files) live.probes.ledger live'.probes.ledger → live'.files ≡ record live.files { batch = [] }
+    → KeepsIdentities live.db.crates live'.db.crates → live'.files ≡ record live.files { batch = [] }
     → live'.config ≡ live.config → live'.texts ≡ live.texts → live'.answers ≡ live.answers → live'.project ≡ live.project → live'.flushed ≡ live.flushed → live'.ended ≡ live.ended
     → RefreshesLive live live'
-refreshes_live live live' given graph cmp same lowers crates brings probes files config texts answers project flushed ended = record {
+refreshes_live live live' given graph cmp same lowers crates brings stable files config texts answers project flushed ended = record {
   graph = graph;
   lowers = lowers;
   cmp = cmp;
   crates = crates;
   refreshes = subst (λ rs. Refreshes rs live.files live.db live'.db) same brings;
-  probes = subst (λ rs. CountsPlacing (root_lists rs) (existing_files live.files) live.probes.ledger live'.probes.ledger) same probes;
+  stable = stable;
   config = config;
   texts = texts;
   answers = answers;
@@ -135,17 +136,59 @@ keeps-split : (p : Option ProjectContent) (files : List (ℕ × PathContent)) (g
 keeps-split None files graph cmp old new none is given = subst (λ g. GivesCrates cmp g old new) none given
 keeps-split (Some p) files graph cmp old new lowers is given = absurd (cc)
 
+-- the names of a session after a refresh
+refreshed_names : {Memory : Type 0} (live live' after : Live) → RefreshesLive live live' → after.files ≡ live'.files → after.db ≡ live'.db → KeepsNames Memory live after
+refreshed_names live live' after r files db = record {
+  paths = numbers_same live.files after.files (ap (λ f. f.entries) (files ∙ r.files));
+  crates = λ _. subst (λ d. KeepsIdentities live.db.crates d.crates) (sym db) r.stable;
+}
+
 -- what a flush that succeeds leaves as it was
-pub flush_leaves : (live live' after : Live) (last : LastFlush) → RefreshesLive live live' → CountsFlush live live' → IsStored live' after last
-    → LeavesAsWas FlushEvent false live after
+pub flush_leaves : {Memory : Type 0} (live live' after : Live) (last : LastFlush) → RefreshesLive live live' → CountsFlush live live' → IsStored live' after last
+    → LeavesAsWas FlushEvent false Memory live after
 flush_leaves live live' after last r counts is = record {
+  names = refreshed_names live live' after r is.files is.db;
   config = is.config ∙ r.config;
   database = λ other. absurd (other refl);
   all = λ e. absurd (cc);
   crates = λ _ none. rw is.db (keeps-split live.project (existing_files live.files) r.graph r.cmp live.db live'.db r.lowers none r.crates);
   probes = λ other. absurd (other refl);
   counts = λ _. rw is.probes counts;
-  placed = λ _ _. rw is.probes r.probes;
   going = λ _. is.ended ∙ r.ended;
   ends = λ e. absurd (cc);
 }
+
+-- and one that failed
+pub failed_leaves : {Memory : Type 0} (live live' : Live) → KeepsNames Memory live live' → live'.config ≡ live.config → CountsFlush live live' → HasEnded live'
+    → LeavesAsWas FlushEvent true Memory live live'
+failed_leaves live live' names config counts ended = record {
+  names = names;
+  config = config;
+  database = λ other. absurd (other refl);
+  all = λ _ other. absurd (other refl);
+  crates = λ e none. absurd (cc);
+  probes = λ other. absurd (other refl);
+  counts = λ _. counts;
+  going = λ e. absurd (cc);
+  ends = λ _ _. ended;
+}
+
+-- a page that was not written whole came after the crates were set
+pub unwritten_leaves : {Memory : Type 0} (live live' ended : Live) → RefreshesLive live live' → CountsFlush live live' → ended.files ≡ live'.files → ended.db ≡ live'.db
+    → ended.config ≡ live'.config → ended.probes ≡ live'.probes → HasEnded ended → LeavesAsWas FlushEvent true Memory live ended
+unwritten_leaves live live' ended r counts files db config probes has_ended =
+    failed_leaves live ended (refreshed_names live live' ended r files db) (config ∙ r.config) (rw probes counts) has_ended
+
+-- and a flush that is refused, before
+pub refused_leaves : {Memory : Type 0} (live live' ended : Live) (error : LiveError) → SparesFiles live live' → (error ≡ OutOfMemory) ⊎ (live'.db ≡ live.db) → (error ≡ OutOfMemory → Memory)
+    → CountsFlush live live' → ended.files ≡ live'.files → ended.db ≡ live'.db → ended.config ≡ live'.config → ended.probes ≡ live'.probes → HasEnded ended
+    → LeavesAsWas FlushEvent true Memory live ended
+refused_leaves {Memory = Memory} live live' ended error spares spared memory counts files db config probes has_ended =
+    failed_leaves live ended (record {
+      paths = numbers_same live.files ended.files (ap (λ f. f.entries) (files ∙ spares.files));
+      crates = λ other. by (other has_ended) spared;
+    }) (config ∙ spares.config) (rw probes counts) has_ended
+  where
+    by : (Memory → ⊥) → (error ≡ OutOfMemory) ⊎ (live'.db ≡ live.db) → KeepsIdentities live.db.crates ended.db.crates
+    by none (inl out) = absurd (none (memory out))
+    by none (inr same) = same_identities live.db.crates ended.db.crates (ap (λ d. d.crates) (db ∙ same))

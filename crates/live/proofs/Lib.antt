@@ -4,8 +4,10 @@ pub mod TextRows
 pub mod SharedRows
 pub mod Statuses
 pub mod Kept
+pub mod Names
 pub mod Outcomes
 pub mod Room
+pub mod Firsts
 pub mod Running
 pub mod Slots
 pub mod Listed

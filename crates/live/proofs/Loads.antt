@@ -1,6 +1,6 @@
 -- One event that is no mark and no flush: an answer that is recorded, or a load.
 use Rattle.std.proofs.Common.{◌≡◌, ℕ, List, [], Option, Some, Result, Ok, Err, inl, inr, refl, sym, ap, subst, ◌∙◌, arith}
-use Rattle.std.specs.Prelude.{IfErr, OnErr, OnOk, is_err}
+use Rattle.std.specs.Prelude.{IfErr, IsErrOf, OnErr, OnOk, is_err}
 use Rattle.outside.specs.Command.{question_of}
 use Rattle.outside.specs.Runner.{with_answer}
 use Rattle.outside.specs.Sink.{Appends-nil}
@@ -26,6 +26,7 @@ use Rattle.live.specs.Turn.{EndsTurn, Holds, LeavesAsWas, TakesTurn}
 use Rattle.live.specs.Written.{HasWriteCause}
 use Rattle.live.proofs.Kept.{kept_tree}
 use Rattle.live.proofs.Outcomes.{AppendsFront-nil}
+use Rattle.live.proofs.Names.{names_by, names_equal, numbers_same}
 use Rattle.live.proofs.Turns.{crates_same}
 
 -- ---- states that are held
@@ -252,42 +253,42 @@ load_cause live path (Err error) count (inr refused) = record {
 
 -- what leaves all but the answers and the project as it was
 pub others_leave : (live live' : Live) (result : Result (Unit {0}) LiveError) (event : Event) → (event ≡ Flush → ⊥)
-    → OnOk result (live'.config ≡ live.config) → OnOk result (live'.db ≡ live.db) → OnOk result (live'.probes ≡ live.probes) → OnOk result (live'.ended ≡ live.ended)
-    → OnErr result (live' ≡ live) → LeavesAsWas event (is_err result) live live'
-others_leave live live' (Ok done) event other config db probes ended same = record {
+    → OnOk result (live'.config ≡ live.config) → OnOk result (live'.files ≡ live.files) → OnOk result (live'.db ≡ live.db) → OnOk result (live'.probes ≡ live.probes) → OnOk result (live'.ended ≡ live.ended)
+    → OnErr result (live' ≡ live) → LeavesAsWas event (is_err result) (IsErrOf result OutOfMemory) live live'
+others_leave live live' (Ok done) event other config files db probes ended same = record {
+  names = names_by live live' (numbers_same live.files live'.files (ap (λ f. f.entries) files)) (ap (λ d. d.crates) db);
   config = config;
   database = λ _. db;
   all = λ e. absurd (cc);
   crates = λ _ none. crates_same live.db live'.db db;
   probes = λ _. probes;
   counts = λ e. absurd (other e);
-  placed = λ _ e. absurd (other e);
   going = λ _. ended;
   ends = λ e. absurd (cc);
 }
-others_leave live live' (Err error) event other config db probes ended same = record {
+others_leave live live' (Err error) event other config files db probes ended same = record {
+  names = names_equal live live' same;
   config = ap (λ l. l.config) same;
   database = λ _. ap (λ l. l.db) same;
   all = λ _ _. same;
   crates = λ e none. absurd (cc);
   probes = λ _. ap (λ l. l.probes) same;
   counts = λ e. absurd (other e);
-  placed = λ e _. absurd (cc);
   going = λ e. absurd (cc);
   ends = λ _ e. absurd (other e);
 }
 
 pub answer_leaves : (live live' : Live) (line : CommandLine) (output : Output) (result : Result (Unit {0}) LiveError) (event : Event) → (event ≡ Flush → ⊥)
-    → OnOk result (AddsAnswer live live' line output) → OnErr result (live' ≡ live) → LeavesAsWas event (is_err result) live live'
+    → OnOk result (AddsAnswer live live' line output) → OnErr result (live' ≡ live) → LeavesAsWas event (is_err result) (IsErrOf result OutOfMemory) live live'
 answer_leaves live live' line output (Ok done) event other after same =
-    others_leave live live' (Ok done) event other (ap (λ l. l.config) after) (ap (λ l. l.db) after) (ap (λ l. l.probes) after) (ap (λ l. l.ended) after) same
-answer_leaves live live' line output (Err error) event other after same = others_leave live live' (Err error) event other tt tt tt tt same
+    others_leave live live' (Ok done) event other (ap (λ l. l.config) after) (ap (λ l. l.files) after) (ap (λ l. l.db) after) (ap (λ l. l.probes) after) (ap (λ l. l.ended) after) same
+answer_leaves live live' line output (Err error) event other after same = others_leave live live' (Err error) event other tt tt tt tt tt same
 
 pub load_leaves : (live live' : Live) (path : List ℕ) (result : Result (Unit {0}) LiveError) (event : Event) → (event ≡ Flush → ⊥)
-    → OnOk result (LoadsProject live live' path) → OnErr result (live' ≡ live) → LeavesAsWas event (is_err result) live live'
+    → OnOk result (LoadsProject live live' path) → OnErr result (live' ≡ live) → LeavesAsWas event (is_err result) (IsErrOf result OutOfMemory) live live'
 load_leaves live live' path (Ok done) event other loads same =
-    others_leave live live' (Ok done) event other loads.after.config loads.after.db loads.after.probes loads.after.ended same
-load_leaves live live' path (Err error) event other loads same = others_leave live live' (Err error) event other tt tt tt tt same
+    others_leave live live' (Ok done) event other loads.after.config loads.after.files loads.after.db loads.after.probes loads.after.ended same
+load_leaves live live' path (Err error) event other loads same = others_leave live live' (Err error) event other tt tt tt tt tt same
 
 -- what a call of a load gives, of a session
 pub refuses_load : (live : Live) (path : List ℕ) (refusal : ProjectError) (sources : Sources) → sources ≡ sources_kept live path

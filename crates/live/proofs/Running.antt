@@ -1,14 +1,14 @@
 -- What a run keeps between two lines, and what follows from it at each of its ends.
 use Rattle.std.proofs.Common.{◌≡◌, ℕ, ◌+◌, ◌^◌, ◌<◌, ◌≤◌, Bool, true, false, List, [], ◌∷◌, ◌++◌, Option, Some, None, Err, length, refl, sym, ap, subst, ◌∙◌, append_assoc, append-nil, length-append, inl, inr, arith}
-use Rattle.std.specs.Io.KnownBytes.{Consumes}
+use Rattle.std.specs.Io.KnownBytes.{Appends, Consumes}
 use Rattle.outside.specs.Causes.{Rose, Rose-after}
 use Rattle.outside.specs.Source.{Knows-after, Knows-all}
 use Rattle.outside.specs.Sink.{Appends-nil}
 use Rattle.outside.specs.declared.limits.Limit.TheVariants.{Bytes}
 use Rattle.bounded_lines.specs.Lines.{has_newline, partial_line, whole_lines}
-use Rattle.bounded_lines.specs.Reader.{IsCut}
+use Rattle.bounded_lines.specs.Reader.{IsCut, IsFrontOf}
 use Rattle.bounded_lines.proofs.LineEnds.{lines_of-whole, whole_lines-uncut}
-use Rattle.live_input.specs.Reader.{Gave, IsPast, Reader, Tells, bytes_ahead, fresh}
+use Rattle.live_input.specs.Reader.{Breaks, Gave, IsPast, Reader, Tells, bytes_ahead, fresh}
 use Rattle.live_input.specs.declared.lines.LineError.{LineError}
 use Rattle.live_input.specs.declared.lines.LineError.TheVariants.{ReadFault as ReadFault', TooMany as TooMany', OutOfMemory as OutOfMemory', Ended}
 use Rattle.live_input.proofs.Gaves.{Gave-fresh}
@@ -17,11 +17,13 @@ use Rattle.live.specs.declared.fault.LiveError.{LiveError}
 use Rattle.live.specs.declared.fault.LiveError.TheVariants.{OutOfMemory, Usage, ReadFault, WriteFault, Script, BadManifest, NoSuchFile, Io, CargoMetadata, NoJson, Json, NotAbsolute, UnknownPackage, BadCrateName, NoParent, NoCargoProject, TooMany}
 use Rattle.live_input.specs.Event.{event}
 use Rattle.live.specs.Fault.{IsOneOf, IsRefusal, fault_of, line_statuses, run_statuses, status_of}
-use Rattle.live.specs.Run.{Completes, Fails, Finishes, HasCause, Ran, Stops, TakesAtMost}
-use Rattle.live.specs.Session.{State, Outcome, session, turn_of, turns}
-use Rattle.live.specs.Turn.{FailsTurn, Holds, TakesTurn}
+use Rattle.live.specs.Run.{Completes, EndsRun, Fails, Finishes, HasCause, Leaves, Ran, Stops, TakesAtMost, WereWhole}
+use Rattle.live.specs.Session.{State, Outcome, lines_within, session, state_after_line, turn_of, turns}
+use Rattle.live.specs.Turn.{EndsLine, EndsTurn, FailsTurn, Holds, KeepsNames, TakesTurn}
 use Rattle.live.specs.Written.{AppendsFront, HasWriteCause}
-use Rattle.live.proofs.Outcomes.{AppendsFront-all, Front-line, Ran-line, Stops-line, turns-next, turns-nil}
+use Rattle.live.proofs.Firsts.{Gave-first, shorter-front}
+use Rattle.live.proofs.Names.{names_both, names_equal}
+use Rattle.live.proofs.Outcomes.{AppendsFront-all, AppendsFront-nil, Front-line, Ran-line, Stops-line, turns-next, turns-nil}
 use Rattle.live.proofs.Statuses.{among}
 use Rattle.live.proofs.Deciding.{Front-session, Ran-within, Stops-limit, Stops-session, session-within}
 
@@ -36,6 +38,7 @@ pub record Running (lives : Live × Live) (left held : Option (List ℕ) × Opti
   pub going : lives.1.ended ≡ lives.0.ended
   pub is_limit : limit ≡ lives.0.config.limits.bytes
   pub small : limit ≤ 2 ^ 30
+  pub names : KeepsNames ⊥ lives.0 lives.1
 
 module _ (limit : ℕ) (left₀ left : Option (List ℕ)) (given : List (List ℕ)) (reader : Reader) (gave : Gave limit left₀ left given reader) where
   -- at most one byte past the limit was taken
@@ -49,6 +52,18 @@ module _ (limit : ℕ) (left₀ left : Option (List ℕ)) (given : List (List �
     read = gave.taken;
     few = omega (arith, gave.within, beyond_few reader.is_past gave.past, length-append gave.front (reader.waiting ++ gave.beyond), length-append reader.waiting gave.beyond);
   }
+
+  -- where a read failed, the lines that were given are those that were whole in the bytes taken
+  pub Whole-gave : (before now : ℕ) → Breaks reader before now → WereWhole given (left₀, left)
+  Whole-gave before now breaks =
+      let cut : IsCut false gave.front (reader.waiting ++ gave.beyond) left = subst (λ d. IsCut d gave.front (reader.waiting ++ gave.beyond) left) breaks.not_done gave.cut in
+      let none : IsPast false reader.room gave.beyond = subst (λ p. IsPast p reader.room gave.beyond) breaks.not_past gave.past in
+      let waits : reader.waiting ++ gave.beyond ≡ reader.waiting = ap (λ b. reader.waiting ++ b) none ∙ append-nil reader.waiting in
+      record {
+        bytes = gave.front ++ (reader.waiting ++ gave.beyond);
+        read = gave.taken;
+        whole = ap (λ b. whole_lines (gave.front ++ b)) waits ∙ whole_lines-uncut gave.front reader.waiting breaks.uncut ∙ sym (lines_of-whole gave.front cut) ∙ gave.lines;
+      }
 
   -- a reader that is done gave all lines of its source
   pub Finishes-gave : (s : State) (live : Live) (held₀ held : Option (List ℕ)) → reader.is_done ≡ true → limit ≡ s.config.limits.bytes → Ran (turns s given) live (held₀, held) → Finishes s live (left₀, left) (held₀, held)
@@ -124,23 +139,35 @@ Running-start live left held limit same small = record {
   going = refl;
   is_limit = same;
   small = small;
+  names = names_equal live live refl;
 }
 
 -- the one refusal of a reader is that of too many bytes
-refusal_of : (P : LiveError → Type 0) (Z : Type 0) (error : LineError) (old new : Reader) (before now : ℕ) → Tells {Z = Z} (Err error) old new before now
-    → ((new.is_past ≡ true) × (has_newline new.waiting ≡ false) → P (TooMany Bytes)) → IsRefusal (fault_of error) → P (fault_of error)
-refusal_of P Z ReadFault' old new before now told past refusal = absurd (omega arith)
-refusal_of P Z TooMany' old new before now told past refusal = past told
-refusal_of P Z OutOfMemory' old new before now told past refusal = absurd (omega arith)
-refusal_of P Z Ended old new before now told past refusal = absurd (omega arith)
+refusal_of : (P : LiveError → Type 0) (Z : Type 0) (fault : LineError) (error : LiveError) (old new : Reader) (before now : ℕ) → fault_of fault ≡ Some error
+    → Tells {Z = Z} (Err fault) old new before now → ((new.is_past ≡ true) × (has_newline new.waiting ≡ false) → P (TooMany Bytes)) → IsRefusal error → P error
+refusal_of P Z ReadFault' error old new before now is told past refusal =
+    let same : ReadFault ≡ error = cc in let r : IsRefusal ReadFault = subst IsRefusal (sym same) refusal in absurd (omega (arith, r))
+refusal_of P Z TooMany' error old new before now is told past refusal = let same : TooMany Bytes ≡ error = cc in subst P same (past told)
+refusal_of P Z OutOfMemory' error old new before now is told past refusal =
+    let same : OutOfMemory ≡ error = cc in let r : IsRefusal OutOfMemory = subst IsRefusal (sym same) refusal in absurd (omega (arith, r))
+refusal_of P Z Ended error old new before now is told past refusal = let none : None ≡ Some error = is in absurd (cc)
 
 -- the cause of a line that was not given
-pub cause_next : (Z : Type 0) (error : LineError) (old new : Reader) (before now reads writes writes' : ℕ) → Tells {Z = Z} (Err error) old new before now → reads ≤ before
-    → HasCause run_statuses (status_of (fault_of error)) (reads, now) (writes, writes')
-cause_next Z ReadFault' old new before now reads writes writes' told later = record { only = refl; read = λ _. Rose-after reads before now later told; write = λ e. absurd (omega arith) }
-cause_next Z TooMany' old new before now reads writes writes' told later = record { only = refl; read = λ e. absurd (omega arith); write = λ e. absurd (omega arith) }
-cause_next Z OutOfMemory' old new before now reads writes writes' told later = record { only = refl; read = λ e. absurd (omega arith); write = λ e. absurd (omega arith) }
-cause_next Z Ended old new before now reads writes writes' told later = record { only = refl; read = λ e. absurd (omega arith); write = λ e. absurd (omega arith) }
+pub cause_next : (Z : Type 0) (fault : LineError) (error : LiveError) (old new : Reader) (before now reads writes writes' : ℕ) → fault_of fault ≡ Some error
+    → Tells {Z = Z} (Err fault) old new before now → reads ≤ before → HasCause run_statuses (status_of error) (reads, now) (writes, writes')
+cause_next Z ReadFault' error old new before now reads writes writes' is told later =
+    let same : ReadFault ≡ error = cc in
+    subst (λ e. HasCause run_statuses (status_of e) (reads, now) (writes, writes')) same
+    (record { only = refl; read = λ _. Rose-after reads before now later told.rose; write = λ e. absurd (omega arith) })
+cause_next Z TooMany' error old new before now reads writes writes' is told later =
+    let same : TooMany Bytes ≡ error = cc in
+    subst (λ e. HasCause run_statuses (status_of e) (reads, now) (writes, writes')) same
+    (record { only = refl; read = λ e. absurd (omega arith); write = λ e. absurd (omega arith) })
+cause_next Z OutOfMemory' error old new before now reads writes writes' is told later =
+    let same : OutOfMemory ≡ error = cc in
+    subst (λ e. HasCause run_statuses (status_of e) (reads, now) (writes, writes')) same
+    (record { only = refl; read = λ e. absurd (omega arith); write = λ e. absurd (omega arith) })
+cause_next Z Ended error old new before now reads writes writes' is told later = let none : None ≡ Some error = is in absurd (cc)
 
 -- an error of a line is one of a run
 wider : (error : LiveError) → IsOneOf line_statuses (status_of error) → IsOneOf run_statuses (status_of error)
@@ -175,6 +202,21 @@ cause_line error reads reads' writes mid writes' cause later = record {
   read = λ e. absurd (no_read error cause.only e);
   write = λ e. Rose-after writes mid writes' later (cause.write (ap Err (write_fault error e)));
 }
+
+-- a read fault is that of a read that failed
+broken : (Z : Type 0) (fault : LineError) (error : LiveError) (old new : Reader) (before now : ℕ) → fault_of fault ≡ Some error → Tells {Z = Z} (Err fault) old new before now
+    → error ≡ ReadFault → Breaks new before now
+broken Z ReadFault' error old new before now is told e = told
+broken Z TooMany' error old new before now is told e = let both : Some (TooMany Bytes) ≡ Some ReadFault = is ∙ ap Some e in cc
+broken Z OutOfMemory' error old new before now is told e = let both : Some OutOfMemory ≡ Some ReadFault = is ∙ ap Some e in cc
+broken Z Ended error old new before now is told e = let none : None ≡ Some ReadFault = is ∙ ap Some e in cc
+
+-- a line that was not given is no fault of the sink
+no_write_next : (fault : LineError) (error : LiveError) → fault_of fault ≡ Some error → error ≡ WriteFault → ⊥
+no_write_next ReadFault' error is e = let both : Some ReadFault ≡ Some WriteFault = is ∙ ap Some e in cc
+no_write_next TooMany' error is e = let both : Some (TooMany Bytes) ≡ Some WriteFault = is ∙ ap Some e in cc
+no_write_next OutOfMemory' error is e = let both : Some OutOfMemory ≡ Some WriteFault = is ∙ ap Some e in cc
+no_write_next Ended error is e = let none : None ≡ Some WriteFault = is ∙ ap Some e in cc
 
 -- with no fault an error is out of memory or the session's refusal
 pub completes_err : (o : Outcome) (error : LiveError) (live : Live) (old new : Option (List ℕ)) (reads reads' writes writes' : ℕ) → Fails o error live (old, new)
@@ -215,12 +257,39 @@ module _ (live₀ : Live) (left₀ left held₀ held : Option (List ℕ)) (limit
     Finishes-end done s h = Finishes-gave limit left₀ left' run.given reader' gave' s live held₀ held done (limit_of s h) (run.ran s h)
 
     -- a line that was not given
-    pub Fails-next : (Z : Type 0) (error : LineError) (before now : ℕ) → Tells {Z = Z} (Err error) reader reader' before now → (s : State) → Holds live₀ s → (all : List ℕ) → left₀ ≡ Some all → Fails (session s all) (fault_of error) live (held₀, held)
-    Fails-next Z error before now told s h all known =
+    Fails-next : (Z : Type 0) (fault : LineError) (error : LiveError) (before now : ℕ) → fault_of fault ≡ Some error → Tells {Z = Z} (Err fault) reader reader' before now
+        → (s : State) → Holds live₀ s → (all : List ℕ) → left₀ ≡ Some all → Fails (session s all) error live (held₀, held)
+    Fails-next Z fault error before now is told s h all known =
         let front = Front-gave limit left₀ left' run.given reader' gave' s all live held₀ held known (limit_of s h) (AppendsFront-all held₀ held _ (run.ran s h).appended) in
         let past : (reader'.is_past ≡ true) × (has_newline reader'.waiting ≡ false) → Stops (session s all) (TooMany Bytes) live (held₀, held) =
         λ p. Stops-past limit left₀ left' run.given reader' gave' s all live held₀ held known (limit_of s h) p.0 p.1 (run.ran s h) in
-        record { written = front; refused = refusal_of (λ e. Stops (session s all) e live (held₀, held)) Z error reader reader' before now told past }
+        record { written = front; refused = refusal_of (λ e. Stops (session s all) e live (held₀, held)) Z fault error reader reader' before now is told past }
+
+    -- the lines before it are those of the script, and their state is held
+    Leaves-next : (error : LiveError) → (error ≡ WriteFault → ⊥) → (error ≡ ReadFault → WereWhole run.given (left₀, left')) → (s : State) → Holds live₀ s → (all : List ℕ) → left₀ ≡ Some all
+        → Leaves s all error live (left₀, left') (held₀, held)
+    Leaves-next error other whole s h all known =
+        let ran = run.ran s h in record {
+          taken = run.given;
+          next = None;
+          first = subst (λ l. IsFrontOf l (lines_within s.config.limits.bytes all)) (sym (append-nil run.given))
+              (subst (λ n. IsFrontOf run.given (lines_within n all)) (limit_of s h) (Gave-first limit left₀ left' run.given reader' gave' all known));
+          accepted = ran.accepted;
+          holds = ran.holds;
+          between = held;
+          appended = ran.appended;
+          written = AppendsFront-nil held [];
+          cut = λ e. absurd (other e);
+          read = λ e. (refl, whole e);
+        }
+
+    pub Ends-next : (Z : Type 0) (fault : LineError) (error : LiveError) (before now : ℕ) → fault_of fault ≡ Some error → Tells {Z = Z} (Err fault) reader reader' before now
+        → (s : State) → Holds live₀ s → (all : List ℕ) → left₀ ≡ Some all → EndsRun s all error live (left₀, left') (held₀, held)
+    Ends-next Z fault error before now is told s h all known = record {
+      fails = Fails-next Z fault error before now is told s h all known;
+      leaves = λ _. Leaves-next error (no_write_next fault error is)
+          (λ e. Whole-gave limit left₀ left' run.given reader' gave' before now (broken Z fault error reader reader' before now is told e)) s h all known;
+    }
 
   -- a line that was given
   module _ (left' : Option (List ℕ)) (reader' : Reader) (line : List ℕ) (gave' : Gave limit left₀ left' (run.given ++ line ∷ []) reader') where
@@ -233,8 +302,8 @@ module _ (live₀ : Live) (left₀ left held₀ held : Option (List ℕ)) (limit
 
     -- its turn was taken
     pub Running-line : (live' : Live) (held' : Option (List ℕ)) → ((t : State) → Holds live t → TakesTurn (turn_of t (number + 1) (event line)) live' (held, held'))
-        → live'.ended ≡ live.ended → bytes_ahead reader' < bytes_ahead reader → reader'.has_ended ≡ false → Running (live₀, live') (left₀, left') (held₀, held') limit (reader', number + 1)
-    Running-line live' held' takes same less unended = record {
+        → live'.ended ≡ live.ended → KeepsNames ⊥ live live' → bytes_ahead reader' < bytes_ahead reader → reader'.has_ended ≡ false → Running (live₀, live') (left₀, left') (held₀, held') limit (reader', number + 1)
+    Running-line live' held' takes same names less unended = record {
       given = run.given ++ line ∷ [];
       gave = gave';
       ran = λ s h. Ran-line s run.given line live live' held₀ held held' (run.ran s h) (subst (λ t. TakesTurn t live' (held, held')) (turn_at s h) (takes _ (run.ran s h).holds));
@@ -244,15 +313,67 @@ module _ (live₀ : Live) (left₀ left held₀ held : Option (List ℕ)) (limit
       going = same ∙ run.going;
       is_limit = run.is_limit;
       small = run.small;
+      names = names_both live₀ live live' run.names names;
     }
 
     -- its turn ended in an error
-    pub Fails-line : (error : LiveError) (live' : Live) (held' : Option (List ℕ)) → ((t : State) → Holds live t → FailsTurn (turn_of t (number + 1) (event line)) error live' (held, held'))
-        → (s : State) → Holds live₀ s → (all : List ℕ) → left₀ ≡ Some all → Fails (session s all) error live' (held₀, held')
-    Fails-line error live' held' fails s h all known =
-        let failed = subst (λ t. FailsTurn t error live' (held, held')) (turn_at s h) (fails _ (run.ran s h).holds) in
-        record {
-          written = Front-gave limit left₀ left' (run.given ++ line ∷ []) reader' gave' s all live' held₀ held' known (limit_of s h) (Front-line s run.given line live held₀ held held' (run.ran s h) failed.written);
-          refused = λ r. Stops-gave limit left₀ left' (run.given ++ line ∷ []) reader' gave' s all live' held₀ held' known (limit_of s h) error
-              (Stops-line s run.given line error live live' held₀ held held' (run.ran s h) (failed.refused r));
-        }
+    Fails-line : (error : LiveError) (live' : Live) (held' : Option (List ℕ)) (s : State) → Holds live₀ s → (all : List ℕ) → left₀ ≡ Some all
+        → FailsTurn (turn_of (turns s run.given).state ((turns s run.given).lines + 1) (event line)) error live' (held, held') → Fails (session s all) error live' (held₀, held')
+    Fails-line error live' held' s h all known failed = record {
+      written = Front-gave limit left₀ left' (run.given ++ line ∷ []) reader' gave' s all live' held₀ held' known (limit_of s h) (Front-line s run.given line live held₀ held held' (run.ran s h) failed.written);
+      refused = λ r. Stops-gave limit left₀ left' (run.given ++ line ∷ []) reader' gave' s all live' held₀ held' known (limit_of s h) error
+          (Stops-line s run.given line error live live' held₀ held held' (run.ran s h) (failed.refused r));
+    }
+
+    -- or it was not read
+    Fails-missed : (error : LiveError) (live' : Live) (held' : Option (List ℕ)) (s : State) → Holds live₀ s → (all : List ℕ) → left₀ ≡ Some all → error ≡ OutOfMemory → Appends held held' []
+        → Fails (session s all) error live' (held₀, held')
+    Fails-missed error live' held' s h all known memory nothing = record {
+      written = Front-gave limit left₀ left' (run.given ++ line ∷ []) reader' gave' s all live' held₀ held' known (limit_of s h)
+          (Front-line s run.given line live held₀ held held' (run.ran s h) (record { count = 0; within = omega arith; front = nothing }));
+      refused = λ refusal. absurd (let r : IsRefusal OutOfMemory = subst IsRefusal memory refusal in omega (arith, r));
+    }
+
+    -- the lines up to it are the first of the script
+    first_lines : (s : State) → Holds live₀ s → (all : List ℕ) → left₀ ≡ Some all → IsFrontOf (run.given ++ line ∷ []) (lines_within s.config.limits.bytes all)
+    first_lines s h all known = subst (λ n. IsFrontOf (run.given ++ line ∷ []) (lines_within n all)) (limit_of s h) (Gave-first limit left₀ left' (run.given ++ line ∷ []) reader' gave' all known)
+
+    pub Ends-line : (error : LiveError) (live' : Live) (held' : Option (List ℕ)) → IsOneOf line_statuses (status_of error) → ((t : State) → Holds live t → EndsLine t (number + 1) line error live' (held, held'))
+        → (s : State) → Holds live₀ s → (all : List ℕ) → left₀ ≡ Some all → EndsRun s all error live' (left₀, left') (held₀, held')
+    Ends-line error live' held' only ends s h all known =
+        let ran = run.ran s h in
+        let read : error ≡ ReadFault → ⊥ = λ e. no_read error only (ap status_of e) in
+        elim (ends _ ran.holds) [
+          | inl ended ↦
+              let here = subst (λ t. EndsTurn t (state_after_line (turns s run.given).state (event line)) error live' (held, held')) (turn_at s h) ended in
+              record {
+                fails = Fails-line error live' held' s h all known here.fails;
+                leaves = λ _. record {
+                  taken = run.given;
+                  next = Some line;
+                  first = first_lines s h all known;
+                  accepted = ran.accepted;
+                  holds = here.holds;
+                  between = held;
+                  appended = ran.appended;
+                  written = here.fails.written;
+                  cut = here.fails.cut;
+                  read = λ e. absurd (read e);
+                };
+              }
+          | inr missed ↦ record {
+            fails = Fails-missed error live' held' s h all known missed.memory missed.nothing;
+            leaves = λ _. record {
+              taken = run.given;
+              next = None;
+              first = shorter-front run.given line _ (first_lines s h all known);
+              accepted = ran.accepted;
+              holds = missed.holds;
+              between = held;
+              appended = ran.appended;
+              written = record { count = 0; within = omega arith; front = missed.nothing };
+              cut = λ e. absurd (let both : OutOfMemory ≡ WriteFault = sym missed.memory ∙ e in cc);
+              read = λ e. absurd (read e);
+            };
+          }
+        ]

@@ -24,6 +24,7 @@ module _ (old new : Files) (rows after : List (Option (List ℕ))) (path : PathC
       let takes_text : TakesContents old new path text = subst (TakesContents old new path) same_bytes takes in
       record {
         limit = takes.limit;
+        numbers = takes.numbers;
         keeps = λ marks keeps.
             subst (λ r. KeepsTexts new r (record { path = path; kind = kind_of text } ∷ marks)) (sym is)
             (KeepsTexts_put old new rows path text marks keeps (takes_text.follows marks keeps.follows));
@@ -36,6 +37,7 @@ module _ (old new : Files) (rows after : List (Option (List ℕ))) (path : PathC
       → AddsMark old new rows after (record { path = path; kind = Out })
   exclude_adds rows_are takes = record {
     limit = takes.limit;
+    numbers = takes.numbers;
     keeps = λ marks keeps.
         subst (λ r. KeepsTexts new r (record { path = path; kind = Out } ∷ marks)) (sym rows_are)
         (KeepsTexts_out old new rows path marks keeps (takes.follows marks keeps.follows));

@@ -1,24 +1,28 @@
 -- One event: a mark that is taken or refused, or a flush.
-use Rattle.std.proofs.Common.{◌≡◌, ℕ, List, Option, Some, Result, Ok, Err, inl, inr, ◌⊎◌, refl, sym, ap, subst, arith}
+use Rattle.std.proofs.Common.{◌≡◌, ℕ, Bool, true, List, [], Option, Some, None, Result, Ok, Err, inl, inr, ◌⊎◌, refl, sym, ap, subst, arith}
 use Rattle.std.specs.Prelude.{IfErr, IsErrOf, OnErr, OnOk, is_err}
+use Rattle.outside.specs.Sink.{Appends-nil}
 use Rattle.outside.specs.declared.limits.Limit.TheVariants.{Paths}
 use Rattle.vfs_core.specs.Files.{IsFullFor}
 use Rattle.vfs_core.specs.VfsPath.{PathContent}
 use Rattle.vfs_core.specs.declared.marks.Mark.{Mark}
 use Rattle.vfs_core.specs.declared.marks.MarkKind.{MarkKind}
-use Rattle.vfs_sets.specs.Probes.{RaisesAtMost}
 use Rattle.input_db.specs.Database.{Database}
+use Rattle.live_input.specs.Event.{event}
 use Rattle.live_input.specs.declared.event.Event.{Event}
 use Rattle.live_input.specs.declared.event.Event.TheVariants.{Flush}
 use Rattle.live.specs.declared.fault.LiveError.{LiveError}
-use Rattle.live.specs.declared.fault.LiveError.TheVariants.{OutOfMemory, TooMany}
+use Rattle.live.specs.declared.fault.LiveError.TheVariants.{OutOfMemory, Script, TooMany}
+use Rattle.live.specs.declared.fault.StepError.{StepError}
+use Rattle.live.specs.declared.fault.StepError.TheVariants.{Refused}
 use Rattle.live.specs.declared.session.Live.{Live}
 use Rattle.live.specs.Fault.{IsOneOf, flush_statuses, line_statuses, status_of, turn_statuses}
 use Rattle.live.specs.Marked.{AddsMarkTo}
 use Rattle.live_flush.specs.Refresh.{KeepsCrates}
-use Rattle.live.specs.Session.{State, Turn, ended_state, flush_turn, mark_turn, state_after_failure, turn, turn_of}
-use Rattle.live.specs.Turn.{EndsTurn, FailsTurn, Holds, LeavesAsWas, TakesTurn}
+use Rattle.live.specs.Session.{State, ended_state, flush_turn, mark_turn, state_after_failure, state_after_line, turn, turn_of}
+use Rattle.live.specs.Turn.{EndsLine, EndsTurn, Holds, LeavesAsWas, TakesTurn}
 use Rattle.live.specs.Written.{HasWriteCause}
+use Rattle.live.proofs.Names.{names_by, names_equal, names_wider}
 use Rattle.live.proofs.Outcomes.{AppendsFront-nil}
 use Rattle.live.proofs.Room.{marks_err, marks_ok}
 use Rattle.live.proofs.Statuses.{among}
@@ -66,10 +70,6 @@ pub marks_cause : (result : Result (Unit {0}) LiveError) (count : ℕ) → IfErr
 marks_cause (Ok done) count only = record { later = omega arith; only = tt; write = λ e. absurd (cc); limits = λ e. cc }
 marks_cause (Err error) count only = mark_cause error count only
 
--- a count that is as it was
-pub no_probes : (most count : ℕ) → RaisesAtMost most count count
-no_probes most count = record { steps = 0; within = omega arith; raised = refl }
-
 -- a database that is as it was has its crates
 pub crates_same : (old new : Database) → new ≡ old → KeepsCrates old new
 crates_same old new same = record {
@@ -81,29 +81,51 @@ crates_same old new same = record {
 
 -- and what it leaves as it was
 pub marks_leave : (live live' : Live) (mark : Mark) (result : Result (Unit {0}) LiveError) (event : Event) → (event ≡ Flush → ⊥)
-    → OnOk result (AddsMarkTo live live' mark) → OnErr result (live' ≡ live) → LeavesAsWas event (is_err result) live live'
+    → OnOk result (AddsMarkTo live live' mark) → OnErr result (live' ≡ live) → LeavesAsWas event (is_err result) (IsErrOf result OutOfMemory) live live'
 marks_leave live live' mark (Ok done) event other adds same = record {
+  names = names_by live live' adds.adds.numbers (ap (λ d. d.crates) adds.db);
   config = adds.config;
   database = λ _. adds.db;
   all = λ e. absurd (cc);
   crates = λ _ none. crates_same live.db live'.db adds.db;
   probes = λ _. adds.probes;
   counts = λ e. absurd (other e);
-  placed = λ _ e. absurd (other e);
   going = λ _. adds.ended;
   ends = λ e. absurd (cc);
 }
 marks_leave live live' mark (Err error) event other adds same = record {
+  names = names_equal live live' same;
   config = ap (λ l. l.config) same;
   database = λ _. ap (λ l. l.db) same;
   all = λ _ _. same;
   crates = λ e none. absurd (cc);
   probes = λ _. ap (λ l. l.probes) same;
   counts = λ e. absurd (other e);
-  placed = λ e _. absurd (cc);
   going = λ e. absurd (cc);
   ends = λ _ e. absurd (other e);
 }
+
+-- what is said where one error runs out of memory is said where another does
+leaves_wider : {Memory More : Type 0} (event : Event) (failed : Bool) (live live' : Live) → (Memory → More) → LeavesAsWas event failed Memory live live'
+    → LeavesAsWas event failed More live live'
+leaves_wider event failed live live' more leaves = record {
+  names = names_wider live live' more leaves.names;
+  config = leaves.config;
+  database = leaves.database;
+  all = leaves.all;
+  crates = leaves.crates;
+  probes = leaves.probes;
+  counts = leaves.counts;
+  going = leaves.going;
+  ends = leaves.ends;
+}
+
+-- what a failed turn left is left by the step that reports it
+pub step_leaves : (event copy : Event) (error : LiveError) (live live' : Live) → copy ≡ event → LeavesAsWas copy true (IsErrOf {T = Unit {0}} (Err error) OutOfMemory) live live'
+    → LeavesAsWas event true (IsErrOf {T = Unit {0}} {E = StepError} (Err (Refused error)) (Refused OutOfMemory)) live live'
+step_leaves event copy error live live' same leaves =
+    subst (λ e. LeavesAsWas e true (IsErrOf {T = Unit {0}} {E = StepError} (Err (Refused error)) (Refused OutOfMemory)) live live') same
+    (leaves_wider copy true live live' (λ out. ap (λ e. Err (Refused e)) (let is : error ≡ OutOfMemory = cc in is)) leaves)
 
 -- no event but a flush is one
 pub marks_no_flush : (P : Type 0) (result : Result (Unit {0}) LiveError) (event : Event) → (event ≡ Flush → ⊥) → OnOk result (event ≡ Flush → P)
@@ -145,14 +167,26 @@ cause_turn result old new cause = record {
   limits = cause.limits;
 }
 
--- a line that found no memory, or is no event
-pub line_memory : (t : Turn) (live : Live) (held : Option (List ℕ)) → FailsTurn t OutOfMemory live (held, held)
-line_memory t live held = record { written = AppendsFront-nil held t.pages; cut = λ e. absurd (cc); refused = λ refusal. absurd (omega (arith, refusal)) }
-
 -- the turn of a line's event
-pub line_fails : (live live' : Live) (result : Result (Unit {0}) LiveError) (line : Option Event) (number : ℕ) (event : Event) (old new : Option (List ℕ)) → line ≡ Some event
-    → IfErr result (λ e. (s : State) → Holds live s → EndsTurn (turn s event) (state_after_failure s event) e live' (old, new))
-    → IfErr result (λ e. (s : State) → Holds live s → FailsTurn (turn_of s number line) e live' (old, new))
-line_fails live live' (Ok done) line number event old new is fails = tt
-line_fails live live' (Err error) line number event old new is fails = λ s h.
-    subst (λ l. FailsTurn (turn_of s number l) error live' (old, new)) (sym is) (fails s h).fails
+pub line_ends : (live live' : Live) (result : Result (Unit {0}) LiveError) (line : List ℕ) (number : ℕ) (e : Event) (old new : Option (List ℕ)) → event line ≡ Some e
+    → IfErr result (λ error. (s : State) → Holds live s → EndsTurn (turn s e) (state_after_failure s e) error live' (old, new))
+    → IfErr result (λ error. (s : State) → Holds live s → EndsLine s number line error live' (old, new))
+line_ends live live' (Ok done) line number e old new is ends = tt
+line_ends live live' (Err error) line number e old new is ends = λ s h.
+    inl (subst (λ l. EndsTurn (turn_of s number l) (state_after_line s l) error live' (old, new)) (sym is) (ends s h))
+
+-- a line that is no event
+pub line_refused : (live : Live) (line : List ℕ) (number : ℕ) (held : Option (List ℕ)) (s : State) → event line ≡ None → Holds live s → EndsLine s number line (Script number) live (held, held)
+line_refused live line number held s none h =
+    inl (subst (λ l. EndsTurn (turn_of s number l) (state_after_line s l) (Script number) live (held, held)) (sym none) (record {
+      fails = record {
+        written = AppendsFront-nil held [];
+        cut = λ e. absurd (cc);
+        refused = λ _. record { refused = refl; holds = h; appended = Appends-nil held };
+      };
+      holds = h;
+    }))
+
+-- one that was not read
+pub line_missed : (live : Live) (line : List ℕ) (number : ℕ) (held : Option (List ℕ)) (s : State) → Holds live s → EndsLine s number line OutOfMemory live (held, held)
+line_missed live line number held s h = inr (record { memory = refl; holds = h; nothing = Appends-nil held })

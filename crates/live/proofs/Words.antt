@@ -1,6 +1,5 @@
 -- What the words of the command line make of a run's answers.
-use Rattle.std.proofs.Common.{◌≡◌, ℕ, ◌+◌, List, [], ◌∷◌, Option, Some, None, Result, Ok, Err, ◌⊎◌, refl, sym, ap, subst, ◌∙◌, inl, inr, append-nil, arith}
-use Rattle.std.specs.Io.KnownBytes.{Appends}
+use Rattle.std.proofs.Common.{◌≡◌, ℕ, ◌+◌, List, Option, Some, None, Result, Ok, Err, ◌⊎◌, refl, sym, ap, subst, ◌∙◌, inl, inr, arith}
 use Rattle.std.specs.Option.{option_map}
 use Rattle.live.specs.declared.session.Live.{Live}
 use Rattle.live_input.specs.declared.config.LiveConfig.{LiveConfig}
@@ -8,15 +7,16 @@ use Rattle.live.specs.declared.fault.LiveError.{LiveError}
 use Rattle.live.specs.declared.fault.LiveError.TheVariants.{OutOfMemory, Usage, ReadFault, WriteFault, Script, BadManifest, NoSuchFile, Io, CargoMetadata, NoJson, Json, NotAbsolute, UnknownPackage, BadCrateName, NoParent, NoCargoProject, TooMany}
 use Rattle.std.specs.Prelude.{IfErr, IsErrOf, OnOk, String}
 use Rattle.std.specs.declared.alloc.Global.{Global}
-use Rattle.live.specs.Cli.{CompletesAs, CompletesFor, FailsFor, FinishesAs, StatusOf, TakesFor, UsageError, UsageExactly, with_config, state_of_command, state_for, texts_of}
+use Rattle.live.specs.Cli.{CompletesAs, CompletesFor, FailsFor, FinishesAs, KeepsAlways, StatusOf, TakesFor, UsageError, UsageExactly, with_config, state_of_command, state_for, texts_of}
 use Rattle.live_input.specs.declared.config.Command.{Command}
 use Rattle.live_input.specs.declared.config.Command.TheVariants.{Run}
 use Rattle.live_input.specs.Config.{command_of}
 use Rattle.live.specs.Fault.{IsOneOf, IsRefusal, all_statuses, run_statuses, status_of, word_statuses}
 use Rattle.live.specs.Run.{Completes, FailsFrom, Finishes, HasCause, TakesAtMost}
 use Rattle.live.specs.Session.{State, session}
-use Rattle.live.specs.Written.{AppendsFront}
-use Rattle.live.proofs.Outcomes.{AppendsFront-after, AppendsFront-nil}
+use Rattle.live.specs.Turn.{KeepsNames}
+use Rattle.live.proofs.Names.{names_wider}
+use Rattle.live.proofs.Outcomes.{AppendsFront-nil}
 use Rattle.live.proofs.Statuses.{among}
 
 -- an error that is no refusal and comes before anything was written
@@ -180,7 +180,14 @@ usage_ok command usage = record {
   untouched = usage.untouched;
 }
 
--- a text, and then a front of more
-pub Front-text : (old mid new : Option (List ℕ)) (text written : List ℕ) (pages : List (List ℕ)) → written ≡ text → Appends old mid written → AppendsFront (mid, new) pages → AppendsFront (old, new) (text ∷ pages)
-Front-text old mid new text written pages same whole front =
-    AppendsFront-after old mid new (text ∷ []) pages (subst (Appends old mid) (same ∙ sym (append-nil text)) whole) front
+-- what is kept always, by the error's status
+pub keeps_err : (words : List (String Global)) (error : LiveError) (status : ℕ) (live live' : Live) (left left' : Option (List ℕ)) → status ≡ status_of error → TakesFor words (left, left')
+    → KeepsNames (IsErrOf {T = Unit {0}} (Err error) OutOfMemory) live live' → KeepsAlways words status (live, live') (left, left')
+keeps_err words error status live live' left left' is taken names = record {
+  taken = taken;
+  names = names_wider live live' (λ e. is ∙ ap status_of (let out : error ≡ OutOfMemory = cc in out)) names;
+}
+
+pub keeps_ok : (words : List (String Global)) (live live' : Live) (left left' : Option (List ℕ)) → TakesFor words (left, left')
+    → KeepsNames (IsErrOf {T = Unit {0}} (Ok tt) OutOfMemory) live live' → KeepsAlways words 0 (live, live') (left, left')
+keeps_ok words live live' left left' taken names = record { taken = taken; names = names_wider live live' (λ e. absurd (cc)) names }

@@ -1,7 +1,8 @@
 -- What the whole program answers: a status, by the words and by the session of its input.
-use Rattle.std.specs.Prelude.{◌≡◌, ℕ, List, [], ◌∷◌, ◌+◌, ◌⊎◌, Option, Some, None, Result, IsErrOf, String, map, string_bytes}
+use Rattle.std.specs.Prelude.{◌≡◌, ℕ, List, ◌+◌, ◌⊎◌, Option, Some, None, Result, IsErrOf, String, map, string_bytes}
 use Rattle.std.specs.Option.{option_map}
 use Rattle.std.specs.declared.alloc.Global.{Global}
+use Rattle.outside.specs.declared.sink.SinkError.{SinkError}
 use Rattle.live_input.specs.declared.config.LiveConfig.{LiveConfig}
 use Rattle.live.specs.declared.session.Live.{Live}
 use Rattle.live.specs.declared.fault.LiveError.{LiveError}
@@ -12,8 +13,8 @@ use Rattle.live_input.specs.Config.{command_of}
 use Rattle.live.specs.Fault.{status_of, text_of}
 use Rattle.live.specs.Run.{Completes, FailsFrom, Finishes, TakesAtMost}
 use Rattle.live.specs.Session.{State, session}
-use Rattle.live.specs.Turn.{Holds}
-use Rattle.live.specs.Written.{AppendsFront, StreamBytes}
+use Rattle.live.specs.Turn.{Holds, KeepsNames}
+use Rattle.live.specs.Written.{Counts, StreamBytes, TellsLine}
 
 -- the texts of words
 abbrev pub texts_of : List (String Global) → List (List ℕ)
@@ -41,17 +42,24 @@ pub record FinishesAs (start : Option State) (live : Live) (left held : StreamBy
 abbrev pub FailsFor : Option State → LiveError → Live → Option (List ℕ) → StreamBytes → Type 0
 FailsFor start error live left held = (s : State) → start ≡ Some s → FailsFrom s error live left held
 
--- it fails with an error of this status, from each state that the session held before; and of the error's text and a newline a
--- front was appended to the second output
-pub record FailsAs (words : List (String Global)) (status : ℕ) (lives : Live × Live) (left : Option (List ℕ)) (outputs : StreamBytes × StreamBytes) : Type 0 where
+-- it fails with an error of this status, from each state that the session held before, and the error's text
+-- was told on the second output: all of it, unless its faults rose or memory ran out
+pub record FailsAs (words : List (String Global)) (status : ℕ) (lives : Live × Live) (left : Option (List ℕ)) (outputs : StreamBytes × StreamBytes) (faults : Counts) : Type 0 where
   pub error : LiveError
   pub reports : status_of error ≡ status
-  pub text : AppendsFront outputs.1 (text_of error ∷ (10 ∷ []) ∷ [])
+  pub answer : Result (Unit {0}) SinkError
+  pub told : TellsLine answer (text_of error) outputs.1 faults
   pub fails : (s : State) → Holds lives.0 s → FailsFor (state_for words s) error lives.1 left outputs.0
 
 -- the source gave at most one byte more than the words' limit
 abbrev pub TakesFor : List (String Global) → StreamBytes → Type 0
 TakesFor words left = (config : LiveConfig) → command_of (texts_of words) ≡ Some (Run config) → TakesAtMost (config.limits.bytes + 1) left
+
+-- what a program does whatever its session held: the source gave at most one byte more than the words' limit,
+-- and names stay
+pub record KeepsAlways (words : List (String Global)) (status : ℕ) (lives : Live × Live) (left : StreamBytes) : Type 0 where
+  pub taken : TakesFor words left
+  pub names : KeepsNames (status ≡ 1) lives.0 lives.1
 
 -- wrong words: status 2 only and always where the words give no command, unless memory ran out, and then all is as it was
 pub record UsageExactly (command : Option Command) (status : ℕ) (Untouched : Type 0) : Type 0 where

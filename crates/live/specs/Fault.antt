@@ -1,5 +1,5 @@
 -- The errors of a run: their numbers, their texts, and which of them a session gives.
-use Rattle.std.specs.Prelude.{◌≡◌, ℕ, ◌≤◌, true, nat_eq, List, [], ◌∷◌, ◌++◌, codes, decimal}
+use Rattle.std.specs.Prelude.{◌≡◌, ℕ, ◌≤◌, true, nat_eq, List, [], ◌∷◌, ◌++◌, Option, Some, None, codes, decimal}
 use Rattle.std.specs.List.{list_any}
 use Rattle.outside.specs.declared.limits.Limit.{Limit}
 use Rattle.outside.specs.declared.limits.Limit.TheVariants.{Bytes, Paths, Packages, Targets, Crates}
@@ -66,7 +66,27 @@ text_of (NoParent text) = codes "no parent: " ++ text
 text_of NoCargoProject = codes "no cargo project"
 text_of (TooMany limit) = codes "too many " ++ limit_name limit
 
--- the text that a step's error prints
+-- the name that an error prints
+abbrev pub live_error_name : LiveError → List ℕ
+live_error_name OutOfMemory = codes "OutOfMemory"
+live_error_name Usage = codes "Usage"
+live_error_name ReadFault = codes "ReadFault"
+live_error_name WriteFault = codes "WriteFault"
+live_error_name (Script line) = codes "Script"
+live_error_name (BadManifest path) = codes "BadManifest"
+live_error_name (NoSuchFile path) = codes "NoSuchFile"
+live_error_name (Io line) = codes "Io"
+live_error_name (CargoMetadata stderr) = codes "CargoMetadata"
+live_error_name NoJson = codes "NoJson"
+live_error_name (Json field) = codes "Json"
+live_error_name (NotAbsolute text) = codes "NotAbsolute"
+live_error_name (UnknownPackage id) = codes "UnknownPackage"
+live_error_name (BadCrateName name) = codes "BadCrateName"
+live_error_name (NoParent text) = codes "NoParent"
+live_error_name NoCargoProject = codes "NoCargoProject"
+live_error_name (TooMany limit) = codes "TooMany"
+
+-- the name that a step's error prints
 abbrev pub step_error_text : StepError → List ℕ
 step_error_text (Refused error) = codes "Refused"
 step_error_text Ended = codes "Ended"
@@ -104,12 +124,13 @@ of_lower_error (lower.BadCrateName name) = BadCrateName name
 of_lower_error (lower.TooMany limit) = TooMany limit
 of_lower_error lower.OutOfMemory = OutOfMemory
 
--- the error of a run whose line was not given
-abbrev pub fault_of : LineError → LiveError
-fault_of ReadFault' = ReadFault
-fault_of TooMany' = TooMany Bytes
-fault_of OutOfMemory' = OutOfMemory
-fault_of Ended' = OutOfMemory
+-- the error of a run whose line was not given; a run ends with its first error, so that no reader of its own
+-- has ended before
+abbrev pub fault_of : LineError → Option LiveError
+fault_of ReadFault' = Some ReadFault
+fault_of TooMany' = Some (TooMany Bytes)
+fault_of OutOfMemory' = Some OutOfMemory
+fault_of Ended' = None
 
 -- ---- statuses
 

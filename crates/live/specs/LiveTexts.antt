@@ -5,7 +5,7 @@ use Rattle.std.specs.Option.{option_and_then}
 use Rattle.std.specs.Str.{is_utf8}
 use Rattle.trees.specs.Tree as tree
 use Rattle.vfs_core.specs.declared.marks.Mark.{Mark}
-use Rattle.vfs_core.specs.Files.{Files, Follows, TakesMark, TakesOut}
+use Rattle.vfs_core.specs.Files.{Files, Follows, KeepsNumbers, TakesMark, TakesOut}
 use Rattle.vfs_core.specs.Marks.{live_text, mentioned_paths}
 use Rattle.vfs_core.specs.Texts.{BringsMark, BringsOut, BringsTo, KeepsPassing, all_pass}
 use Rattle.vfs_core.specs.VfsPath.{PathContent}
@@ -49,6 +49,7 @@ kept_by rows files = fold (λ kept file. with_row kept file.1 (text_at rows file
 -- contents, or a deletion where there are none, came for a path
 pub record TakesContents (old new : Files) (path : PathContent) (contents : Option (List ℕ)) : Type 0 where
   pub limit : new.limit ≡ old.limit
+  pub numbers : KeepsNumbers old new
   pub follows : TakesMark old new path contents
   pub brings : BringsMark old new path contents
   pub passing : KeepsPassing old new contents
@@ -56,14 +57,16 @@ pub record TakesContents (old new : Files) (path : PathContent) (contents : Opti
 -- a path was left out
 pub record TakesExclusion (old new : Files) (path : PathContent) : Type 0 where
   pub limit : new.limit ≡ old.limit
+  pub numbers : KeepsNumbers old new
   pub follows : TakesOut old new path
   pub brings : BringsOut old new path
   pub batch : new.batch ≡ old.batch
 
--- whatever marks files and rows were made of, they are made of these and one more; and what the changes of the files
--- brought to the texts that live, they bring to them still
+-- whatever marks files and rows were made of, they are made of these and one more; what the changes of the
+-- files brought to the texts that live, they bring to them still; and paths keep their numbers
 pub record AddsMark (old new : Files) (rows rows' : List (Option (List ℕ))) (mark : Mark) : Type 0 where
   pub limit : new.limit ≡ old.limit
+  pub numbers : KeepsNumbers old new
   pub keeps : (marks : List Mark) → KeepsTexts old rows marks → KeepsTexts new rows' (mark ∷ marks)
   pub brings : (known : ℕ → Option (List ℕ)) (marks : List Mark) → Follows old marks → BringsTo old known marks
       → BringsTo new known (mark ∷ marks)

@@ -59,7 +59,8 @@ pub record LoadsProject (old new : Live) (path : List ℕ) : Type 0 where
   pub read : read_sources (sources_kept old path) ≡ Ok workspace
   pub after : TakesProject old new (record { sources = sources_kept old path; workspace = workspace })
 
--- the refusal of a load is that of what it keeps, and names no other limits than those of packages and targets
+-- the refusal of a load is that of what it keeps, and names no other limits than those of packages, targets
+-- and crates
 pub record IsLoadRefusal (live : Live) (path : List ℕ) (error : LiveError) : Type 0 where
   pub refusal : ProjectError
   pub read : read_sources (sources_kept live path) ≡ Err refusal

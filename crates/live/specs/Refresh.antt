@@ -4,14 +4,12 @@ use Rattle.std.specs.Prelude.{◌≡◌, ◌⊎◌, ℕ, List, [], Option, Some,
 use Rattle.std.specs.declared.cmp.Ordering.{Ordering}
 use Rattle.vfs_core.specs.Files.{existing_files}
 use Rattle.vfs_core.specs.VfsPath.{PathContent}
-use Rattle.vfs_sets.specs.Probes.{CountsPlacing}
 use Rattle.crate_graph.specs.Graph.{Graph}
 use Rattle.crate_graph.specs.Extend.{Id}
 use Rattle.pm_rows.specs.Lowering.{LacksCyclesAlone, crate_seen}
 use Rattle.pm_rows.specs.Refusal.{Refuses}
 use Rattle.pm_rows.specs.declared.lower_error.LowerError.{LowerError}
-use Rattle.live_flush.specs.FileRoots.{root_lists}
-use Rattle.live_flush.specs.Refresh.{GivesCrates, Refreshes}
+use Rattle.live_flush.specs.Refresh.{GivesCrates, KeepsIdentities, Refreshes}
 use Rattle.live_project.specs.Crates.{BeginIn, project_crates, project_edges}
 use Rattle.live_project.specs.Project.{ProjectContent}
 use Rattle.live.specs.declared.fault.LiveError.{LiveError}
@@ -43,15 +41,15 @@ GivesGraph p files (Err error) = Refuses error (crates_by p files)
 
 -- ---- a session
 
--- the files that exist, those changes whose file has a root, and the crates are in the database; the changes are taken, and each probe
--- is counted. All else is as it was
+-- the files that exist, those changes whose file has a root, and the crates are in the database, where crates
+-- that were there keep their identities; the changes are taken. All else but the count of probes is as it was
 pub record RefreshesLive (old new : Live) : Type 0 where
   pub graph : Option Graph
   pub lowers : IsGraphBy old.project (existing_files old.files) graph
   pub cmp : Id → Id → Ordering
   pub crates : GivesCrates cmp graph old.db new.db
   pub refreshes : Refreshes (roots_by old.project) old.files old.db new.db
-  pub probes : CountsPlacing (root_lists (roots_by old.project)) (existing_files old.files) old.probes.ledger new.probes.ledger
+  pub stable : KeepsIdentities old.db.crates new.db.crates
   pub config : new.config ≡ old.config
   pub texts : new.texts ≡ old.texts
   pub answers : new.answers ≡ old.answers

@@ -159,6 +159,11 @@ state_after_failure s (Load path) = s
 state_after_failure s (Build output) = s
 state_after_failure s FlushEvent = ended_state s
 
+-- the state after a line that failed: one that is no event leaves it as it was
+abbrev pub state_after_line : State → Option Event → State
+state_after_line s None = s
+state_after_line s (Some e) = state_after_failure s e
+
 -- the line of this number: its event's turn, and a line that is no event is refused
 abbrev pub turn_of : State → ℕ → Option Event → Turn
 turn_of s number None = refuses s (Script number)
@@ -203,3 +208,7 @@ unfoldable pub session : State → List ℕ → Outcome
 session s bytes =
     if nat_le (length bytes) s.config.limits.bytes then turns s (lines_of bytes)
     else refused_by (turns s (whole_lines (take s.config.limits.bytes bytes))) (TooMany Bytes)
+
+-- the lines of a script within a limit of bytes: of a longer one those whose newline is within it
+unfoldable pub lines_within : ℕ → List ℕ → List (List ℕ)
+lines_within limit bytes = if nat_le (length bytes) limit then lines_of bytes else whole_lines (take limit bytes)

@@ -1,6 +1,7 @@
 -- What the program did, from the state of a new session.
-use Rattle.std.specs.Prelude.{◌≡◌, ℕ, List, [], ◌∷◌, Option, Some, String}
+use Rattle.std.specs.Prelude.{◌≡◌, ℕ, List, Option, Some, Result, String}
 use Rattle.std.specs.declared.alloc.Global.{Global}
+use Rattle.outside.specs.declared.sink.SinkError.{SinkError}
 use Rattle.live.specs.declared.fault.LiveError.{LiveError}
 use Rattle.live.specs.declared.session.Live.{Live}
 use Rattle.live.specs.Cli.{FinishesAs, state_for}
@@ -8,7 +9,7 @@ use Rattle.live.specs.Fault.{IsRefusal, status_of, text_of}
 use Rattle.live.specs.Run.{Stops}
 use Rattle.live.specs.Session.{Outcome, State, session}
 use Rattle.live.specs.Turn.{first_state}
-use Rattle.live.specs.Written.{AppendsFront, StreamBytes}
+use Rattle.live.specs.Written.{AppendsFront, Counts, StreamBytes, TellsLine}
 
 -- the session of the whole input was run to its end by some session
 abbrev pub FinishesTop : Option State → StreamBytes → StreamBytes → Type 0
@@ -19,9 +20,11 @@ pub record FailsNew (o : Outcome) (error : LiveError) (held : StreamBytes) : Typ
   pub written : AppendsFront held o.pages
   pub refused : IsRefusal error → (live : Live) × Stops o error live held
 
--- the program failed with an error of this status, of whose text and a newline a front was appended to the second output
-pub record FailsTop (words : List (String Global)) (status : ℕ) (left : Option (List ℕ)) (outputs : StreamBytes × StreamBytes) : Type 0 where
+-- the program failed with an error of this status, whose text was told on the second output: all of it,
+-- unless its faults rose or memory ran out
+pub record FailsTop (words : List (String Global)) (status : ℕ) (left : Option (List ℕ)) (outputs : StreamBytes × StreamBytes) (faults : Counts) : Type 0 where
   pub error : LiveError
   pub reports : status_of error ≡ status
-  pub text : AppendsFront outputs.1 (text_of error ∷ (10 ∷ []) ∷ [])
+  pub answer : Result (Unit {0}) SinkError
+  pub told : TellsLine answer (text_of error) outputs.1 faults
   pub fails : (s : State) → state_for words first_state ≡ Some s → (all : List ℕ) → left ≡ Some all → FailsNew (session s all) error outputs.0

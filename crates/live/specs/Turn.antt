@@ -1,19 +1,19 @@
 -- When a `Live` holds a state, and what one step does to both: the state's parts, one clause each.
-use Rattle.std.specs.Prelude.{◌≡◌, ◌≤◌, Bool, true, false, List, [], length, Option, Some, None, Result, Ok, Err}
+use Rattle.std.specs.Prelude.{◌≡◌, ◌≤◌, ◌⊎◌, ℕ, Bool, true, false, List, [], length, Option, Some, None, Result, Ok, Err}
 use Rattle.std.specs.Str.{is_utf8}
 use Rattle.std.specs.Io.KnownBytes.{Appends}
 use Rattle.vfs_core.specs.Texts.{BringsTo, all_pass}
-use Rattle.vfs_core.specs.Files.{existing_files, paths_of}
+use Rattle.vfs_core.specs.Files.{KeepsNumbers, existing_files, paths_of}
 use Rattle.vfs_core.specs.VfsPath.{PathContent}
-use Rattle.vfs_sets.specs.Probes.{CountsPlacing, RaisesAtMost, most_probes}
-use Rattle.live_flush.specs.FileRoots.{root_lists}
-use Rattle.live_flush.specs.Refresh.{KeepsCrates}
+use Rattle.vfs_sets.specs.Probes.{RaisesAtMost, most_probes}
+use Rattle.live_flush.specs.Refresh.{KeepsCrates, KeepsIdentities}
 use Rattle.live_flush.specs.Shape.{image, texts_known}
 use Rattle.live_input.specs.Config.{first_config}
+use Rattle.live_input.specs.Event.{event}
 use Rattle.live_input.specs.declared.event.Event.{Event}
 use Rattle.live_input.specs.declared.event.Event.TheVariants.{Flush as FlushEvent}
 use Rattle.live.specs.declared.fault.LiveError.{LiveError}
-use Rattle.live.specs.declared.fault.LiveError.TheVariants.{WriteFault}
+use Rattle.live.specs.declared.fault.LiveError.TheVariants.{OutOfMemory, WriteFault}
 use Rattle.live.specs.declared.fault.StepError.{StepError}
 use Rattle.live.specs.declared.fault.StepError.TheVariants.{Refused, Ended}
 use Rattle.live.specs.declared.last_flush.LastFlush.{LastFlush}
@@ -22,8 +22,8 @@ use Rattle.live.specs.Crates.{ListsInOrder, ShowsCrates}
 use Rattle.live.specs.Fault.{IsRefusal, turn_statuses}
 use Rattle.live.specs.Image.{ShowsFlush, shape_of_flush}
 use Rattle.live.specs.LiveTexts.{KeepsTexts, files_kept}
-use Rattle.live.specs.Page.{Flush, numbers_of_flush, roots_by}
-use Rattle.live.specs.Session.{State, Turn, flush_of, state_after_failure, turn}
+use Rattle.live.specs.Page.{Flush, numbers_of_flush}
+use Rattle.live.specs.Session.{State, Turn, flush_of, state_after_failure, state_after_line, turn, turn_of}
 use Rattle.live.specs.Written.{AppendsFront, AppendsPages, AppendsProperFront, Counts, HasWriteCause, StreamBytes}
 
 -- ---- a state that is held
@@ -94,6 +94,17 @@ pub record EndsTurn (t : Turn) (left : State) (error : LiveError) (live : Live) 
   pub fails : FailsTurn t error live held
   pub holds : Holds live left
 
+-- memory ran out before a line was read as an event: the state is as it was, and nothing was written
+pub record MissesLine (s : State) (error : LiveError) (live : Live) (held : StreamBytes) : Type 0 where
+  pub memory : error ≡ OutOfMemory
+  pub holds : Holds live s
+  pub nothing : Appends held.0 held.1 []
+
+-- an error ends the line of this number: its turn, or the line was not read
+abbrev pub EndsLine : State → ℕ → List ℕ → LiveError → Live → StreamBytes → Type 0
+EndsLine s number line error live held =
+    EndsTurn (turn_of s number (event line)) (state_after_line s (event line)) error live held ⊎ MissesLine s error live held
+
 -- an error of a step: the turn failed with it, or the session had ended and nothing was done
 abbrev pub FailsStep : State → Event → StepError → Live → StreamBytes → Type 0
 FailsStep s event (Refused error) live held = EndsTurn (turn s event) (state_after_failure s event) error live held
@@ -109,19 +120,24 @@ HasStepCause (Err Ended) writes = writes.0 ≤ writes.1
 abbrev pub CountsFlush : Live → Live → Type 0
 CountsFlush old new = RaisesAtMost (most_probes (existing_files old.files)) old.probes.ledger new.probes.ledger
 
--- what a step leaves as it was: the configuration; the database and the count of probes, unless it is a flush; the crates of the
--- database, where it succeeds and no project was loaded; all, where it fails and is no flush; and whether the session has ended, where it
--- succeeds. A flush that fails ends the session, and each flush counts its probes: one that succeeds all of them, among the roots of the
--- project
-pub record LeavesAsWas (event : Event) (failed : Bool) (old new : Live) : Type 0 where
+-- names stay: each path that had a number has it still, and each identity its crate, unless memory ran out at
+-- a flush, which ends the session
+pub record KeepsNames (Memory : Type 0) (old new : Live) : Type 0 where
+  pub paths : KeepsNumbers old.files new.files
+  pub crates : (HasEnded new → ¬ Memory) → KeepsIdentities old.db.crates new.db.crates
+
+-- what a step leaves as it was: the configuration, and names; the database and the count of probes, unless it
+-- is a flush; the crates of the database, where it succeeds and no project was loaded; all, where it fails
+-- and is no flush; and whether the session has ended, where it succeeds. A flush that fails ends the session,
+-- and each flush counts its probes
+pub record LeavesAsWas (event : Event) (failed : Bool) (Memory : Type 0) (old new : Live) : Type 0 where
+  pub names : KeepsNames Memory old new
   pub config : new.config ≡ old.config
   pub database : (event ≡ FlushEvent → ⊥) → new.db ≡ old.db
   pub all : failed ≡ true → (event ≡ FlushEvent → ⊥) → new ≡ old
   pub crates : failed ≡ false → old.project ≡ None → KeepsCrates old.db new.db
   pub probes : (event ≡ FlushEvent → ⊥) → new.probes ≡ old.probes
   pub counts : event ≡ FlushEvent → CountsFlush old new
-  pub placed : failed ≡ false → event ≡ FlushEvent
-      → CountsPlacing (root_lists (roots_by old.project)) (existing_files old.files) old.probes.ledger new.probes.ledger
   pub going : failed ≡ false → new.ended ≡ old.ended
   pub ends : failed ≡ true → event ≡ FlushEvent → HasEnded new
 

@@ -1,9 +1,11 @@
 -- What a sink took of the pages of a session, all of them or a front, and whether faults were counted.
-use Rattle.std.specs.Prelude.{ℕ, ◌<◌, ◌≤◌, List, Option, Result, IfErr, IsErrOf, length, take}
+use Rattle.std.specs.Prelude.{ℕ, ◌<◌, ◌≤◌, List, [], ◌∷◌, ◌++◌, Option, Result, IfErr, IsErrOf, OnErr, OnOk, length, take}
 use Rattle.std.specs.List.{concat}
 use Rattle.std.specs.Io.KnownBytes.{Appends}
-use Rattle.outside.specs.Causes.{Rose}
+use Rattle.outside.specs.Causes.{Rose, WritesHaveCause}
+use Rattle.outside.specs.Sink.{AppendsPart}
 use Rattle.outside.specs.declared.limits.Limit.TheVariants.{Bytes}
+use Rattle.outside.specs.declared.sink.SinkError.{SinkError}
 use Rattle.live.specs.declared.fault.LiveError.{LiveError}
 use Rattle.live.specs.declared.fault.LiveError.TheVariants.{TooMany, WriteFault}
 use Rattle.live.specs.Fault.{IsOneOf, status_of}
@@ -39,3 +41,10 @@ pub record HasWriteCause {T : Type 0} (result : Result T LiveError) (statuses : 
   pub only : IfErr result (λ error. IsOneOf statuses (status_of error))
   pub write : IsErrOf result WriteFault → Rose writes.0 writes.1
   pub limits : IsErrOf result (TooMany Bytes) → ⊥
+
+-- what became of a line of text on an output: all of it was written, with its newline; or a front of it,
+-- where memory ran out, or a write failed, whose fault was counted
+pub record TellsLine (answer : Result (Unit {0}) SinkError) (text : List ℕ) (held : StreamBytes) (faults : Counts) : Type 0 where
+  pub whole : OnOk answer (Appends held.0 held.1 (text ++ 10 ∷ []))
+  pub cut : OnErr answer (AppendsPart held.0 held.1 (text ++ 10 ∷ []))
+  pub cause : WritesHaveCause faults.0 faults.1 answer

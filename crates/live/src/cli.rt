@@ -1,18 +1,19 @@
 //! The program as one call: words, a source and two sinks in, a status out.
 
-ghost use Rattle.std.specs.Prelude.{◌≡◌, ◌∷◌, [], ℕ, List, IfErr, OnOk, Some};
-ghost use Rattle.live.specs.Cli.{CompletesAs, CompletesFor, FailsAs, FailsFor, FinishesAs, TakesFor, UsageError, UsageExactly, state_for, texts_of};
+ghost use Rattle.std.specs.Prelude.{◌≡◌, ℕ, List, IfErr, IsErrOf, OnOk, Some};
+ghost use Rattle.live.specs.Cli.{CompletesAs, CompletesFor, FailsAs, FailsFor, FinishesAs, KeepsAlways, TakesFor, UsageError, UsageExactly, state_for, texts_of};
 ghost use Rattle.live_input.specs.Config.{command_of};
 ghost use Rattle.live.specs.Fault.{all_statuses, status_of, text_of, word_statuses};
 ghost use Rattle.live.specs.Run.{HasCause, IsFaultless};
 ghost use Rattle.live.specs.Session.{State};
-ghost use Rattle.live.specs.Turn.{HasEnded, Holds};
-ghost use Rattle.live.specs.Written.{AppendsFront};
+ghost use Rattle.live.specs.Turn.{HasEnded, Holds, KeepsNames};
+ghost use Rattle.live.specs.Written.{TellsLine};
+ghost use Rattle.live.specs.declared.fault.LiveError.TheVariants.{OutOfMemory};
 
 use crate::fault::{LiveError, fault_text};
 use crate::run::live_run;
 use crate::session::Live;
-use base_text::{ByteSink, ByteSource, write_all};
+use base_text::{ByteSink, ByteSource, SinkError, write_all};
 use live_input::{Command, WordsError};
 use std::alloc::Global;
 
@@ -30,12 +31,14 @@ pub fn live_cli<S: ByteSource, K: ByteSink, E: ByteSink>(
     ensures ok { result ≡ 0 → (s : State) → Holds live.old s → FinishesAs (state_for words.now s)
         live.new (S.left input.old, S.left input.new) (K.held out.old, K.held out.new) }
     ensures err { ¬ (result ≡ 0) → FailsAs words.now result (live.old, live.new)
-        (S.left input.old) ((K.held out.old, K.held out.new), (E.held err.old, E.held err.new)) }
+        (S.left input.old) ((K.held out.old, K.held out.new), (E.held err.old, E.held err.new))
+        (E.faults err.old, E.faults err.new) }
     ensures cause { HasCause all_statuses result
         (S.faults input.old, S.faults input.new) (K.faults out.old, K.faults out.new) }
     ensures usage { UsageExactly (command_of (texts_of words.now)) result
         ((live.new ≡ live.old) × (input.new ≡ input.old) × (out.new ≡ out.old)) }
-    ensures taken { TakesFor words.now (S.left input.old, S.left input.new) }
+    ensures always { KeepsAlways words.now result (live.old, live.new)
+        (S.left input.old, S.left input.new) }
     ensures complete { (s : State) → Holds live.old s → (all : List ℕ) → S.left input.old ≡ Some all
         → IsFaultless (S.faults input.old, S.faults input.new) (K.faults out.old, K.faults out.new)
         → CompletesAs (state_for words.now s) all result }
@@ -43,7 +46,7 @@ pub fn live_cli<S: ByteSource, K: ByteSink, E: ByteSink>(
     match run_words(alloc, words, live, input, out) {
         Ok(()) => 0,
         Err(error) => {
-            tell(alloc, &error, err);
+            let _ = tell(alloc, &error, err);
             error.status()
         }
     }
@@ -67,6 +70,7 @@ fn run_words<S: ByteSource, K: ByteSink>(
     ensures usage { UsageError (command_of (texts_of words.now)) result
         ((live.new ≡ live.old) × (input.new ≡ input.old) × (out.new ≡ out.old)) }
     ensures taken { TakesFor words.now (S.left input.old, S.left input.new) }
+    ensures names { KeepsNames (IsErrOf result OutOfMemory) live.old live.new }
     ensures complete { (s : State) → Holds live.old s → (all : List ℕ) → S.left input.old ≡ Some all
         → IsFaultless (S.faults input.old, S.faults input.new) (K.faults out.old, K.faults out.new)
         → CompletesFor (state_for words.now s) all result }
@@ -80,23 +84,12 @@ fn run_words<S: ByteSource, K: ByteSink>(
     live_run(alloc, live, input, out)
 }
 
-/// Writes the text of an error and a newline, as far as `err` takes them and there is memory for the text.
-pub fn tell<E: ByteSink>(alloc: Global, error: &LiveError, err: &mut E)
-    ensures { AppendsFront (E.held err.old, E.held err.new) (text_of error.now ∷ (10 ∷ []) ∷ []) }
+/// Writes the text of an error and a newline. The line is made before any of it is written.
+pub fn tell<E: ByteSink>(alloc: Global, error: &LiveError, err: &mut E) -> Result<(), SinkError>
+    ensures { TellsLine result (text_of error.now)
+        (E.held err.old, E.held err.new) (E.faults err.old, E.faults err.new) }
 {
-    let text = match fault_text(alloc, error) {
-        Ok(text) => text,
-        Err(_) => return,
-    };
-    match write_all(err, text.as_str().as_bytes()) {
-        Ok(()) => end_line(err),
-        Err(_) => {}
-    }
-}
-
-// Writes a newline, where the sink takes it.
-fn end_line<E: ByteSink>(err: &mut E)
-    ensures { AppendsFront (E.held err.old, E.held err.new) ((10 ∷ []) ∷ []) }
-{
-    let _ = write_all(err, b"\n");
+    let mut line = fault_text(alloc, error)?;
+    line.push('\n')?;
+    write_all(err, line.as_bytes())
 }

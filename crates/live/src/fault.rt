@@ -1,7 +1,6 @@
 //! What a run can meet, with its exit status and its text.
 
-ghost use Rattle.std.specs.Prelude.{◌≡◌, ◌++◌, IfOk, Some, string_bytes};
-ghost use Rattle.std.specs.Fmt.{DisplaysOnOk};
+ghost use Rattle.std.specs.Prelude.{◌≡◌, IfOk, string_bytes};
 ghost use Rattle.live.specs.Fault.{limit_name, status_of, text_of};
 
 use base_text::{Limit, Text, TryClone};
@@ -13,7 +12,7 @@ use std::alloc::{AllocError, AllocFailed, Global};
 use std::error::Error;
 use std::fmt;
 
-/// Why a run ended before its input did, or a step was not taken. It prints as one line for people.
+/// Why a run ended before its input did, or a step was not taken. `fault_text` is its line for people.
 #[derive(Debug, PartialEq, Eq, Drop)]
 pub enum LiveError {
     /// There was no memory.
@@ -52,41 +51,34 @@ pub enum LiveError {
     TooMany(Limit),
 }
 
-#[tactic(auto, unfolding(crate::specs::Fault::text_of))]
+/// The variant's name.
 impl fmt::Display for LiveError {
     ghost use Rattle.std.specs.Prelude.{Some};
-    ghost use Rattle.live.specs.Fault.{text_of};
+    ghost use Rattle.live.specs.Fault.{live_error_name};
 
-    ghost output = { λ error. Some (text_of error) };
+    ghost output = { λ error. Some (live_error_name error) };
 
     fn fmt<W: fmt::Write>(&self, f: &mut fmt::Formatter<W>) -> fmt::Result {
-        match self {
-            LiveError::OutOfMemory => f.write_str("out of memory"),
-            LiveError::Usage => f.write_str("usage: live [options] or live generate N"),
-            LiveError::ReadFault => f.write_str("read fault"),
-            LiveError::WriteFault => f.write_str("write fault"),
-            LiveError::Script(line) => write!(f, "script line {line}"),
-            LiveError::BadManifest(path) => write_both(f, "bad manifest: ", path.as_str()),
-            LiveError::NoSuchFile(path) => write_both(f, "no such file: ", path.as_str()),
-            LiveError::Io(line) => write_both(f, "cannot start: ", line.as_str()),
-            LiveError::CargoMetadata(err) => write_both(f, "cargo metadata failed: ", err.as_str()),
-            LiveError::NoJson => f.write_str("no json in the metadata answer"),
-            LiveError::Json(field) => write_both(f, "bad json at ", field.as_str()),
-            LiveError::NotAbsolute(text) => write_both(f, "not absolute: ", text.as_str()),
-            LiveError::UnknownPackage(id) => write_both(f, "unknown package: ", id.as_str()),
-            LiveError::BadCrateName(name) => write_both(f, "bad crate name: ", name.as_str()),
-            LiveError::NoParent(text) => write_both(f, "no parent: ", text.as_str()),
-            LiveError::NoCargoProject => f.write_str("no cargo project"),
-            LiveError::TooMany(limit) => write_both(f, "too many ", kind_text(*limit)),
-        }
+        f.write_str(match self {
+            LiveError::OutOfMemory => "OutOfMemory",
+            LiveError::Usage => "Usage",
+            LiveError::ReadFault => "ReadFault",
+            LiveError::WriteFault => "WriteFault",
+            LiveError::Script(_) => "Script",
+            LiveError::BadManifest(_) => "BadManifest",
+            LiveError::NoSuchFile(_) => "NoSuchFile",
+            LiveError::Io(_) => "Io",
+            LiveError::CargoMetadata(_) => "CargoMetadata",
+            LiveError::NoJson => "NoJson",
+            LiveError::Json(_) => "Json",
+            LiveError::NotAbsolute(_) => "NotAbsolute",
+            LiveError::UnknownPackage(_) => "UnknownPackage",
+            LiveError::BadCrateName(_) => "BadCrateName",
+            LiveError::NoParent(_) => "NoParent",
+            LiveError::NoCargoProject => "NoCargoProject",
+            LiveError::TooMany(_) => "TooMany",
+        })
     }
-}
-
-// Writes two texts, one behind the other.
-fn write_both<W: fmt::Write>(f: &mut fmt::Formatter<W>, first: &str, second: &str) -> fmt::Result
-    ensures { DisplaysOnOk W.write_str_gives f.old result (Some (first.now ++ second.now)) f.new }
-{
-    write!(f, "{first}{second}")
 }
 
 impl Error for LiveError {}
@@ -279,8 +271,30 @@ fn kind_text(limit: Limit) -> &'static str
 }
 
 /// One line of text for people, without a newline.
+#[tactic(auto, unfolding(crate::specs::Fault::text_of))]
 pub fn fault_text(alloc: Global, error: &LiveError) -> Result<String, AllocError>
     ensures { IfOk result (λ text. string_bytes text ≡ text_of error.now) }
 {
-    error.to_string(alloc)
+    match error {
+        LiveError::OutOfMemory => String::from_str(alloc, "out of memory"),
+        LiveError::Usage => String::from_str(alloc, "usage: live [options] or live generate N"),
+        LiveError::ReadFault => String::from_str(alloc, "read fault"),
+        LiveError::WriteFault => String::from_str(alloc, "write fault"),
+        LiveError::Script(line) => format!(in alloc; "script line {line}"),
+        LiveError::BadManifest(path) => format!(in alloc; "bad manifest: {}", path.as_str()),
+        LiveError::NoSuchFile(path) => format!(in alloc; "no such file: {}", path.as_str()),
+        LiveError::Io(line) => format!(in alloc; "cannot start: {}", line.as_str()),
+        LiveError::CargoMetadata(err) => format!(in alloc;
+            "cargo metadata failed: {}",
+            err.as_str()
+        ),
+        LiveError::NoJson => String::from_str(alloc, "no json in the metadata answer"),
+        LiveError::Json(field) => format!(in alloc; "bad json at {}", field.as_str()),
+        LiveError::NotAbsolute(text) => format!(in alloc; "not absolute: {}", text.as_str()),
+        LiveError::UnknownPackage(id) => format!(in alloc; "unknown package: {}", id.as_str()),
+        LiveError::BadCrateName(name) => format!(in alloc; "bad crate name: {}", name.as_str()),
+        LiveError::NoParent(text) => format!(in alloc; "no parent: {}", text.as_str()),
+        LiveError::NoCargoProject => String::from_str(alloc, "no cargo project"),
+        LiveError::TooMany(limit) => format!(in alloc; "too many {}", kind_text(*limit)),
+    }
 }

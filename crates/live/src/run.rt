@@ -1,12 +1,13 @@
 //! Runs a session over a source of bytes.
 
-ghost use Rattle.std.specs.Prelude.{◌≡◌, ◌+◌, ℕ, List, IfErr, OnOk, Some};
+ghost use Rattle.std.specs.Prelude.{◌≡◌, ◌+◌, ℕ, List, IfErr, IsErrOf, OnOk, Some};
 ghost use Rattle.live_input.specs.Event.{event};
 ghost use Rattle.live.specs.Fault.{fault_of, line_statuses, run_statuses, status_of};
-ghost use Rattle.live.specs.Run.{Completes, FailsFrom, Finishes, HasCause, IsFaultless, TakesAtMost};
+ghost use Rattle.live.specs.Run.{Completes, EndsFrom, Finishes, HasCause, IsFaultless, TakesAtMost};
 ghost use Rattle.live.specs.Session.{State, session, turn_of};
-ghost use Rattle.live.specs.Turn.{FailsTurn, HasEnded, Holds, TakesTurn};
+ghost use Rattle.live.specs.Turn.{EndsLine, HasEnded, Holds, KeepsNames, TakesTurn};
 ghost use Rattle.live.specs.Written.{HasWriteCause};
+ghost use Rattle.live.specs.declared.fault.LiveError.TheVariants.{OutOfMemory};
 ghost use Rattle.live_input.specs.declared.lines.LineError.TheVariants.{Ended};
 
 use crate::fault::LiveError;
@@ -27,11 +28,13 @@ pub fn live_run<S: ByteSource, K: ByteSink>(
     ensures ok { OnOk result ((s : State) → Holds live.old s → Finishes s live.new
         (S.left input.old, S.left input.new) (K.held out.old, K.held out.new)) }
     ensures err { IfErr result (λ e. (s : State) → Holds live.old s
-        → FailsFrom s e live.new (S.left input.old) (K.held out.old, K.held out.new)) }
+        → EndsFrom s e live.new (S.left input.old, S.left input.new)
+        (K.held out.old, K.held out.new)) }
     ensures cause { IfErr result (λ e. HasCause run_statuses (status_of e)
         (S.faults input.old, S.faults input.new) (K.faults out.old, K.faults out.new)) }
     ensures taken { TakesAtMost (live.old.config.limits.bytes + 1)
         (S.left input.old, S.left input.new) }
+    ensures names { KeepsNames (IsErrOf result OutOfMemory) live.old live.new }
     ensures complete { (s : State) → Holds live.old s → (all : List ℕ) → S.left input.old ≡ Some all
         → IsFaultless (S.faults input.old, S.faults input.new) (K.faults out.old, K.faults out.new)
         → Completes (session s all).refusal result }
@@ -57,7 +60,7 @@ pub fn live_run<S: ByteSource, K: ByteSink>(
 // The error of a run whose line was not given.
 fn fault_of(error: LineError) -> LiveError
     requires { ¬ (error ≡ Ended) }
-    ensures { result ≡ fault_of error }
+    ensures { fault_of error ≡ Some result }
 {
     match error {
         LineError::ReadFault => LiveError::ReadFault,
@@ -80,9 +83,9 @@ fn take_line<K: ByteSink>(
         → TakesTurn (turn_of s number (event line.now))
         live.new (K.held out.old, K.held out.new)) }
     ensures err { IfErr result (λ e. (s : State) → Holds live.old s
-        → FailsTurn (turn_of s number (event line.now)) e live.new
-        (K.held out.old, K.held out.new)) }
+        → EndsLine s number line.now e live.new (K.held out.old, K.held out.new)) }
     ensures cause { HasWriteCause result line_statuses (K.faults out.old, K.faults out.new) }
+    ensures names { KeepsNames (IsErrOf result OutOfMemory) live.old live.new }
     ensures going { OnOk result (live.new.ended ≡ live.old.ended) }
 {
     match Event::of_line(alloc, line) {

@@ -46,7 +46,7 @@ impl Live {
     ghost use Rattle.live.specs.Written.{HasWriteCause};
     ghost use Rattle.live_input.specs.declared.event.Event.TheVariants.{Flush};
     ghost use Rattle.live.specs.declared.fault.LiveError.TheVariants.{OutOfMemory, TooMany};
-    ghost use Rattle.live.specs.declared.fault.StepError.TheVariants.{Ended};
+    ghost use Rattle.live.specs.declared.fault.StepError.TheVariants.{Ended, Refused};
     ghost use Rattle.outside.specs.declared.limits.Limit.TheVariants.{Paths};
 
     /// A session to which nothing was said, with the configuration of no words and an empty database.
@@ -102,7 +102,7 @@ impl Live {
     }
 
     /// Whether an earlier flush was refused. No event is taken any more then.
-    pub fn has_ended(&self) -> bool
+    pub fn ended(&self) -> bool
         ensures { IsTrue result ↔ HasEnded self.now }
     {
         self.ended
@@ -153,8 +153,8 @@ impl Live {
         &self.db
     }
 
-    /// How many probes flushes took so far: look-ups of a front of a path's text among the roots, to find
-    /// the set of a file. The count stops at the greatest u64.
+    /// How many probes flushes took so far, to find the sets of files: each front of the text by which a file is placed that was tried
+    /// as a root, also one that is longer than every root and is not looked up. The count stops at the greatest u64.
     pub fn probes(&self) -> u64
         ensures { result ≡ self.now.probes.ledger }
     {
@@ -184,7 +184,8 @@ impl Live {
         ensures cause { HasStepCause result (K.faults out.old, K.faults out.new) }
         ensures image { OnOk result (event.now ≡ Flush
             → (s : State) → Holds self.old s → ShowsShape self.new s) }
-        ensures rest { LeavesAsWas event.now (is_err result) self.old self.new }
+        ensures rest { LeavesAsWas event.now (is_err result)
+            (IsErrOf result (Refused OutOfMemory)) self.old self.new }
     {
         if self.ended {
             return Err(StepError::Ended);
@@ -216,7 +217,8 @@ impl Live {
         ensures cause { HasWriteCause result turn_statuses (K.faults out.old, K.faults out.new) }
         ensures image { OnOk result (event ≡ Flush
             → (s : State) → Holds self.old s → ShowsShape self.new s) }
-        ensures rest { LeavesAsWas event (is_err result) self.old self.new }
+        ensures rest { LeavesAsWas event (is_err result)
+            (IsErrOf result OutOfMemory) self.old self.new }
     {
         match event {
             Event::File { path, text } => self.put_file(alloc, path, text),

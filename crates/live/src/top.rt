@@ -26,7 +26,8 @@ pub fn live_top<S: ByteSource, K: ByteSink, E: ByteSink>(
     ensures ok { result ≡ 0 → FinishesTop (state_for words.now first_state)
         (S.left input.old, S.left input.new) (K.held out.old, K.held out.new) }
     ensures err { ¬ (result ≡ 0) → FailsTop words.now result
-        (S.left input.old) ((K.held out.old, K.held out.new), (E.held err.old, E.held err.new)) }
+        (S.left input.old) ((K.held out.old, K.held out.new), (E.held err.old, E.held err.new))
+        (E.faults err.old, E.faults err.new) }
     ensures cause { HasCause all_statuses result
         (S.faults input.old, S.faults input.new) (K.faults out.old, K.faults out.new) }
     ensures usage { UsageExactly (command_of (texts_of words.now)) result

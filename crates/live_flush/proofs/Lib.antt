@@ -5,3 +5,4 @@ pub mod Taken
 pub mod TextsGiven
 pub mod Both
 pub mod Shown
+pub mod Stable

@@ -1,6 +1,6 @@
 -- What a flush brings into a database: the sets of files as source roots, those changes whose file has a root, and the crates of a graph, where
 -- one is given. From the way in which rust-analyzer hands changes to its database.
-use Rattle.std.specs.Prelude.{◌≡◌, ℕ, List, [], Option, Some, None, map, nat_eq, if◌then◌else◌}
+use Rattle.std.specs.Prelude.{◌≡◌, ℕ, List, [], Option, Some, None, map, nat_eq, slice_get, if◌then◌else◌}
 use Rattle.std.specs.BTreeMap as tree
 use Rattle.std.specs.List.{IsDistinct, filter}
 use Rattle.std.specs.Map.{keys_of}
@@ -17,8 +17,10 @@ use Rattle.crate_graph.specs.Graph.{Graph}
 use Rattle.input_db.specs.Change.{IsChanged, fits_file}
 use Rattle.input_db.specs.Database.{Database}
 use Rattle.input_db.specs.FinishSteps.{IsSetInSteps}
+use Rattle.input_db.specs.Identity.{Table, crate_in, uniques_in}
 use Rattle.crate_graph.specs.Extend.{Id}
 use Rattle.input_db.specs.declared.change.FileChange.{FileChange}
+use Rattle.input_db.specs.declared.crate_input.UniqueCrateData.{UniqueCrateData}
 use Rattle.source_files.specs.Files.{FileTables}
 use Rattle.source_files.specs.declared.source_root.SourceRoot.{SourceRoot}
 use Rattle.live_flush.specs.FileRoots.{root_lists, source_roots}
@@ -55,6 +57,12 @@ pub record SetsGraph (cmp : Id → Id → Ordering) (graph : Graph) (old new : D
 abbrev pub GivesCrates : (Id → Id → Ordering) → Option Graph → Database → Database → Type 0
 GivesCrates cmp None old new = KeepsCrates old new
 GivesCrates cmp (Some graph) old new = SetsGraph cmp graph old new
+
+-- each identity that has a crate in a table keeps it, and each crate its identity
+pub record KeepsIdentities (old new : Table) : Type 0 where
+  pub crates : (unique : UniqueCrateData) (krate : ℕ) → crate_in old unique ≡ Some krate → crate_in new unique ≡ Some krate
+  pub identities : (krate : ℕ) (unique : UniqueCrateData) → slice_get (uniques_in old) krate ≡ Some unique
+      → slice_get (uniques_in new) krate ≡ Some unique
 
 -- source roots are given to a database, and nothing else
 pub record GivesRoots (roots : List SourceRoot) (old new : Database) : Type 0 where

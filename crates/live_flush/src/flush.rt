@@ -2,10 +2,9 @@
 
 ghost use Rattle.std.specs.Prelude.{◌≡◌, ◌<◌, ◌+◌, ◌^◌, [], OnErr, OnOk, length};
 ghost use Rattle.vfs_core.specs.Files.{existing_files};
-ghost use Rattle.vfs_sets.specs.Probes.{CountsPlacing, RaisesAtMost, most_probes};
+ghost use Rattle.vfs_sets.specs.Probes.{RaisesAtMost, most_probes};
 ghost use Rattle.input_db.specs.SetInDb.{KeepsFiles};
-ghost use Rattle.live_flush.specs.FileRoots.{root_lists};
-ghost use Rattle.live_flush.specs.Refresh.{GivesCrates, Refreshes};
+ghost use Rattle.live_flush.specs.Refresh.{GivesCrates, KeepsIdentities, Refreshes};
 
 use crate::changes::{give_changes, give_roots};
 use crate::file_root::{FileRoot, file_sets, source_roots};
@@ -29,10 +28,9 @@ pub fn refresh<L: Ledger>(
     requires { length roots.now + 1 < 2 ^ 32 }
     ensures ok { OnOk result (Refreshes roots.now files.old db.old db.new) }
     ensures crates { OnOk result (GivesCrates ⟦<CrateBuilderId as Ord>⟧.cmp graph db.old db.new) }
+    ensures stable { OnOk result (KeepsIdentities db.old.crates db.new.crates) }
     ensures files { OnOk result (files.new ≡ record files.old { batch = [] }) }
     ensures err { OnErr result (files.new ≡ record files.old { batch = files.new.batch }) }
-    ensures placed { OnOk result (CountsPlacing (root_lists roots.now) (existing_files files.old)
-        (L.count steps.old.ledger) (L.count steps.new.ledger)) }
     ensures most { RaisesAtMost (most_probes (existing_files files.old))
         (L.count steps.old.ledger) (L.count steps.new.ledger) }
 {

@@ -16,7 +16,7 @@ fn main(rt: HostRuntime) -> ExitCode {
         Ok(args) => args,
         Err(error) => {
             let fault = refused_words(&error);
-            tell(rt.alloc(), &fault, &mut err);
+            let _ = tell(rt.alloc(), &fault, &mut err);
             return ExitCode::from(fault.status());
         }
     };

@@ -1,6 +1,6 @@
 //! A flush: what has changed is brought into the database, and a page is written.
 
-ghost use Rattle.std.specs.Prelude.{◌≡◌, ◌+◌, ◌<◌, ◌^◌, IfErr, IfOk, OnErr, OnOk, is_err, length};
+ghost use Rattle.std.specs.Prelude.{◌≡◌, ◌+◌, ◌<◌, ◌^◌, ◌⊎◌, IfErr, IfOk, IsErrOf, OnErr, OnOk, is_err, length};
 ghost use Rattle.vfs_core.specs.Files.{existing_files};
 ghost use Rattle.live_input.specs.declared.event.Event.TheVariants.{Flush};
 ghost use Rattle.live.specs.Fault.{flush_statuses};
@@ -10,6 +10,7 @@ ghost use Rattle.live.specs.Refresh.{FailsFlush, GivesGraph, KeepsLast, Refreshe
 ghost use Rattle.live.specs.Session.{State, ended_state, flush_turn};
 ghost use Rattle.live.specs.Turn.{CountsFlush, EndsTurn, HasEnded, Holds, LeavesAsWas, ShowsShape, TakesTurn};
 ghost use Rattle.live.specs.Written.{HasWriteCause};
+ghost use Rattle.live.specs.declared.fault.LiveError.TheVariants.{OutOfMemory};
 
 use crate::fault::LiveError;
 use crate::last_flush::LastFlush;
@@ -65,7 +66,8 @@ impl Live {
         ensures err { IfErr result (λ e. (s : State) → Holds self.old s
             → EndsTurn (flush_turn s) (ended_state s) e self.new (K.held out.old, K.held out.new)) }
         ensures cause { HasWriteCause result flush_statuses (K.faults out.old, K.faults out.new) }
-        ensures rest { LeavesAsWas Flush (is_err result) self.old self.new }
+        ensures rest { LeavesAsWas Flush (is_err result)
+            (IsErrOf result OutOfMemory) self.old self.new }
     {
         let last = match self.refresh(alloc) {
             Ok(last) => last,
@@ -93,6 +95,7 @@ impl Live {
         ensures last { IfOk result (KeepsLast self.old) }
         ensures refused { IfErr result (FailsFlush self.old) }
         ensures err { OnErr result (SparesFiles self.old self.new) }
+        ensures spared { IfErr result (λ e. (e ≡ OutOfMemory) ⊎ (self.new.db ≡ self.old.db)) }
         ensures probes { CountsFlush self.old self.new }
     {
         let last = self.kept_now(alloc)?;

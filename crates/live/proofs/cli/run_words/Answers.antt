@@ -1,6 +1,7 @@
 use Rattle.std.proofs.Common.{Some, ap, subst, ◌∙◌}
 use Rattle.live_input.specs.Config.{FitsCommand}
 use Rattle.live.proofs.Words.{cause_words, completes_given, fails_given, finishes_given, if_err, on_ok, takes_given, usage_given}
+use Rattle.live.proofs.Names.{configured_names, names_both}
 use Rattle.live.proofs.cli.run_words.Goals as goal
 
 pub returns-clause-ok : goal.returns-clause-ok
@@ -9,7 +10,8 @@ returns-clause-ok g c =
 
 pub returns-clause-err : goal.returns-clause-err
 returns-clause-err g c =
-    if_err c.live_run.result (λ e fails. λ s h. fails_given _ s e _ _ _ _ c.into_config.result (c.in-Ok.ensures.ok ∙ ap Some c.into_config.ensures) (fails _ (c.configure.ensures.holds s h))) c.live_run.ensures.err
+    if_err c.live_run.result (λ e ends. λ s h. fails_given _ s e _ _ _ _ c.into_config.result (c.in-Ok.ensures.ok ∙ ap Some c.into_config.ensures)
+    (λ all known. (ends _ (c.configure.ensures.holds s h) all known).fails)) c.live_run.ensures.err
 
 pub returns-clause-cause : goal.returns-clause-cause
 returns-clause-cause g c = if_err c.live_run.result (λ e cause. cause_words e _ _ _ _ cause) c.live_run.ensures.cause
@@ -23,6 +25,9 @@ returns-clause-taken g c = takes_given _ _ _ c.into_config.result (c.in-Ok.ensur
 pub returns-clause-complete : goal.returns-clause-complete
 returns-clause-complete g c = λ s h all known faultless.
     completes_given _ s all c.into_config.result _ (c.in-Ok.ensures.ok ∙ ap Some c.into_config.ensures) (c.live_run.ensures.complete _ (c.configure.ensures.holds s h) all known faultless)
+
+pub returns-clause-names : goal.returns-clause-names
+returns-clause-names g c = names_both _ _ _ (configured_names _ _ c.configure.ensures.files c.configure.ensures.kept.0) c.live_run.ensures.names
 
 pub configure-requires : goal.configure-requires
 configure-requires g c = subst FitsCommand c.into_config.ensures c.in-Ok.ensures.fits

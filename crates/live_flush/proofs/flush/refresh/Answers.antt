@@ -7,6 +7,7 @@ use Rattle.vfs_core.specs.Files.{existing_files}
 use Rattle.vfs_sets.specs.Partition.{IsPartition}
 use Rattle.live_flush.specs.Refresh.{GivesChanges, GivesRoots}
 use Rattle.live_flush.proofs.Both.{both_kept, gives_crates, refreshes, refreshes_too}
+use Rattle.live_flush.proofs.Stable.{stable_crates}
 use Rattle.live_flush.proofs.Taken.{few_roots}
 use Rattle.live_flush.proofs.flush.refresh.Goals as goal
 
@@ -32,4 +33,12 @@ returns-clause-crates g c =
     on_ok_weaker c.set_graph.result (λ given.
     gives_crates _ c.args.graph c.args.db.now c.give_changes.new.db c.set_graph.new.db
     (both_kept c.in_ok-give_roots.ensures.crates c.in_ok-give_changes.ensures.ok.crates) given)
+    c.set_graph.ensures.crates
+
+pub returns-clause-stable : goal.returns-clause-stable
+returns-clause-stable g c =
+    on_ok_weaker c.set_graph.result (λ given.
+    stable_crates _ c.args.graph c.args.db.now c.set_graph.new.db
+    (gives_crates _ c.args.graph c.args.db.now c.give_changes.new.db c.set_graph.new.db
+    (both_kept c.in_ok-give_roots.ensures.crates c.in_ok-give_changes.ensures.ok.crates) given))
     c.set_graph.ensures.crates

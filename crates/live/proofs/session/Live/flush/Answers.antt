@@ -1,5 +1,5 @@
 use Rattle.std.proofs.Common.{Err, ap, refl}
-use Rattle.live.proofs.Flushed.{flush_leaves, shows_after, takes_flush, writes_flush}
+use Rattle.live.proofs.Flushed.{flush_leaves, refused_leaves, shows_after, takes_flush, unwritten_leaves, writes_flush}
 use Rattle.live.proofs.Unwritten.{fails_cause, fails_flush}
 use Rattle.live.proofs.session.Live.flush.Goals as goal
 
@@ -27,3 +27,9 @@ returns-in-Err-clause-err g c = λ s h. fails_flush c.args.self.now c.refresh.ne
 
 pub returns-in-Err-clause-cause : goal.returns-in-Err-clause-cause
 returns-in-Err-clause-cause g c = fails_cause _ _ _ c.in-Err.ensures.refused
+
+pub returns-in-Err-write_page-clause-rest : goal.returns-in-Err-write_page-clause-rest
+returns-in-Err-write_page-clause-rest g c = unwritten_leaves c.args.self.now c.refresh.new.self _ c.in-Ok.ensures.ok c.in-Ok.ensures.probes refl refl refl refl refl
+
+pub returns-in-Err-clause-rest : goal.returns-in-Err-clause-rest
+returns-in-Err-clause-rest g c = refused_leaves c.args.self.now c.refresh.new.self _ _ c.in-Err.ensures.err c.in-Err.ensures.spared (ap Err) c.in-Err.ensures.probes refl refl refl refl refl

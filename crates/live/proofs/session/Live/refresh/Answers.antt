@@ -8,7 +8,7 @@ use Rattle.live.proofs.session.Live.refresh.Goals as goal
 pub returns-clause-ok : goal.returns-clause-ok
 returns-clause-ok c =
     refreshes_live _ _ _ c.in_ok-graph.graph _ (c.as_slice.ensures ∙ c.in_ok-roots.ensures.roots) c.in_ok-graph.ensures c.in_ok-refresh.ensures.crates c.in_ok-refresh.ensures.ok
-    c.in_ok-refresh.ensures.placed c.in_ok-refresh.ensures.files refl refl refl refl refl refl
+    c.in_ok-refresh.ensures.stable c.in_ok-refresh.ensures.files refl refl refl refl refl refl
 
 pub returns-in_err-graph-clause-refused : goal.returns-in_err-graph-clause-refused
 returns-in_err-graph-clause-refused c =
