@@ -1,8 +1,6 @@
 -- what a project is asked: the first of its members, or of its runnables, that is meant
 use Rattle.std.specs.Prelude.{ℕ, Bool, ◌&&◌, false, bytes_eq, List, find, Option}
 use Rattle.std.specs.Option.{option_map_or}
-use Rattle.std.specs.Ordering.{is_eq}
-use Rattle.std.specs.Path.{path_cmp}
 use Rattle.base_text.specs.PathOrder.{path_eq}
 use Rattle.pm_json_data.specs.declared.parts.Runnable.{Runnable}
 use Rattle.pm_json.specs.declared.krate.Build.{Build}
@@ -45,6 +43,6 @@ has_build test krate = option_map_or test krate.build false
 abbrev pub has_label : List ℕ → Build → Bool
 has_label label build = bytes_eq build.label label
 
--- the file describes the build: paths are equal as their components are
+-- the file describes the build: what the document states is the file's text
 abbrev pub is_described_in : List ℕ → Build → Bool
-is_described_in file build = is_eq (path_cmp build.build_file file)
+is_described_in file build = bytes_eq build.build_file file

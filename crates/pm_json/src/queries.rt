@@ -16,7 +16,6 @@ use pm_json_data::{CrateArrayIdx, Runnable, RunnableKind};
 use pm_packages::ManifestPath;
 use std::marker::Model;
 use std::ops::Index;
-use std::path::Path;
 
 impl ProjectJson {
     pub fn n_crates(&self) -> usize
@@ -106,7 +105,8 @@ impl ProjectJson {
         crates.find(|krate| krate.is_workspace_member && krate.root_module.as_path() == root)
     }
 
-    /// The build of the first member that the file describes.
+    /// The build of the first member that the file describes. What a document states is compared with the
+    /// path byte for byte.
     pub fn crate_by_buildfile(&self, path: AbsPath<'_>) -> Option<&Build>
         ensures { option_copied result ≡ option_and_then (λ krate. krate.build)
             (first_member (has_build (is_described_in (abs_text path.entry))) self.now) }
@@ -149,7 +149,7 @@ fn is_described_in(krate: &Crate, file: AbsPath<'_>) -> bool
     ensures { result ≡ has_build (is_described_in (abs_text file.entry)) krate.now }
 {
     match &krate.build {
-        Some(build) => Path::new(build.build_file.as_str()) == Path::new(file.as_str()),
+        Some(build) => build.build_file.as_str() == file.as_str(),
         None => false,
     }
 }
