@@ -3,6 +3,7 @@
 
 mod crate_parts;
 pub mod krate;
+pub mod laws;
 pub mod project_json;
 pub mod queries;
 mod reading;
