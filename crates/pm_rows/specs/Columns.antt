@@ -1,8 +1,6 @@
 -- What is known of a row's crate beside its root file and its dependencies. The rule is that of rust-analyzer's `add_target_crate_root`.
-use Rattle.std.specs.Prelude.{ℕ, List, [], Option, Some, None, codes, if◌then◌else◌}
-use Rattle.std.specs.Option.{unwrap_or}
+use Rattle.std.specs.Prelude.{ℕ, List, [], Option, Some, None, if◌then◌else◌}
 use Rattle.semver.specs.Identifiers.{parts_text}
-use Rattle.base_text.specs.Paths.{parent_text}
 use Rattle.base_text.specs.declared.cfg.CfgAtom.{CfgAtom}
 use Rattle.base_text.specs.declared.edition.Edition.{Edition}
 use Rattle.crate_values.specs.Builder.{workspace_of}
@@ -15,6 +13,7 @@ use Rattle.crate_values.specs.declared.origin.LangCrateOrigin.{LangCrateOrigin}
 use Rattle.crate_values.specs.declared.origin.LangCrateOrigin.TheVariants.{Dependency}
 use Rattle.crate_values.specs.declared.target_kind.TargetKind.{TargetKind}
 use Rattle.crate_values.specs.declared.workspace_data.CrateWorkspaceData.{CrateWorkspaceData}
+use Rattle.pm_packages.specs.ManifestPath.{directory_of}
 use Rattle.pm_packages.specs.declared.package.PackageData.{PackageData}
 use Rattle.pm_cargo.specs.Workspace.{Workspace}
 use Rattle.pm_rows.specs.Rows.{Row}
@@ -43,9 +42,9 @@ origin_of w p =
     if w.is_sysroot then Lang (lang_of p)
     else if p.is_local then Local p.repository (Some p.name) else Library p.repository p.name
 
--- the directory of a member is that of the workspace, and of any other package that of its manifest
-unfoldable pub directory_of : Workspace → PackageData → List ℕ
-directory_of w p = if p.is_member then w.workspace_root else unwrap_or (parent_text p.manifest) (codes "/")
+-- the directory that a package's crates run in: of a member that of the workspace, and of any other package that of its manifest
+unfoldable pub working_directory : Workspace → PackageData → List ℕ
+working_directory w p = if p.is_member then w.workspace_root else directory_of p.manifest
 
 -- the columns of a row of a workspace, whose crates share what is known of the machine and the toolchain
 unfoldable pub columns_of : Workspace → CrateWorkspaceData → Row → Columns
@@ -56,7 +55,7 @@ columns_of w shared row = record {
   version = Some (parts_text row.of.version);
   origin = origin_of w row.of;
   attributes = [];
-  directory = directory_of w row.of;
+  directory = working_directory w row.of;
   cfgs = [];
   potential_cfgs = None;
   environment = [];

@@ -2,7 +2,7 @@
 
 ghost use Rattle.std.specs.Prelude.{◌≡◌, IfOk, string_bytes};
 ghost use Rattle.semver.specs.Identifiers.{parts_text};
-ghost use Rattle.pm_rows.specs.Columns.{directory_of, lang_of, origin_of};
+ghost use Rattle.pm_rows.specs.Columns.{lang_of, origin_of, working_directory};
 
 use base_text::{AbsPathBuf, Symbol, TryClone};
 use crate_graph::{CrateOrigin, LangCrateOrigin};
@@ -51,13 +51,13 @@ fn lang_of(package: &PackageData) -> LangCrateOrigin
 }
 
 /// The directory that a package's crates run in.
-#[tactic(auto, unfolding(crate::specs::Columns::directory_of))]
-pub(crate) fn directory_of(
+#[tactic(auto, unfolding(crate::specs::Columns::working_directory))]
+pub(crate) fn working_directory(
     alloc: Global,
     workspace: &CargoWorkspace,
     package: &PackageData,
 ) -> Result<AbsPathBuf, AllocError>
-    ensures { IfOk result (λ path. path ≡ directory_of workspace.now «package».now) }
+    ensures { IfOk result (λ path. path ≡ working_directory workspace.now «package».now) }
 {
     if package.is_member {
         workspace.workspace_root().to_path_buf(alloc)

@@ -5,7 +5,7 @@ ghost use Rattle.pm_rows.specs.Gathering.{AddsRows, found_target, owner_by, owne
 ghost use Rattle.pm_rows.specs.Refusal.{IfTooMany};
 ghost use Rattle.pm_rows.specs.Rows.{row_at, rows_of};
 
-use crate::columns::{directory_of, origin_of, version_text};
+use crate::columns::{origin_of, version_text, working_directory};
 use crate::lower_error::LowerError;
 use crate::rows::{Owner, Row, is_lib};
 use base_text::{CfgOptions, FileId, Items};
@@ -56,7 +56,7 @@ fn add_crate(
         (length graph.old.crates ≡ graph.old.limit)) }
 {
     let shared = project.shared.clone()?;
-    let directory = directory_of(alloc, project.workspace, row.of())?;
+    let directory = working_directory(alloc, project.workspace, row.of())?;
     let version = version_text(alloc, row.of())?;
     let display_name = CrateDisplayName::from_canonical_name(alloc, row.target().name.as_str())?;
     let origin = origin_of(alloc, project.workspace, row.of())?;
