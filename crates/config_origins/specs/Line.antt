@@ -1,7 +1,7 @@
 -- The lines of a printed configuration: `KEYS = VALUE REST`, `KEYS = [`, `VALUE REST` and `] REST`, where REST may name the file that a value comes from.
-use Rattle.std.specs.Prelude.{ℕ, Bool, false, not, ◌||◌, ◌&&◌, ◌==◌, if◌then◌else◌, nat_lt, nat_le, List, [], ◌∷◌, length, map, slice_index, Option, Some, None}
+use Rattle.std.specs.Prelude.{ℕ, Bool, false, not, ◌||◌, ◌&&◌, ◌==◌, if◌then◌else◌, nat_eq, nat_lt, nat_le, List, [], ◌∷◌, length, map, slice_index, Option, Some, None}
 use Rattle.std.specs.Char.{is_whitespace}
-use Rattle.std.specs.List.{list_all}
+use Rattle.std.specs.List.{list_all, starts_with}
 use Rattle.std.specs.Option.{option_and_then, option_map, option_map_or, unwrap_or}
 use Rattle.std.specs.Str.{chars, encode_utf8_all, trim, trim_start}
 use Rattle.toml.specs.Data.{as_str}
@@ -22,10 +22,15 @@ is_bare part = list_all is_bare_byte part && not (length part == 0)
 unfoldable pub quoted_text : List ℕ → Option (List ℕ)
 quoted_text part = option_and_then as_str (parse_value part)
 
+-- three quotes of either kind at the front of a part of KEYS, as a text of several lines would begin, which is no key
+unfoldable pub begins_multiline : List ℕ → Bool
+begins_multiline part = starts_with nat_eq part (34 ∷ 34 ∷ 34 ∷ []) || starts_with nat_eq part (39 ∷ 39 ∷ 39 ∷ [])
+
 -- the key that a part of KEYS writes: a bare one as it stands, and one in quotes as TOML reads that text
 unfoldable pub key_of : List ℕ → Option (List ℕ)
 key_of part =
-    if slice_index part 0 == 34 || slice_index part 0 == 39 then quoted_text part
+    if begins_multiline part then None
+    else if slice_index part 0 == 34 || slice_index part 0 == 39 then quoted_text part
     else if is_bare part then Some part else None
 
 -- all values, where each is there

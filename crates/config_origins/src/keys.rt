@@ -1,7 +1,7 @@
 //! The keys before the `=` of a line.
 
 ghost use Rattle.std.specs.Prelude.{◌≡◌, ◌<◌, ◌∷◌, IfOk, IfSome, length};
-ghost use Rattle.config_origins.specs.Line.{is_bare, is_bare_byte, key_of, keys_of, quoted_text};
+ghost use Rattle.config_origins.specs.Line.{begins_multiline, is_bare, is_bare_byte, key_of, keys_of, quoted_text};
 ghost use Rattle.config_origins.specs.Quotes.{parts_outside};
 ghost use Rattle.config_origins.specs.Reader.{parts_left};
 ghost use Rattle.config_origins.specs.declared.quotes.Quotes.TheVariants.{Outside};
@@ -47,11 +47,21 @@ fn read_quoted(alloc: Global, part: &str) -> Result<Option<Text>, AllocError>
     }
 }
 
+// Whether a text begins with three quotes, as a text of several lines would.
+fn begins_multiline(part: &str) -> bool
+    ensures { result ≡ begins_multiline part.now }
+{
+    part.starts_with("\"\"\"") || part.starts_with("'''")
+}
+
 // The key that a part of KEYS writes.
 #[tactic(auto, unfolding(crate::specs::Line::key_of))]
 fn read_key(alloc: Global, part: &str) -> Result<Option<Text>, AllocError>
     ensures { IfOk result (λ key. key ≡ key_of part.now) }
 {
+    if begins_multiline(part) {
+        return Ok(None);
+    }
     if part.starts_with('"') || part.starts_with('\'') {
         return read_quoted(alloc, part);
     }
