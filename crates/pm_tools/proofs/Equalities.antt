@@ -6,13 +6,7 @@ use Rattle.base_text.specs.PathOrder.{path_eq}
 use Rattle.base_text.specs.Paths.{IsClean}
 use Rattle.pm_tools.specs.declared.project_manifest.ProjectManifest.{ProjectManifest}
 use Rattle.pm_tools.specs.declared.project_manifest.ProjectManifest.TheVariants.{ProjectJson, CargoToml, CargoScript}
-use Rattle.pm_tools.specs.Manifest.{manifest_path}
-
--- a number for each kind
-kind : ProjectManifest → ℕ
-kind (ProjectJson path) = 0
-kind (CargoToml path) = 1
-kind (CargoScript path) = 2
+use Rattle.pm_tools.specs.Manifest.{kind_place, manifest_path}
 
 -- an equality that compares the paths of manifests of one kind, and finds those of two kinds different
 pub record IsByPath (eq : ProjectManifest → ProjectManifest → Bool) : Type 0 where
@@ -27,7 +21,6 @@ pub record IsByPath (eq : ProjectManifest → ProjectManifest → Bool) : Type 0
   pub script_table : (p q : List ℕ) → eq (CargoScript p) (CargoToml q) ≡ false
 
 pub manifests : (eq : ProjectManifest → ProjectManifest → Bool) → IsByPath eq → (x y : ProjectManifest) → IsClean (manifest_path x) → IsClean (manifest_path y) → (eq x y ≡ true) ↔ (x ≡ y)
-unfolding kind
 manifests eq by (ProjectJson p) (ProjectJson q) a b =
     let same = paths p q a b in
     (λ e. ap ProjectJson (same.0 (sym (by.json p q) ∙ e)), λ e. by.json p q ∙ same.1 (ap manifest_path e))
@@ -37,9 +30,9 @@ manifests eq by (CargoToml p) (CargoToml q) a b =
 manifests eq by (CargoScript p) (CargoScript q) a b =
     let same = paths p q a b in
     (λ e. ap CargoScript (same.0 (sym (by.script p q) ∙ e)), λ e. by.script p q ∙ same.1 (ap manifest_path e))
-manifests eq by (ProjectJson p) (CargoToml q) a b = (λ e. absurd (false≢true (sym (by.json_table p q) ∙ e)), λ e. absurd (omega (arith, ap kind e)))
-manifests eq by (ProjectJson p) (CargoScript q) a b = (λ e. absurd (false≢true (sym (by.json_script p q) ∙ e)), λ e. absurd (omega (arith, ap kind e)))
-manifests eq by (CargoToml p) (ProjectJson q) a b = (λ e. absurd (false≢true (sym (by.table_json p q) ∙ e)), λ e. absurd (omega (arith, ap kind e)))
-manifests eq by (CargoToml p) (CargoScript q) a b = (λ e. absurd (false≢true (sym (by.table_script p q) ∙ e)), λ e. absurd (omega (arith, ap kind e)))
-manifests eq by (CargoScript p) (ProjectJson q) a b = (λ e. absurd (false≢true (sym (by.script_json p q) ∙ e)), λ e. absurd (omega (arith, ap kind e)))
-manifests eq by (CargoScript p) (CargoToml q) a b = (λ e. absurd (false≢true (sym (by.script_table p q) ∙ e)), λ e. absurd (omega (arith, ap kind e)))
+manifests eq by (ProjectJson p) (CargoToml q) a b = (λ e. absurd (false≢true (sym (by.json_table p q) ∙ e)), λ e. absurd (omega (arith, ap kind_place e)))
+manifests eq by (ProjectJson p) (CargoScript q) a b = (λ e. absurd (false≢true (sym (by.json_script p q) ∙ e)), λ e. absurd (omega (arith, ap kind_place e)))
+manifests eq by (CargoToml p) (ProjectJson q) a b = (λ e. absurd (false≢true (sym (by.table_json p q) ∙ e)), λ e. absurd (omega (arith, ap kind_place e)))
+manifests eq by (CargoToml p) (CargoScript q) a b = (λ e. absurd (false≢true (sym (by.table_script p q) ∙ e)), λ e. absurd (omega (arith, ap kind_place e)))
+manifests eq by (CargoScript p) (ProjectJson q) a b = (λ e. absurd (false≢true (sym (by.script_json p q) ∙ e)), λ e. absurd (omega (arith, ap kind_place e)))
+manifests eq by (CargoScript p) (CargoToml q) a b = (λ e. absurd (false≢true (sym (by.script_table p q) ∙ e)), λ e. absurd (omega (arith, ap kind_place e)))

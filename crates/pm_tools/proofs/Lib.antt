@@ -1,4 +1,5 @@
 pub mod ConfigEnv
 pub mod Equalities
 pub mod Names
+pub mod Orders
 pub mod RelativeRoots
