@@ -41,7 +41,8 @@ use Rattle.pm_load.specs.declared.tool_answers.ToolAnswers.{ToolAnswers}
 use Rattle.pm_reading.specs.Packages.{manifest_path}
 use Rattle.pm_reading.specs.Reading.{Reading}
 use Rattle.pm_reading.specs.declared.workspace_error.WorkspaceError.TheVariants as refused
-use Rattle.pm_roots.specs.Roots.{directory_of, root_of, roots_of}
+use Rattle.pm_packages.specs.ManifestPath.{directory_of}
+use Rattle.pm_roots.specs.Roots.{root_of, roots_of}
 use Rattle.pm_sysroot.specs.Ask.{Means}
 use Rattle.pm_sysroot.specs.Sysroot.{empty_sysroot}
 use Rattle.pm_sysroot.specs.Toolchain.{Toolchain}

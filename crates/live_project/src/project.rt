@@ -169,8 +169,10 @@ impl Project {
         ensures roots { IfOk result (λ roots. roots ≡ roots_of_project self.now.workspace) }
         ensures few { length (roots_of_project self.now.workspace) + 1 < 2 ^ 32 }
     {
-        let roots = self.workspace.to_roots(alloc)?;
-        file_roots(alloc, roots.as_slice())
+        match self.workspace.to_roots(alloc) {
+            Ok(roots) => file_roots(alloc, roots.as_slice()),
+            Err(_) => Err(AllocError),
+        }
     }
 
     /// The graph of the crates whose root files a loader has: at most as many as the load's configuration allows, with the edges

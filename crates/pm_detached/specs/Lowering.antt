@@ -1,15 +1,16 @@
 -- The lowering of a detached file, which no manifest but its own describes: the file is a crate, unless Cargo reads it as a project; then
 -- the crates are those of that project alone. The rule is that of rust-analyzer's `detached_file_to_crate_graph`.
-use Rattle.std.specs.Prelude.{ℕ, false, List, [], map, length, codes, Option, None, Some, Result, Ok, Err, nat_lt, if◌then◌else◌}
-use Rattle.std.specs.Option.{option_map, option_to_list, unwrap_or}
+use Rattle.std.specs.Prelude.{ℕ, false, List, [], map, length, Option, None, Some, Result, Ok, Err, nat_lt, if◌then◌else◌}
+use Rattle.std.specs.Option.{option_map, option_to_list}
 use Rattle.outside.specs.declared.limits.Limit.TheVariants.{Crates}
 use Rattle.base_text.specs.FileName.{stem_of}
-use Rattle.base_text.specs.Paths.{file_name, parent_text}
+use Rattle.base_text.specs.Paths.{file_name}
 use Rattle.base_text.specs.declared.edition.Edition.TheVariants.{Edition2024}
 use Rattle.crate_values.specs.Names.{shown_as}
 use Rattle.crate_values.specs.declared.origin.CrateOrigin.TheVariants.{Local}
 use Rattle.crate_values.specs.declared.target_kind.TargetKind.TheVariants.{Lib}
 use Rattle.crate_values.specs.declared.workspace_data.CrateWorkspaceData.{CrateWorkspaceData}
+use Rattle.pm_packages.specs.ManifestPath.{directory_of}
 use Rattle.pm_cargo.specs.Workspace.{Workspace}
 use Rattle.pm_loader.specs.Loader.{FileNumbers, file_of}
 use Rattle.pm_rows.specs.Columns.{Columns}
@@ -34,7 +35,7 @@ columns_of file shared = record {
   version = None;
   origin = Local None (name_of file);
   attributes = [];
-  directory = unwrap_or (parent_text file) (codes "/");
+  directory = directory_of file;
   cfgs = [];
   potential_cfgs = None;
   environment = [];

@@ -11,7 +11,7 @@ use Rattle.pm_config.specs.declared.tool_root.ToolRoot.{ToolRoot}
 use Rattle.pm_fetch.specs.Fetch.{Fetch, fetch_answer, fetch_of}
 use Rattle.pm_load.specs.Metadata.{metadata_answer, fetched_as, metadata_config}
 use Rattle.pm_load.specs.declared.tool_answers.ToolAnswers.{ToolAnswers}
-use Rattle.pm_roots.specs.Roots.{directory_of}
+use Rattle.pm_packages.specs.ManifestPath.{directory_of}
 use Rattle.pm_sysroot.specs.Ask.{Means}
 use Rattle.pm_sysroot.specs.Sysroot.{tool_root}
 use Rattle.pm_sysroot.specs.Toolchain.{Toolchain}

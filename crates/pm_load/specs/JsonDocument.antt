@@ -9,7 +9,7 @@ use Rattle.pm_json_data.specs.ProjectJsonData.{project_at}
 use Rattle.pm_json_data.specs.declared.project_json_data.ProjectJsonData.{ProjectJsonData, out-ProjectJsonData}
 use Rattle.pm_load.specs.Loading.{Loading, ◌>>=◌, of_document, of_json_reading}
 use Rattle.pm_load.specs.declared.load_error.LoadError.TheVariants.{Json, NoSuchFile}
-use Rattle.pm_roots.specs.Roots.{directory_of}
+use Rattle.pm_packages.specs.ManifestPath.{directory_of}
 use Rattle.pm_sysroot.specs.Sysroot.{sysroot_of}
 use Rattle.pm_sysroot.specs.Toolchain.{Toolchain}
 use Rattle.trees.specs.Tree.{TreeFiles, file_text}

@@ -10,7 +10,7 @@ use Rattle.pm_config.specs.declared.tool.Tool.TheVariants.{Cargo}
 use Rattle.pm_load.specs.Loading.{Loading, of_reading}
 use Rattle.pm_load.specs.declared.located.LocatedRoot.{LocatedRoot}
 use Rattle.pm_reading.specs.Packages.{manifest_path}
-use Rattle.pm_roots.specs.Roots.{directory_of}
+use Rattle.pm_packages.specs.ManifestPath.{directory_of}
 use Rattle.pm_sysroot.specs.Answers.{serving_answer}
 use Rattle.pm_sysroot.specs.Ask.{Means}
 use Rattle.pm_sysroot.specs.Questions.{question}

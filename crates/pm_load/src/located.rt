@@ -21,8 +21,8 @@ use trees::Tree;
 
 /// What `cargo locate-project` answers.
 #[derive(Debug, Drop)]
-pub struct LocatedRoot {
-    pub root: Text,
+pub(crate) struct LocatedRoot {
+    root: Text,
 }
 
 #[tactic(auto, unfolding(crate::specs::Located::located_root_at))]

@@ -1,6 +1,6 @@
 //! The metadata of a workspace, and what stands beside it.
 
-ghost use Rattle.std.specs.Prelude.{◌≡◌, IfOk, option_copied};
+ghost use Rattle.std.specs.Prelude.{◌≡◌, IfOk, codes, option_copied};
 ghost use Rattle.std.specs.Option.{option_map};
 ghost use Rattle.cargo_values.specs.Errors.{error_text};
 ghost use Rattle.pm_load.specs.Loading.{Gives, of_fetch};
@@ -27,8 +27,9 @@ fn metadata_config(
     config: &CargoConfig,
     answers: &ToolAnswers,
 ) -> Result<CargoMetadataConfig, AllocError>
-    ensures { IfOk result (λ asked. asked
+    ensures asked { IfOk result (λ asked. asked
         ≡ record (spec.metadata_config config.now answers.now) { kind = asked.kind }) }
+    ensures kind { IfOk result (λ asked. asked.kind.now ≡ codes "workspace") }
 {
     Ok(CargoMetadataConfig {
         features: config.features.try_clone(alloc)?,

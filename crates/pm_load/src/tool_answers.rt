@@ -9,7 +9,7 @@ ghost use Rattle.pm_load.specs.ToolAnswers.{platform_asked, target_result, targe
 ghost use Rattle.pm_sysroot.specs.Ask.{means_of};
 ghost use Rattle.toolchain_info.specs.Queries.{data_answer, target_answer, version_answer};
 
-use base_text::{AbsPath, CfgAtom, Items, Runner, Text, Version};
+use base_text::{AbsPath, CfgAtom, Items, Runner, Text, TryClone, Version};
 use crate_graph::target::{TargetLoadError, TargetLoadResult};
 use pm_cargo::ManifestPath;
 use pm_config::CargoConfig;
@@ -21,7 +21,7 @@ use trees::Tree;
 
 /// What the tools say: the printed configuration, if there is one, the platforms that are built for, the version
 /// of the toolchain, and of one platform the atoms of conditional compilation and the machine.
-#[derive(Drop)]
+#[derive(Debug, Drop)]
 pub struct ToolAnswers {
     pub config_file: Option<CargoConfigFile>,
     pub targets: Items<Text>,
@@ -30,8 +30,30 @@ pub struct ToolAnswers {
     pub target: TargetLoadResult,
 }
 
+/// A copy of what is known of a machine.
+pub fn copy_target(alloc: Global, target: &TargetLoadResult) -> Result<TargetLoadResult, AllocError>
+    ensures { IfOk result (λ copy. copy ≡ target.now) }
+{
+    match target {
+        Ok(machine) => Ok(Ok(machine.try_clone(alloc)?)),
+        Err(error) => Ok(Err(error.try_clone(alloc)?)),
+    }
+}
+
+impl TryClone for ToolAnswers {
+    fn try_clone(&self, alloc: Global) -> Result<Self, AllocError> {
+        Ok(ToolAnswers {
+            config_file: self.config_file.try_clone(alloc)?,
+            targets: self.targets.try_clone(alloc)?,
+            toolchain: self.toolchain.try_clone(alloc)?,
+            rustc_cfg: self.rustc_cfg.try_clone(alloc)?,
+            target: copy_target(alloc, &self.target)?,
+        })
+    }
+}
+
 /// Which platform the tools are asked for the atoms and the machine of.
-#[derive(Clone, Copy)]
+#[derive(Clone, Copy, Debug, PartialEq, Eq)]
 pub enum PlatformAsked {
     /// The first of those that are built for.
     FirstTarget,

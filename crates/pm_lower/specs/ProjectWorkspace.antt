@@ -10,7 +10,7 @@ use Rattle.pm_json.specs.declared.project_json.ProjectJson.{ProjectJson}
 use Rattle.pm_lower.specs.declared.project_workspace.ProjectWorkspace.{ProjectWorkspace}
 use Rattle.pm_lower.specs.declared.project_workspace.ProjectWorkspaceKind.{ProjectWorkspaceKind}
 use Rattle.pm_lower.specs.declared.project_workspace.ProjectWorkspaceKind.TheVariants.{Cargo, Json, DetachedFile}
-use Rattle.pm_roots.specs.Roots.{directory_of}
+use Rattle.pm_packages.specs.ManifestPath.{directory_of}
 use Rattle.pm_sysroot.specs.declared.rust_lib_src.RustLibSrcWorkspace.{RustLibSrcWorkspace}
 use Rattle.pm_sysroot.specs.declared.rust_lib_src.RustLibSrcWorkspace.TheVariants.{Empty}
 

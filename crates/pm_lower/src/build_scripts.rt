@@ -44,8 +44,8 @@ impl ProjectWorkspace {
         )
     }
 
-    /// What builds of the projects give each of them. Where a command is configured that is run once, it is
-    /// asked once for all, in the directory, and each package has the output of its id; a refusal is that of
+    /// What builds of the projects give each of them. Where a command is configured that is run once, its
+    /// answer in the directory counts for all, and each package has the output of its id; a refusal is that of
     /// each project. Else each project is built by [`run_build_scripts`](ProjectWorkspace::run_build_scripts).
     pub fn run_all_build_scripts<R: Runner, T: Tree, P: Progress>(
         alloc: Global,

@@ -13,6 +13,7 @@ use pm_build::WorkspaceBuildScripts;
 use pm_cargo::{CargoWorkspace, ManifestPath};
 use pm_config::CfgOverrides;
 use pm_json::ProjectJson;
+use pm_load::tool_answers::copy_target;
 use pm_sysroot::{RustLibSrcWorkspace, Sysroot};
 use std::alloc::{AllocError, Global};
 
@@ -306,19 +307,6 @@ fn copy_rustc(
     match rustc {
         Ok(rustc) => Ok(Ok(rustc.try_clone(alloc)?)),
         Err(reason) => Ok(Err(reason.try_clone(alloc)?)),
-    }
-}
-
-/// A copy of what is known of the machine.
-pub(crate) fn copy_target(
-    alloc: Global,
-    target: &TargetLoadResult,
-) -> Result<TargetLoadResult, AllocError>
-    ensures { IfOk result (λ copy. copy ≡ target.now) }
-{
-    match target {
-        Ok(machine) => Ok(Ok(machine.try_clone(alloc)?)),
-        Err(error) => Ok(Err(error.try_clone(alloc)?)),
     }
 }
 

@@ -6,13 +6,12 @@ ghost use Rattle.pm_lower.specs.ToCrateGraph.{IsGraphOf, kind_lowering, kind_wan
 ghost use Rattle.pm_lower.specs.ToRoots.{HasNoRustc};
 ghost use Rattle.pm_rows.specs.Lowering.{IsLowered, LacksCyclesAlone};
 
-use crate::project_workspace::{
-    ProjectWorkspace, ProjectWorkspaceKind, copy_target, script_workspace,
-};
+use crate::project_workspace::{ProjectWorkspace, ProjectWorkspaceKind, script_workspace};
 use base_text::{Limits, Runner, TryClone};
 use crate_graph::{CrateGraphBuilder, CrateWorkspaceData, ProcMacroPaths};
 use pm_detached::lower_detached;
 use pm_json_rows::lower_json;
+use pm_load::tool_answers::copy_target;
 use pm_loader::Loader;
 use pm_rows::{LowerError, lower_cargo};
 use pm_sysroot::Ask;

@@ -1,12 +1,13 @@
 //! The roots of a project: the directories that the files of its packages are read from.
 
-ghost use Rattle.std.specs.Prelude.{◌≡◌, ◌++◌, IfOk, OnOk};
+ghost use Rattle.std.specs.Prelude.{◌≡◌, ◌++◌, IfErr, IfOk, OnOk};
 ghost use Rattle.pm_lower.specs.ToRoots.{HasNoRustc, kind_roots, project_roots, script_roots, source_root, sysroot_roots};
+ghost use Rattle.pm_reading.specs.declared.workspace_error.WorkspaceError.TheVariants.{OutOfMemory};
 
 use crate::project_workspace::{ProjectWorkspace, ProjectWorkspaceKind, ScriptWorkspace};
 use base_text::{AbsPath, AbsPathBuf, Items};
 use pm_build::WorkspaceBuildScripts;
-use pm_cargo::{ManifestPath, Package};
+use pm_cargo::{ManifestPath, Package, WorkspaceError};
 use pm_detached::detached_roots;
 use pm_json_rows::json_roots;
 use pm_roots::{OutDirs, PackageRoot, cargo_roots};
@@ -112,9 +113,10 @@ impl ProjectWorkspace {
     /// The roots of the project in their order, and behind them that of the toolchain's sources, which has no
     /// directory where they are not known. A project of cargo has one for each package, a JSON project one for each crate,
     /// of equal ones the first alone, and a detached file one of its own before those of the project that it is read as.
-    pub fn to_roots(&self, alloc: Global) -> Result<Items<PackageRoot>, AllocError>
+    pub fn to_roots(&self, alloc: Global) -> Result<Items<PackageRoot>, WorkspaceError>
         requires { HasNoRustc self.now }
-        ensures { IfOk result (λ roots. roots ≡ project_roots self.now) }
+        ensures ok { IfOk result (λ roots. roots ≡ project_roots self.now) }
+        ensures only_out_of_memory { IfErr result (λ error. error ≡ OutOfMemory) }
     {
         let extra = self.extra_includes.as_slice();
         let mut roots = kind_roots(alloc, &self.kind, extra)?.into_inner();

@@ -1,22 +1,19 @@
 -- The roots of a Cargo workspace, one for each package: which directories its files are read from, and which are left out. The rules are those of rust-analyzer's `ProjectWorkspace::to_roots`.
 use Rattle.std.specs.Prelude.{ℕ, Bool, not, if◌then◌else◌, List, [], ◌∷◌, ◌++◌, map, filter, flat_map, slice_get, codes, Option}
 use Rattle.std.specs.List.{dedup, enumerate_from}
-use Rattle.std.specs.Option.{option_map, option_map_or, option_to_list, unwrap_or}
+use Rattle.std.specs.Option.{option_map, option_map_or, option_to_list}
 use Rattle.base_values.specs.Sorted.{sorted}
 use Rattle.base_text.specs.Arena.{number_of}
 use Rattle.base_text.specs.declared.arena.Idx.{Idx}
 use Rattle.base_text.specs.PathOrder.{path_cmp, path_eq}
 use Rattle.base_text.specs.Paths.{components, components_with_tail, is_prefix, normal, parent_text, path_text}
+use Rattle.pm_packages.specs.ManifestPath.{directory_of}
 use Rattle.pm_packages.specs.declared.package.PackageData.{PackageData}
 use Rattle.pm_packages.specs.declared.target.TargetTag.{TargetTag}
 use Rattle.pm_cargo.specs.Workspace.{Workspace}
 use Rattle.pm_roots.specs.declared.package_root.PackageRoot.{PackageRoot}
 
 -- ---- directories
-
--- the directory that a manifest lies in
-abbrev pub directory_of : List ℕ → List ℕ
-directory_of manifest = unwrap_or (parent_text manifest) (codes "/")
 
 -- the directory of a name below a directory
 abbrev pub below : List ℕ → List ℕ → List ℕ

@@ -2,7 +2,8 @@
 
 ghost use Rattle.std.specs.Prelude.{◌≡◌, ◌∷◌, [], ◌++◌, IfOk, OnOk, map};
 ghost use Rattle.base_text.specs.AbsPath.{abs_text};
-ghost use Rattle.pm_roots.specs.Roots.{below, directory_of, excluded_names};
+ghost use Rattle.pm_packages.specs.ManifestPath.{directory_of};
+ghost use Rattle.pm_roots.specs.Roots.{below, excluded_names};
 
 use base_text::{AbsPath, AbsPathBuf, Items};
 use pm_cargo::PackageData;

@@ -8,7 +8,8 @@ use std::alloc::{AllocError, Global};
 pub struct PackageRoot {
     /// Whether the files are edited, as those of a package without a source are.
     pub is_local: bool,
-    /// The directories, ascending and each once.
+    /// The directories: those of a package ascending and each once, those of a crate of a JSON project as they
+    /// are stated.
     pub include: Items<AbsPathBuf>,
     /// The directories below these that are left out.
     pub exclude: Items<AbsPathBuf>,

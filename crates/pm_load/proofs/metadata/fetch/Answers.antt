@@ -8,5 +8,5 @@ use Rattle.pm_load.proofs.metadata.fetch.Goals as goal
 pub returns : goal.returns
 returns g c =
     let same = metadata_answer-is c.args.sysroot.now c.args.manifest.now c.args.config.now c.args.answers.now (means_of g.R.Runner.answers g.T.Tree.files c.args.ask.now)
-    c.in_ok-asked.asked.kind c.in_ok-asked.asked c.in_ok-root.root c.in_ok-asked.ensures c.in_ok-root.ensures in
+    c.in_ok-asked.asked.kind c.in_ok-asked.asked c.in_ok-root.root c.in_ok-asked.ensures.asked c.in_ok-root.ensures in
     subst (λ (answer : FetchAnswer). Gives c.fetch_as.result (of_fetch answer)) same c.fetch_as.ensures
