@@ -1,3 +1,4 @@
+pub mod Equalities
 mod ArtifactLemmas
 mod LibraryLemmas
 mod OutputLemmas

@@ -1,6 +1,7 @@
 pub mod Artifact
 pub mod Build
 pub mod Errors
+pub mod Laws
 pub mod Library
 pub mod Output
 pub mod Outputs

@@ -90,7 +90,7 @@ impl WorkspaceBuildScripts {
         builder.take_lines(alloc, packages, output.out.as_str(), progress)?;
         builder.push_errors(output.err.as_str())?;
         let (outputs, error) = builder.finish(alloc, output.ok)?;
-        Ok(WorkspaceBuildScripts { outputs, error })
+        Ok(WorkspaceBuildScripts::of_parts(outputs, error))
     }
 
     /// What a build of the workspace gives its packages: the build question is asked, and its answer is
@@ -123,7 +123,7 @@ impl WorkspaceBuildScripts {
         ensures { IfOk result (λ given. given ≡ record self.now { outputs = outputs }) }
     {
         let error = self.error.try_clone(alloc)?;
-        Ok(WorkspaceBuildScripts { outputs, error })
+        Ok(WorkspaceBuildScripts::of_parts(outputs, error))
     }
 
     /// Why the build failed.

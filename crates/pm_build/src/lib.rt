@@ -5,6 +5,7 @@
 mod artifact;
 pub mod build_error;
 pub mod build_scripts;
+pub mod laws;
 mod library;
 pub mod output;
 mod outputs;

@@ -1,11 +1,13 @@
 //! The outputs of packages, and the lines of errors, while the messages of a build are read.
 
-ghost use Rattle.std.specs.Prelude.{◌≡◌, fold, length, IfOk, OnOk};
+ghost use Rattle.std.specs.Prelude.{◌≡◌, false, fold, length, IfOk, OnOk};
+ghost use Rattle.std.specs.FinMap.{get};
+ghost use Rattle.std.specs.Option.{option_map_or};
 ghost use Rattle.std.specs.Str.Lines.{lines};
 ghost use Rattle.base_text.specs.Arena.{number_of};
 ghost use Rattle.pm_reading.specs.Nodes.{place_of_package};
 ghost use Rattle.cargo_diagnostics.specs.declared.diagnostic.Diagnostic.{out-Diagnostic};
-ghost use Rattle.pm_build.specs.Artifact.{output_after_artifact};
+ghost use Rattle.pm_build.specs.Artifact.{gives_library, output_after_artifact};
 ghost use Rattle.pm_build.specs.Outputs.{default_outputs, error_of, outputs_after, start_state, take_artifact, take_line, take_message, take_rendered, take_script, with_error, with_line};
 ghost use Rattle.pm_build.specs.Packages.{lent_packages};
 ghost use Rattle.pm_build.specs.Reading.{Leaves, take_each};
@@ -122,7 +124,10 @@ impl OutputsBuilder {
     }
 
     // Whether an artifact gives the package its library.
-    fn gains_library(&self, package: Package, artifact: &Artifact) -> bool {
+    fn gains_library(&self, package: Package, artifact: &Artifact) -> bool
+        ensures { result ≡ option_map_or (λ output. gives_library artifact.now
+            output.proc_macro_dylib_path) (get self.now.outputs (number_of «package»)) false }
+    {
         match self.outputs.get(package) {
             Some(output) => gives_library(artifact, &output.proc_macro_dylib_path),
             None => false,

@@ -1,6 +1,6 @@
 //! The packages of one workspace or of several, by their ids.
 
-ghost use Rattle.std.specs.Prelude.{◌≡◌, ◌∷◌, ◌<◌, ◌++◌, [], length, IfOk, IfSome, OnOk};
+ghost use Rattle.std.specs.Prelude.{◌≡◌, ◌∷◌, ◌<◌, ◌++◌, [], length, slice_get, IfOk, IfSome, OnOk, Some};
 ghost use Rattle.std.specs.Option.{option_map};
 ghost use Rattle.base_text.specs.Arena.{number_of};
 ghost use Rattle.pm_reading.specs.Nodes.{place_of_package};
@@ -56,6 +56,20 @@ fn packages_of_all<'a>(
     Ok(packages)
 }
 
+// The same references to packages.
+fn copy_packages<'a>(
+    alloc: Global,
+    packages: &Arena<PackageTag, &'a PackageData>,
+) -> Result<Arena<PackageTag, &'a PackageData>, AllocError>
+    ensures { IfOk result (λ copy. lent_packages copy ≡ lent_packages packages.now) }
+{
+    let mut copy = Arena::new(alloc);
+    for (_, package) in packages.iter() {
+        push_package(&mut copy, *package)?;
+    }
+    Ok(copy)
+}
+
 // Packages under their ids.
 fn packages_by_id(
     alloc: Global,
@@ -93,6 +107,16 @@ impl<'a> KnownPackages<'a> {
         Ok(KnownPackages { packages, by_id })
     }
 
+    /// The same packages.
+    pub(crate) fn copy(&self, alloc: Global) -> Result<KnownPackages<'a>, AllocError>
+        ensures { IfOk result (λ copy. lent_packages copy.packages
+            ≡ lent_packages self.now.packages) }
+    {
+        let packages = copy_packages(alloc, &self.packages)?;
+        let by_id = packages_by_id(alloc, &packages)?;
+        Ok(KnownPackages { packages, by_id })
+    }
+
     /// The package of an id.
     pub(crate) fn find(&self, id: &PackageId) -> Option<Package>
         ensures place { option_map number_of result
@@ -105,6 +129,8 @@ impl<'a> KnownPackages<'a> {
     /// The name of a package.
     pub(crate) fn name(&self, package: Package) -> &str
         requires { number_of «package» < length self.now.packages }
+        ensures { option_map (λ p. p.name)
+            (slice_get (lent_packages self.now.packages) (number_of «package»)) ≡ Some result.now }
     {
         self.packages[package].name.as_str()
     }

@@ -40,6 +40,14 @@ impl<'a> Model for SharedBuild<'a> {
     } };
 }
 
+impl<'a> TryClone for SharedBuild<'a> {
+    fn try_clone(&self, alloc: Global) -> Result<Self, AllocError> {
+        let packages = self.packages.copy(alloc)?;
+        let scripts = self.scripts.try_clone(alloc)?;
+        Ok(SharedBuild { packages, scripts })
+    }
+}
+
 impl<'a> SharedBuild<'a> {
     /// One build of all of the workspaces: the command is asked once, and its answer is read. `progress` takes the
     /// lines of [`of_output`](WorkspaceBuildScripts::of_output).
