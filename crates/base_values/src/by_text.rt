@@ -9,7 +9,7 @@ use std::collections::BTreeMap;
 use std::marker::Model;
 
 /// A map from text. It is made from a `BTreeMap` and gives it back, with no memory taken.
-#[derive(Drop)]
+#[derive(Debug, Drop)]
 pub struct ByText<V> {
     inner: BTreeMap<String, V>,
 }

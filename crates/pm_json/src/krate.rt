@@ -12,7 +12,7 @@ use std::alloc::{AllocError, Global};
 use std::marker::Model;
 
 /// A crate, with the places in the project's list of those that it depends on.
-#[derive(PartialEq, Eq, Drop)]
+#[derive(Debug, PartialEq, Eq, Drop)]
 pub struct Crate {
     pub display_name: Option<CrateDisplayName>,
     /// The file that the crate begins in.

@@ -16,7 +16,7 @@ use pm_packages::ManifestPath;
 use std::alloc::{AllocError, Global};
 
 /// A project that a build system describes.
-#[derive(PartialEq, Eq, Drop)]
+#[derive(Debug, PartialEq, Eq, Drop)]
 pub struct ProjectJson {
     /// The directory of the toolchain.
     pub sysroot: Option<AbsPathBuf>,

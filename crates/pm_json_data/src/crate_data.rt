@@ -14,7 +14,7 @@ use serde_json::{Map, Value};
 use std::alloc::{AllocError, Global};
 
 /// A crate as a document states it. Paths are texts, which a project reads from its base.
-#[derive(PartialEq, Eq, Drop)]
+#[derive(Debug, PartialEq, Eq, Drop)]
 pub struct CrateData {
     pub display_name: Option<Text>,
     /// The file that the crate begins in.

@@ -23,7 +23,7 @@ use serde_json::{Map, Value};
 use std::alloc::{AllocError, Global};
 
 /// A document of a JSON project.
-#[derive(PartialEq, Eq, Drop)]
+#[derive(Debug, PartialEq, Eq, Drop)]
 pub struct ProjectJsonData {
     /// The directory of the toolchain.
     pub sysroot: Option<Text>,
