@@ -1,12 +1,12 @@
 //! Loaders in memory: files by their paths, and the file at a path.
 
-use base_text::FileId;
+use base_text::{FileId, TryClone};
 use cases::{Case, Fault, absolute};
 use pm_loader::{Loader, MapLoader};
 use serde_json::Value;
 use std::alloc::Global;
 
-/// The number of the file at the path of a case, or null.
+/// The number of the file at the path of a case in a copy of the loader, or null.
 pub fn answer(alloc: Global, case: Case<'_>) -> Result<Value, Fault> {
     let path = absolute(alloc, case.text("path"))?;
     let mut loader = MapLoader::new(alloc);
@@ -15,7 +15,8 @@ pub fn answer(alloc: Global, case: Case<'_>) -> Result<Value, Fault> {
         let place = file.at(1).as_file_number() as usize;
         insert(alloc, &mut loader, file.text_at(0), place)?;
     }
-    match loader.load(alloc, path.as_path())? {
+    let mut copy = loader.try_clone(alloc)?;
+    match copy.load(alloc, path.as_path())? {
         Some(file) => Ok(Value::from(file.index())),
         None => Ok(Value::Null),
     }

@@ -2,6 +2,7 @@
 //! lowered to and their roots, and how they are built.
 #![tactic(auto)]
 
+mod counting;
 mod detached;
 mod given;
 mod graphs;

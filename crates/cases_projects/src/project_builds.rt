@@ -1,18 +1,21 @@
 //! Builds of projects: what they give each of some projects, and what is asked of a project after builds.
 
+use crate::counting::{CountingRunner, counted};
 use crate::given::{Given, configure};
 use crate::projects::{answer_question, cargo_of, load_project, project_manifest_of};
 use crate::workspace_builds::build_config::command_of;
 use crate::workspace_builds::outputs::{refusal_answer, result_answer};
-use base_text::TryClone;
+use base_text::{AbsPathBuf, RecordedRunner, TryClone};
 use case_tools::Lines;
 use cases::{Case, Fault, List, Object, absolute, output_of};
 use pm_build::WorkspaceBuildScripts;
 use pm_config::{CargoConfig, InvocationStrategy, Quiet};
 use pm_lower::ProjectWorkspace;
 use pm_lower::build_scripts::BuildResult;
+use pm_sysroot::Ask;
 use serde_json::Value;
 use std::alloc::Global;
+use trees::MemoryTree;
 
 /// What a case gives.
 pub fn answer(alloc: Global, case: Case<'_>) -> Result<Value, Fault> {
@@ -88,6 +91,9 @@ fn run_all(
 ) -> Result<Value, Fault> {
     let dir = absolute(alloc, case.text("dir"))?;
     let ask = given.ask(config);
+    if case.flag("count") {
+        return count_questions(alloc, projects, config, &dir, &ask);
+    }
     let mut lines = Lines::new(alloc);
     let each = ProjectWorkspace::run_all_build_scripts(
         alloc, projects, config, &dir, &ask, &mut lines,
@@ -99,6 +105,20 @@ fn run_all(
         .member("each", each_answer(alloc, projects, each.as_slice()))
         .member("progress", Ok(Value::Array(lines.kept)))
         .answer()
+}
+
+// How many questions the builds ask.
+fn count_questions(
+    alloc: Global,
+    projects: &[ProjectWorkspace],
+    config: &CargoConfig,
+    dir: &AbsPathBuf,
+    ask: &Ask<'_, RecordedRunner, MemoryTree>,
+) -> Result<Value, Fault> {
+    let runner = CountingRunner::new(ask.runner);
+    let ask = counted(ask, &runner);
+    drop(ProjectWorkspace::run_all_build_scripts(alloc, projects, config, dir, &ask, &mut Quiet)?);
+    Ok(Value::from(runner.count()))
 }
 
 fn each_answer(

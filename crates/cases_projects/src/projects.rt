@@ -3,6 +3,7 @@
 ghost use Rattle.std.specs.Prelude.{IsTrue};
 ghost use Rattle.pm_lower.specs.ToRoots.{HasNoRustc};
 
+use crate::counting::{CountingRunner, counted};
 use crate::given::{Given, configure};
 use crate::graphs;
 use crate::values::{limit_name, roots_answer, with_text};
@@ -14,7 +15,7 @@ use cases::{
 };
 use crate_graph::target::{Arch, TargetLoadResult};
 use pm_cargo::CargoWorkspace;
-use pm_config::{CargoConfig, Progress};
+use pm_config::{CargoConfig, Progress, Quiet};
 use pm_lower::{LoadError, ProjectWorkspace, ProjectWorkspaceKind};
 use pm_sysroot::Ask;
 use pm_tools::ProjectManifest;
@@ -67,10 +68,30 @@ fn load(
     config: &CargoConfig,
     given: &Given,
 ) -> Result<Value, Fault> {
+    if let Some("questions") = case.optional_text("ask") {
+        return count_questions(alloc, manifest, config, given);
+    }
     let mut lines = Lines::new(alloc);
     let project = load_project(alloc, manifest, config, given, &mut lines)?;
     let project = Box::new(alloc, project)?;
     project_or_refusal(alloc, case, given, &given.ask(config), &project, lines)
+}
+
+// How many questions the load asks, whatever it gives.
+fn count_questions(
+    alloc: Global,
+    manifest: &ProjectManifest,
+    config: &CargoConfig,
+    given: &Given,
+) -> Result<Value, Fault> {
+    if config.sysroot.is_some() || config.rustc_source.is_some() {
+        return Err(Fault::Condition);
+    }
+    let ask = given.ask(config);
+    let runner = CountingRunner::new(ask.runner);
+    let ask = counted(&ask, &runner);
+    drop(ProjectWorkspace::load(alloc, manifest, config, &given.limits, &ask, &mut Quiet));
+    Ok(Value::from(runner.count()))
 }
 
 /// The project of a manifest, or why none is loaded.

@@ -1,4 +1,4 @@
-//! A reader and a writer that always fail.
+//! A reader and a writer that always fail, and a writer that takes all and refuses each flush.
 
 use std::io::{self, Read, Write};
 
@@ -18,5 +18,18 @@ impl Write for Broken {
 
     fn flush(&mut self) -> io::Result<()> {
         Ok(())
+    }
+}
+
+#[derive(Drop)]
+pub struct Unflushed;
+
+impl Write for Unflushed {
+    fn write(&mut self, buf: &[u8]) -> io::Result<usize> {
+        Ok(buf.len())
+    }
+
+    fn flush(&mut self) -> io::Result<()> {
+        Err(io::Error::from(io::ErrorKind::Other))
     }
 }

@@ -1,6 +1,6 @@
 //! Sinks of bytes: in memory, with writes that fail, narrow ones, and writers of std. Each is written to at the bound of its trait.
 
-use crate::traits::broken::Broken;
+use crate::traits::broken::{Broken, Unflushed};
 use crate::traits::numbers;
 use base_text::{ByteSink, FaultSink, MemorySink, SinkError, write_all};
 use cases::{Case, Fault, List, Object, bytes_answer, print_answer};
@@ -37,8 +37,13 @@ fn of_narrow(alloc: Global, case: Case<'_>) -> Result<Value, Fault> {
     sink_answer(alloc, writes, sink.taken.as_slice(), faults_of(&sink))
 }
 
-// A writer in memory, or one that fails where the case says so, which holds nothing.
+// A writer in memory, or one that fails or refuses its flushes where the case says so, which holds nothing.
 fn of_writer(alloc: Global, case: Case<'_>) -> Result<Value, Fault> {
+    if case.flag("unflushed") {
+        let mut sink = WriterSink::new(Unflushed);
+        let writes = writes(alloc, &mut sink, case);
+        return sink_answer(alloc, writes, &[], faults_of(&sink));
+    }
     if case.flag("broken") {
         let mut sink = WriterSink::new(Broken);
         let writes = writes(alloc, &mut sink, case);

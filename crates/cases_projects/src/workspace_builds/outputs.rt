@@ -1,11 +1,11 @@
 //! What a build's output gives packages.
 
 use crate::values::workspace_of;
-use base_text::{AbsPathBuf, Output};
+use base_text::{AbsPathBuf, ArenaMap, Output};
 use case_tools::{Lines, env_answer};
 use cases::{
-    Case, Fault, List, Object, atoms_answer, copied_answer, is_copied, output_of, print_answer,
-    text_answer,
+    Case, Fault, List, Object, atoms_answer, copied_answer, is_copied, optional_text, output_of,
+    print_answer, text_answer,
 };
 use pm_build::{BuildError, BuildScriptOutput, ProcMacroDylibPath, WorkspaceBuildScripts};
 use pm_cargo::CargoWorkspace;
@@ -16,11 +16,16 @@ use std::alloc::Global;
 /// The outputs of the packages of a case, the error, and the lines of progress. A build that is read quietly
 /// gives the same.
 pub fn answer(alloc: Global, case: Case<'_>) -> Result<Value, Fault> {
-    if case.text("call") != "WorkspaceBuildScripts::of_output" {
-        return Err(Fault::Call);
-    }
     let workspace = workspace_of(alloc, case)?;
-    read(alloc, &workspace, &output_of(alloc, case)?)
+    match case.text("call") {
+        "WorkspaceBuildScripts::of_output" => read(alloc, &workspace, &output_of(alloc, case)?),
+        "WorkspaceBuildScripts::of_parts" => {
+            let error = optional_text(alloc, case, "error")?;
+            let scripts = WorkspaceBuildScripts::of_parts(ArenaMap::new(alloc), error);
+            result_answer(alloc, &workspace, &Ok(scripts))
+        }
+        _ => Err(Fault::Call),
+    }
 }
 
 // A build that is read quietly gives the same.
