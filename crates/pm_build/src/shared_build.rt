@@ -49,8 +49,8 @@ impl<'a> TryClone for SharedBuild<'a> {
 }
 
 impl<'a> SharedBuild<'a> {
-    /// One build of all of the workspaces: the command is asked once, and its answer is read. `progress` takes the
-    /// lines of [`of_output`](WorkspaceBuildScripts::of_output).
+    /// One build of all of the workspaces: the answer to the command is read, and counts for all. `progress` takes
+    /// the lines of [`of_output`](WorkspaceBuildScripts::of_output).
     pub fn run<R: Runner, P: Progress>(
         alloc: Global,
         line: &CommandLine,

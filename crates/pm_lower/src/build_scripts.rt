@@ -129,7 +129,7 @@ fn built_script(script: &Option<ScriptWorkspace>) -> Option<&CargoWorkspace>
     }
 }
 
-// The command that is asked once for all projects, where it is configured so.
+// The command whose answer counts for all projects, where it is configured so.
 fn command_for_all<R: Runner, T: Tree>(
     alloc: Global,
     config: &CargoConfig,
