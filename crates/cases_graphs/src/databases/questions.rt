@@ -18,15 +18,16 @@ use std::alloc::{AllocError, Global};
 pub fn answer(alloc: Global, case: Case<'_>, db: &mut InputDb) -> Result<Value, Fault> {
     let crates = make_given(alloc, db, case)?;
     if case.find("list").is_some() {
-        let krate = crate_at(crates.as_slice(), case, "list")?;
+        let Some(krate) = crate_at(crates.as_slice(), case.of("list").as_u32()) else {
+            return Err(Fault::Condition);
+        };
         list_one(alloc, db, krate)?;
     }
     ask(alloc, db, crates.as_slice(), case)
 }
 
-fn crate_at(crates: &[Crate], case: Case<'_>, key: &'static str) -> Result<Crate, Fault> {
-    let krate = crates.get(case.of(key).as_u32() as usize);
-    krate.copied().ok_or(Fault::Condition)
+fn crate_at(crates: &[Crate], place: u32) -> Option<Crate> {
+    crates.get(place as usize).copied()
 }
 
 fn list_one(alloc: Global, db: &mut InputDb, krate: Crate) -> Result<(), Fault> {
@@ -45,7 +46,9 @@ fn ask(alloc: Global, db: &InputDb, crates: &[Crate], case: Case<'_>) -> Result<
         "source_root_crates" => in_root(alloc, db, crates, case),
         "relevant_crates" => beside(alloc, db, crates, case),
         call => {
-            let krate = crate_at(crates, case, "of")?;
+            let Some(krate) = crate_at(crates, case.of("of").as_u32()) else {
+                return Err(Fault::Condition);
+            };
             if !db.has_crate(krate) {
                 return Err(Fault::Condition);
             }
