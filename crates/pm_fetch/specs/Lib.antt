@@ -1,4 +1,6 @@
 pub mod Fetch
+pub mod Lines
 pub mod Options
 pub mod Questions
+pub mod Reports
 pub mod Settings

@@ -1,13 +1,15 @@
 //! Fetching metadata: the light question is asked first, the full one later, and it decides.
 
-ghost use Rattle.std.specs.Prelude.{◌≡◌, true, IfOk, OnOk};
+ghost use Rattle.std.specs.Prelude.{◌≡◌, true, IfOk, IsErrOf, OnOk};
 ghost use Rattle.outside.specs.Runner.{answer_of};
 ghost use Rattle.cargo_meta.specs.Answer.{of_answer};
 ghost use Rattle.cargo_meta.specs.Command.{command_of};
 ghost use Rattle.base_text.specs.AbsPath.{abs_text};
 ghost use Rattle.pm_fetch.specs.Fetch.{Answers, HasOutput, fetch_answer, fetch_by, fetch_of, full_line};
+ghost use Rattle.pm_fetch.specs.Lines.{TakesLines};
 ghost use Rattle.pm_fetch.specs.Options.{full_options};
 ghost use Rattle.pm_fetch.specs.Questions.{locked_question};
+ghost use Rattle.pm_fetch.specs.Reports.{fetch_lines, question_lines};
 
 use crate::answers::{of_output, report, without_error};
 use crate::options::{has_unstable, metadata_options, with_unstable};
@@ -79,7 +81,10 @@ impl FetchMetadata {
         runner: &R,
         progress: &mut P,
     ) -> Result<(Metadata, Option<Error>), Error>
-        ensures { Answers result (fetch_answer self locked (R.answers runner.now)) }
+        ensures answer { Answers result (fetch_answer self locked (R.answers runner.now)) }
+        ensures lines { TakesLines (IsErrOf result Error.OutOfMemory)
+            (P.lines progress.old) (P.lines progress.new)
+            (fetch_lines self locked (R.answers runner.now)) }
     {
         let FetchMetadata {
             full,
@@ -147,8 +152,11 @@ fn full_output<R: Runner, P: Progress>(
     runner: &R,
     progress: &mut P,
 ) -> Result<Output, Error>
-    ensures { HasOutput result (locked_question full locked)
+    ensures output { HasOutput result (locked_question full locked)
         (answer_of (R.answers runner.now) (locked_question full locked)) }
+    ensures lines { TakesLines (IsErrOf result Error.OutOfMemory)
+        (P.lines progress.old) (P.lines progress.new)
+        (question_lines (answer_of (R.answers runner.now) (locked_question full locked))) }
 {
     let line = with_lockfile_kept(alloc, full, locked)?;
     line_output(alloc, &line, runner, progress)
@@ -161,13 +169,14 @@ fn line_output<R: Runner, P: Progress>(
     runner: &R,
     progress: &mut P,
 ) -> Result<Output, Error>
-    ensures { HasOutput result line.now (answer_of (R.answers runner.now) line.now) }
+    ensures output { HasOutput result line.now (answer_of (R.answers runner.now) line.now) }
+    ensures lines { TakesLines (IsErrOf result Error.OutOfMemory)
+        (P.lines progress.old) (P.lines progress.new)
+        (question_lines (answer_of (R.answers runner.now) line.now)) }
 {
     progress.line("cargo metadata: started");
     let answer = runner.ask(alloc, line)?;
-    if let Some(output) = &answer {
-        report(alloc, output, progress)?;
-    }
+    report(alloc, &answer, progress)?;
     progress.line("cargo metadata: finished");
     match answer {
         Some(output) => Ok(output),
