@@ -1,6 +1,7 @@
 pub mod Equalities
 mod ArtifactLemmas
 mod LibraryLemmas
+mod LineLemmas
 mod OutputLemmas
 mod PackageLemmas
 mod ReadingLemmas

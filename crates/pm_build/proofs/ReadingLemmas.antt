@@ -23,6 +23,11 @@ refuses_bind e part rest h = refuses_on e part (part >>= rest) (λ x is. ap (λ 
 pub ok_bind : {A B : Type 0} (part : Reading A) (rest : A → Reading B) (x : A) → part ≡ Ok x → (part >>= rest) ≡ rest x
 ok_bind part rest x is = ap (λ r. r >>= rest) is
 
+-- the items before a place, the one at it, and those behind it
+pub split_at : {X : Type 0} (all xs : List X) (x : X) (n : ℕ) → xs ≡ take n all → n < length all → x ≡ get_or all n x → xs ++ x ∷ drop (suc n) all ≡ all
+split_at all xs x n so_far within here =
+    ap (λ l. l ++ x ∷ drop (suc n) all) so_far ∙ ap (λ l. take n all ++ l) (sym (drop-cons all n x within ∙ ap (λ y. y ∷ drop (suc n) all) (sym here))) ∙ take-append-drop n all
+
 module _ {S X : Type 0} (step : S → X → Reading S) where
   -- nothing is taken
   pub take_each-none : (s : S) → take_each step s [] ≡ Ok s
@@ -55,6 +60,4 @@ module _ {S X : Type 0} (step : S → X → Reading S) where
   pub take_each-stopped : (e : BuildError) (s m : S) (all xs : List X) (x : X) (n : ℕ) → xs ≡ take n all → n < length all → x ≡ get_or all n x → take_each step s xs ≡ Ok m
       → Refuses e (step m x) → Refuses e (take_each step s all)
   take_each-stopped e s m all xs x n so_far within here is h =
-      let split : xs ++ x ∷ drop (suc n) all ≡ all =
-      ap (λ l. l ++ x ∷ drop (suc n) all) so_far ∙ ap (λ l. take n all ++ l) (sym (drop-cons all n x within ∙ ap (λ y. y ∷ drop (suc n) all) (sym here))) ∙ take-append-drop n all in
-      subst (λ l. Refuses e (take_each step s l)) split (take_each-refused e s m xs x (drop (suc n) all) is h)
+      subst (λ l. Refuses e (take_each step s l)) (split_at all xs x n so_far within here) (take_each-refused e s m xs x (drop (suc n) all) is h)

@@ -3,6 +3,7 @@ pub mod Build
 pub mod Errors
 pub mod Laws
 pub mod Library
+pub mod Lines
 pub mod Output
 pub mod Outputs
 pub mod Packages

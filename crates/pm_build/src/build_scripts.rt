@@ -1,9 +1,11 @@
 //! What a build gives the packages of a workspace.
 
-ghost use Rattle.std.specs.Prelude.{◌≡◌, IfOk, None, option_copied};
+ghost use Rattle.std.specs.Prelude.{◌≡◌, IfOk, IsErrOf, None, option_copied};
 ghost use Rattle.std.specs.FinMap.{empty, get};
 ghost use Rattle.base_text.specs.Arena.{number_of};
+ghost use Rattle.pm_fetch.specs.Lines.{TakesLines};
 ghost use Rattle.pm_build.specs.Build.{build_of};
+ghost use Rattle.pm_build.specs.Lines.{build_lines, lines_among, lines_of};
 ghost use Rattle.pm_build.specs.Outputs.{outputs_among, outputs_of};
 ghost use Rattle.pm_build.specs.Packages.{lent_packages};
 ghost use Rattle.pm_build.specs.Reading.{Gives};
@@ -71,7 +73,9 @@ impl WorkspaceBuildScripts {
         output: &Output,
         progress: &mut P,
     ) -> Result<WorkspaceBuildScripts, BuildError>
-        ensures { Gives result (outputs_of workspace.now output.now) }
+        ensures outputs { Gives result (outputs_of workspace.now output.now) }
+        ensures lines { TakesLines (IsErrOf result BuildError.OutOfMemory)
+            (P.lines progress.old) (P.lines progress.new) (lines_of workspace.now output.now) }
     {
         let packages = KnownPackages::new(alloc, &[workspace])?;
         WorkspaceBuildScripts::among(alloc, &packages, output, progress)
@@ -84,7 +88,11 @@ impl WorkspaceBuildScripts {
         output: &Output,
         progress: &mut P,
     ) -> Result<WorkspaceBuildScripts, BuildError>
-        ensures { Gives result (outputs_among (lent_packages packages.now.packages) output.now) }
+        ensures outputs { Gives result
+            (outputs_among (lent_packages packages.now.packages) output.now) }
+        ensures lines { TakesLines (IsErrOf result BuildError.OutOfMemory)
+            (P.lines progress.old) (P.lines progress.new)
+            (lines_among (lent_packages packages.now.packages) output.now) }
     {
         let mut builder = OutputsBuilder::new(alloc, packages)?;
         builder.take_lines(alloc, packages, output.out.as_str(), progress)?;
@@ -104,8 +112,12 @@ impl WorkspaceBuildScripts {
         ask: &Ask<'_, R, T>,
         progress: &mut P,
     ) -> Result<WorkspaceBuildScripts, BuildError>
-        ensures { Gives result (build_of config.now workspace.now sysroot.now
+        ensures outputs { Gives result (build_of config.now workspace.now sysroot.now
             (option_copied toolchain.entry) (means_of R.answers T.files ask.now)) }
+        ensures lines { TakesLines (IsErrOf result BuildError.OutOfMemory)
+            (P.lines progress.old) (P.lines progress.new)
+            (build_lines config.now workspace.now sysroot.now (option_copied toolchain.entry)
+            (means_of R.answers T.files ask.now)) }
     {
         let line = build_question(alloc, config, workspace, sysroot, toolchain, ask)?;
         match ask.runner.ask(alloc, &line)? {

@@ -7,6 +7,7 @@ pub mod build_error;
 pub mod build_scripts;
 pub mod laws;
 mod library;
+mod lines;
 pub mod output;
 mod outputs;
 mod packages;

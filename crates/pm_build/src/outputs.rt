@@ -1,13 +1,13 @@
 //! The outputs of packages, and the lines of errors, while the messages of a build are read.
 
-ghost use Rattle.std.specs.Prelude.{◌≡◌, false, fold, length, IfOk, OnOk};
-ghost use Rattle.std.specs.FinMap.{get};
-ghost use Rattle.std.specs.Option.{option_map_or};
+ghost use Rattle.std.specs.Prelude.{◌≡◌, ◌∷◌, ◌<◌, [], fold, length, IfOk, IsErr, IsErrOf, OnOk, Ok, Some};
 ghost use Rattle.std.specs.Str.Lines.{lines};
 ghost use Rattle.base_text.specs.Arena.{number_of};
 ghost use Rattle.pm_reading.specs.Nodes.{place_of_package};
 ghost use Rattle.cargo_diagnostics.specs.declared.diagnostic.Diagnostic.{out-Diagnostic};
-ghost use Rattle.pm_build.specs.Artifact.{gives_library, output_after_artifact};
+ghost use Rattle.pm_fetch.specs.Lines.{TakesLines};
+ghost use Rattle.pm_build.specs.Artifact.{output_after_artifact};
+ghost use Rattle.pm_build.specs.Lines.{artifact_lines, compiler_line, gains_library, lines_from, message_lines, script_lines};
 ghost use Rattle.pm_build.specs.Outputs.{default_outputs, error_of, outputs_after, start_state, take_artifact, take_line, take_message, take_rendered, take_script, with_error, with_line};
 ghost use Rattle.pm_build.specs.Packages.{lent_packages};
 ghost use Rattle.pm_build.specs.Reading.{Leaves, take_each};
@@ -15,6 +15,7 @@ ghost use Rattle.pm_build.specs.Script.{invalid_cfg_line, output_after_script};
 
 use crate::artifact::{gives_library, take_artifact};
 use crate::build_error::BuildError;
+use crate::lines::{report_library, report_message, report_script};
 use crate::output::BuildScriptOutput;
 use crate::packages::KnownPackages;
 use crate::script::{AtomsError, atoms_of, take_script};
@@ -125,12 +126,32 @@ impl OutputsBuilder {
 
     // Whether an artifact gives the package its library.
     fn gains_library(&self, package: Package, artifact: &Artifact) -> bool
-        ensures { result ≡ option_map_or (λ output. gives_library artifact.now
-            output.proc_macro_dylib_path) (get self.now.outputs (number_of «package»)) false }
+        ensures { result ≡ gains_library self.now.outputs artifact.now (number_of «package») }
     {
         match self.outputs.get(package) {
             Some(output) => gives_library(artifact, &output.proc_macro_dylib_path),
             None => false,
+        }
+    }
+
+    // Reports the library that an artifact gives the package, if it gives one.
+    fn report_gain<P: Progress>(
+        &self,
+        alloc: Global,
+        packages: &KnownPackages<'_>,
+        package: Package,
+        artifact: &Artifact,
+        progress: &mut P,
+    ) -> Result<(), AllocError>
+        requires { number_of «package» < length packages.now.packages }
+        ensures { TakesLines (IsErr result) (P.lines progress.old) (P.lines progress.new)
+            (artifact_lines (lent_packages packages.now.packages) self.now.outputs artifact.now
+            (Some (number_of «package»))) }
+    {
+        if self.gains_library(package, artifact) {
+            report_library(alloc, packages, package, progress)
+        } else {
+            Ok(())
         }
     }
 
@@ -142,16 +163,17 @@ impl OutputsBuilder {
         artifact: &Artifact,
         progress: &mut P,
     ) -> Result<(), BuildError>
-        ensures { Leaves result self.new (take_artifact self.old artifact.now
+        ensures leaves { Leaves result self.new (take_artifact self.old artifact.now
+            (place_of_package (lent_packages packages.now.packages) artifact.now.package_id.repr)) }
+        ensures lines { TakesLines (IsErrOf result BuildError.OutOfMemory)
+            (P.lines progress.old) (P.lines progress.new)
+            (artifact_lines (lent_packages packages.now.packages) self.old.outputs artifact.now
             (place_of_package (lent_packages packages.now.packages) artifact.now.package_id.repr)) }
     {
         let Some(package) = packages.find(&artifact.package_id) else {
             return Ok(());
         };
-        if self.gains_library(package, artifact) {
-            let text = format!(in alloc; "proc-macro {} built", packages.name(package))?;
-            progress.line(text.as_str());
-        }
+        self.report_gain(alloc, packages, package, artifact, progress)?;
         change_by_artifact(alloc, &mut self.outputs, package, artifact)
     }
 
@@ -164,14 +186,17 @@ impl OutputsBuilder {
         script: &mut BuildScript,
         progress: &mut P,
     ) -> Result<(), BuildError>
-        ensures { Leaves result self.new (take_script self.old script.old
+        ensures leaves { Leaves result self.new (take_script self.old script.old
+            (place_of_package (lent_packages packages.now.packages) script.old.package_id.repr)) }
+        ensures lines { TakesLines (IsErrOf result BuildError.OutOfMemory)
+            (P.lines progress.old) (P.lines progress.new)
+            (script_lines (lent_packages packages.now.packages)
             (place_of_package (lent_packages packages.now.packages) script.old.package_id.repr)) }
     {
         let Some(package) = packages.find(&script.package_id) else {
             return Ok(());
         };
-        let text = format!(in alloc; "build script {} run", packages.name(package))?;
-        progress.line(text.as_str());
+        report_script(alloc, packages, package, progress)?;
         match atoms_of(alloc, script.cfgs.as_slice()) {
             Ok(atoms) => change_by_script(alloc, &mut self.outputs, package, script, atoms),
             Err(AtomsError::Invalid(cfg)) => Ok(self.push_invalid(alloc, cfg.as_str())?),
@@ -186,12 +211,12 @@ impl OutputsBuilder {
         message: &CompilerMessage,
         progress: &mut P,
     ) -> Result<(), AllocError>
-        ensures { OnOk result (self.new
+        ensures ok { OnOk result (self.new
             ≡ take_rendered self.old (out-Diagnostic message.now.message).rendered) }
+        ensures lines { TakesLines (IsErr result) (P.lines progress.old) (P.lines progress.new)
+            (compiler_line message.now.target.name ∷ []) }
     {
-        let target = message.target.name.as_str();
-        let text = format!(in alloc; "received compiler message for: {target}")?;
-        progress.line(text.as_str());
+        report_message(alloc, message.target.name.as_str(), progress)?;
         match &message.message.rendered {
             Some(rendered) => self.push_error(rendered.as_str()),
             None => Ok(()),
@@ -206,8 +231,11 @@ impl OutputsBuilder {
         message: Message,
         progress: &mut P,
     ) -> Result<(), BuildError>
-        ensures { Leaves result self.new
+        ensures leaves { Leaves result self.new
             (take_message (lent_packages packages.now.packages) self.old message) }
+        ensures lines { TakesLines (IsErrOf result BuildError.OutOfMemory)
+            (P.lines progress.old) (P.lines progress.new)
+            (message_lines (lent_packages packages.now.packages) self.old.outputs message) }
     {
         match message {
             Message::CompilerArtifact(artifact) => {
@@ -232,8 +260,11 @@ impl OutputsBuilder {
         out: &str,
         progress: &mut P,
     ) -> Result<(), BuildError>
-        ensures { Leaves result self.new
+        ensures leaves { Leaves result self.new
             (take_each (take_line (lent_packages packages.now.packages)) self.old (lines out.now)) }
+        ensures lines { TakesLines (IsErrOf result BuildError.OutOfMemory)
+            (P.lines progress.old) (P.lines progress.new)
+            (lines_from (lent_packages packages.now.packages) (Ok self.old) (lines out.now)) }
     {
         for line in out.lines() {
             let message = Message::of_line(alloc, line)?;

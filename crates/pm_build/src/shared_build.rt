@@ -1,7 +1,9 @@
 //! One build of several workspaces. Outputs go by the ids of packages, so that all packages of an id have one output.
 
-ghost use Rattle.std.specs.Prelude.{◌≡◌, IfOk, option_copied};
-ghost use Rattle.pm_build.specs.Packages.{lent_workspaces};
+ghost use Rattle.std.specs.Prelude.{◌≡◌, IfOk, IsErrOf, option_copied};
+ghost use Rattle.pm_fetch.specs.Lines.{TakesLines};
+ghost use Rattle.pm_build.specs.Lines.{lines_among, shared_lines};
+ghost use Rattle.pm_build.specs.Packages.{lent_workspaces, packages_of_all};
 ghost use Rattle.pm_build.specs.Reading.{Gives};
 ghost use Rattle.pm_build.specs.SharedBuild as spec;
 
@@ -58,8 +60,11 @@ impl<'a> SharedBuild<'a> {
         runner: &R,
         progress: &mut P,
     ) -> Result<SharedBuild<'a>, BuildError>
-        ensures { Gives result (spec.shared_build line.now (lent_workspaces workspaces.now)
+        ensures outputs { Gives result (spec.shared_build line.now (lent_workspaces workspaces.now)
             (R.answers runner.now)) }
+        ensures lines { TakesLines (IsErrOf result BuildError.OutOfMemory)
+            (P.lines progress.old) (P.lines progress.new)
+            (shared_lines line.now (lent_workspaces workspaces.now) (R.answers runner.now)) }
     {
         match runner.ask(alloc, line)? {
             Some(output) => SharedBuild::of_output(alloc, workspaces, &output, progress),
@@ -74,8 +79,11 @@ impl<'a> SharedBuild<'a> {
         output: &Output,
         progress: &mut P,
     ) -> Result<SharedBuild<'a>, BuildError>
-        ensures { Gives result
+        ensures outputs { Gives result
             (spec.shared_outputs (lent_workspaces workspaces.now) output.now) }
+        ensures lines { TakesLines (IsErrOf result BuildError.OutOfMemory)
+            (P.lines progress.old) (P.lines progress.new)
+            (lines_among (packages_of_all (lent_workspaces workspaces.now)) output.now) }
     {
         let packages = KnownPackages::new(alloc, workspaces)?;
         let scripts = WorkspaceBuildScripts::among(alloc, &packages, output, progress)?;
