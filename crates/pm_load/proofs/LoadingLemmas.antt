@@ -1,5 +1,6 @@
 -- A load step by step: a step that is refused refuses the load, and else the load goes on with what the step gave.
-use Rattle.std.proofs.Common.{◌≡◌, Result, Ok, Err, sym, ap, subst}
+use Rattle.std.proofs.Common.{◌≡◌, Result, Ok, Err, refl, sym, ap, subst}
+use Rattle.std.specs.Prelude.{IsErrOf}
 use Rattle.cargo_values.specs.declared.errors.Error as metadata
 use Rattle.cargo_values.specs.declared.errors.Error.TheVariants as unread
 use Rattle.pm_fetch.specs.Fetch.{Answers, FetchAnswer}
@@ -29,6 +30,19 @@ refuses_first (NoParent text) step next h = ap (λ s. s >>= next) h
 refuses_first (UnknownPackage id) step next h = ap (λ s. s >>= next) h
 refuses_first (TooMany limit) step next h = ap (λ s. s >>= next) h
 refuses_first OutOfMemory step next h = record {}
+
+-- what refuses a part is its error, unless memory ran out
+pub refused_is : {T A : Type 0} (e : LoadError) (part : Loading A) → ¬ IsErrOf {T = T} (Err e) OutOfMemory → Refuses e part → part ≡ Err e
+refused_is (NoSuchFile path) part unless h = h
+refused_is (CargoMetadata stderr) part unless h = h
+refused_is (Io line) part unless h = h
+refused_is (Json field) part unless h = h
+refused_is NoJson part unless h = h
+refused_is (NotAbsolute text) part unless h = h
+refused_is (NoParent text) part unless h = h
+refused_is (UnknownPackage id) part unless h = h
+refused_is (TooMany limit) part unless h = h
+refused_is OutOfMemory part unless h = absurd (unless refl)
 
 -- the load goes on with what a step gave
 pub gives_next : {A B : Type 0} (r : Result B LoadError) (step : Loading A) (x : A) (next : A → Loading B) → step ≡ Ok x → Gives r (next x) → Gives r (step >>= next)

@@ -6,6 +6,7 @@ use Rattle.pm_config.specs.declared.config.CargoConfig.{CargoConfig}
 use Rattle.pm_config.specs.declared.metadata_config.CargoMetadataConfig.{CargoMetadataConfig}
 use Rattle.pm_config.specs.declared.tool_root.ToolRoot.{ToolRoot}
 use Rattle.pm_fetch.specs.Fetch.{FetchAnswer, fetch_answer, fetch_of}
+use Rattle.pm_fetch.specs.Reports.{fetch_lines}
 use Rattle.pm_load.specs.ToolAnswers.{reference}
 use Rattle.pm_load.specs.declared.tool_answers.ToolAnswers.{ToolAnswers}
 use Rattle.pm_packages.specs.ManifestPath.{directory_of}
@@ -31,9 +32,17 @@ metadata_config config answers = record {
 abbrev pub fetched_as : List ℕ → CargoMetadataConfig → ToolRoot → Bool → List (Question × Output) → FetchAnswer
 fetched_as manifest asked root no_deps answers = fetch_answer (fetch_of manifest (directory_of manifest) asked root no_deps answers) false answers
 
+-- the lines while it is fetched so
+abbrev pub fetched_lines : List ℕ → CargoMetadataConfig → ToolRoot → Bool → List (Question × Output) → List (List ℕ)
+fetched_lines manifest asked root no_deps answers = fetch_lines (fetch_of manifest (directory_of manifest) asked root no_deps answers) false answers
+
 -- the metadata of the manifest's workspace
 unfoldable pub metadata_answer : Toolchain → List ℕ → CargoConfig → ToolAnswers → Means → FetchAnswer
 metadata_answer sysroot manifest config answers means = fetched_as manifest (metadata_config config answers) (tool_root sysroot means) config.no_deps means.answers
+
+-- the lines while it is fetched
+unfoldable pub metadata_lines : Toolchain → List ℕ → CargoConfig → ToolAnswers → Means → List (List ℕ)
+metadata_lines sysroot manifest config answers means = fetched_lines manifest (metadata_config config answers) (tool_root sysroot means) config.no_deps means.answers
 
 -- the environment of the workspace: that of the printed configuration, and then what is configured
 unfoldable pub environment : Option (List ℕ) → CargoConfig → Means → Environment

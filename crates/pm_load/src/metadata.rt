@@ -1,11 +1,12 @@
 //! The metadata of a workspace, and what stands beside it.
 
-ghost use Rattle.std.specs.Prelude.{◌≡◌, IfOk, codes, option_copied};
+ghost use Rattle.std.specs.Prelude.{◌≡◌, IfOk, IsErrOf, codes, option_copied};
 ghost use Rattle.std.specs.Option.{option_map};
 ghost use Rattle.cargo_values.specs.Errors.{error_text};
+ghost use Rattle.pm_fetch.specs.Lines.{TakesLines};
 ghost use Rattle.pm_load.specs.Loading.{Gives, of_fetch};
 ghost use Rattle.pm_load.specs.Metadata as spec;
-ghost use Rattle.pm_load.specs.Metadata.{metadata_answer, fetched_as};
+ghost use Rattle.pm_load.specs.Metadata.{fetched_as, fetched_lines, metadata_answer, metadata_lines};
 ghost use Rattle.pm_sysroot.specs.Ask.{means_of};
 
 use crate::load_error::LoadError;
@@ -53,8 +54,11 @@ fn fetch_as<R: Runner, P: Progress>(
     runner: &R,
     progress: &mut P,
 ) -> Result<(Metadata, Option<MetadataError>), LoadError>
-    ensures { Gives result (of_fetch (fetched_as manifest.now asked.now root.now no_deps
+    ensures answer { Gives result (of_fetch (fetched_as manifest.now asked.now root.now no_deps
         (R.answers runner.now))) }
+    ensures lines { TakesLines (IsErrOf result LoadError.OutOfMemory)
+        (P.lines progress.old) (P.lines progress.new)
+        (fetched_lines manifest.now asked.now root.now no_deps (R.answers runner.now)) }
 {
     let dir = manifest.parent();
     let fetch = FetchMetadata::new(alloc, manifest, dir, asked, root, no_deps, runner)?;
@@ -62,7 +66,7 @@ fn fetch_as<R: Runner, P: Progress>(
 }
 
 /// The metadata of the workspace of a manifest, and beside it the error of the full question where the
-/// light answer stands in for it.
+/// light answer stands in for it. `progress` takes the lines of [`exec`](FetchMetadata::exec).
 #[tactic(auto, unfolding(crate::specs::Metadata::metadata_answer))]
 pub fn fetch<R: Runner, T: Tree, P: Progress>(
     alloc: Global,
@@ -73,8 +77,12 @@ pub fn fetch<R: Runner, T: Tree, P: Progress>(
     ask: &Ask<'_, R, T>,
     progress: &mut P,
 ) -> Result<(Metadata, Option<MetadataError>), LoadError>
-    ensures { Gives result (of_fetch (metadata_answer sysroot.now manifest.now config.now answers.now
-        (means_of R.answers T.files ask.now))) }
+    ensures answer { Gives result (of_fetch (metadata_answer sysroot.now manifest.now config.now
+        answers.now (means_of R.answers T.files ask.now))) }
+    ensures lines { TakesLines (IsErrOf result LoadError.OutOfMemory)
+        (P.lines progress.old) (P.lines progress.new)
+        (metadata_lines sysroot.now manifest.now config.now answers.now
+        (means_of R.answers T.files ask.now)) }
 {
     let asked = metadata_config(alloc, config, answers)?;
     let root = sysroot.tool_root(alloc, ask)?;
