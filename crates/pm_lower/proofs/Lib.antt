@@ -2,4 +2,5 @@ mod BuildLemmas
 mod DetachedLemmas
 mod EqualityLemmas
 mod JsonLemmas
+mod LineLemmas
 mod ProjectLemmas

@@ -2,6 +2,7 @@ pub mod Builds
 pub mod DetachedProject
 pub mod Equality
 pub mod JsonProject
+pub mod Lines
 pub mod Project
 pub mod Order
 pub mod ProjectWorkspace

@@ -1,11 +1,14 @@
 //! Builds of projects: what they give, and a project with the outputs of one.
 
-ghost use Rattle.std.specs.Prelude.{◌≡◌, map, IfOk, option_copied};
+ghost use Rattle.std.specs.Prelude.{◌≡◌, flat_map, map, IfOk, IsErr, IsErrOf, option_copied};
+ghost use Rattle.pm_build.specs.Lines.{shared_lines};
 ghost use Rattle.pm_build.specs.Packages.{lent_workspaces};
 ghost use Rattle.pm_build.specs.Reading.{Gives};
 ghost use Rattle.pm_build.specs.SharedBuild.{shared_build};
 ghost use Rattle.pm_lower.specs.Builds.{GivesEach, TakesBuild, all_builds, built_script, built_workspace, command_for_all, kind_share};
 ghost use Rattle.pm_lower.specs.Builds.{project_build, project_outputs, unless_light, with_build_scripts, workspaces_of};
+ghost use Rattle.pm_fetch.specs.Lines.{TakesLines};
+ghost use Rattle.pm_lower.specs.Lines.{all_build_lines, project_build_lines, project_output_lines};
 ghost use Rattle.pm_sysroot.specs.Ask.{means_of};
 
 use crate::project_workspace::{ProjectWorkspace, ProjectWorkspaceKind, ScriptWorkspace};
@@ -32,8 +35,11 @@ impl ProjectWorkspace {
         ask: &Ask<'_, R, T>,
         progress: &mut P,
     ) -> Result<WorkspaceBuildScripts, BuildError>
-        ensures { Gives result
+        ensures outputs { Gives result
             (project_build config.now (means_of R.answers T.files ask.now) self.now) }
+        ensures lines { TakesLines (IsErrOf result BuildError.OutOfMemory)
+            (P.lines progress.old) (P.lines progress.new)
+            (project_build_lines config.now (means_of R.answers T.files ask.now) self.now) }
     {
         let Some(cargo) = self.built_workspace() else {
             return Ok(WorkspaceBuildScripts::new(alloc));
@@ -46,7 +52,8 @@ impl ProjectWorkspace {
 
     /// What builds of the projects give each of them. Where a command is configured that is run once, its
     /// answer in the directory counts for all, and each package has the output of its id; a refusal is that of
-    /// each project. Else each project is built by [`run_build_scripts`](ProjectWorkspace::run_build_scripts).
+    /// each project. Else each project is built by [`run_build_scripts`](ProjectWorkspace::run_build_scripts). Out of
+    /// memory ends the call, whichever build ran out of it.
     pub fn run_all_build_scripts<R: Runner, T: Tree, P: Progress>(
         alloc: Global,
         workspaces: &[ProjectWorkspace],
@@ -55,8 +62,11 @@ impl ProjectWorkspace {
         ask: &Ask<'_, R, T>,
         progress: &mut P,
     ) -> Result<Items<BuildResult>, AllocError>
-        ensures { IfOk result (λ each. GivesEach each (all_builds workspaces.now config.now
+        ensures outputs { IfOk result (λ each. GivesEach each (all_builds workspaces.now config.now
             dir.now (means_of R.answers T.files ask.now))) }
+        ensures lines { TakesLines (IsErr result) (P.lines progress.old) (P.lines progress.new)
+            (all_build_lines workspaces.now config.now dir.now
+            (means_of R.answers T.files ask.now)) }
     {
         match command_for_all(alloc, config, dir, ask)? {
             Some(line) => run_once(alloc, workspaces, &line, ask.runner, progress),
@@ -72,7 +82,10 @@ impl ProjectWorkspace {
         output: &Output,
         progress: &mut P,
     ) -> Result<WorkspaceBuildScripts, BuildError>
-        ensures { Gives result (project_outputs self.now output.now) }
+        ensures outputs { Gives result (project_outputs self.now output.now) }
+        ensures lines { TakesLines (IsErrOf result BuildError.OutOfMemory)
+            (P.lines progress.old) (P.lines progress.new)
+            (project_output_lines self.now output.now) }
     {
         match self.built_workspace() {
             Some(cargo) => WorkspaceBuildScripts::of_output(alloc, cargo, output, progress),
@@ -155,14 +168,36 @@ fn run_each<R: Runner, T: Tree, P: Progress>(
     ask: &Ask<'_, R, T>,
     progress: &mut P,
 ) -> Result<Items<BuildResult>, AllocError>
-    ensures { IfOk result (λ each. GivesEach each (map
+    ensures outputs { IfOk result (λ each. GivesEach each (map
         (project_build config.now (means_of R.answers T.files ask.now)) projects.now)) }
+    ensures lines { TakesLines (IsErr result) (P.lines progress.old) (P.lines progress.new)
+        (flat_map (project_build_lines config.now (means_of R.answers T.files ask.now))
+        projects.now) }
 {
     let mut each = Vec::with_capacity(alloc, projects.len())?;
     for project in projects {
-        each.push(project.run_build_scripts(alloc, config, ask, progress))?;
+        each.push(run_one(alloc, project, config, ask, progress)?)?;
     }
     Ok(Items::new(each))
+}
+
+// What a build of its own gives a project.
+fn run_one<R: Runner, T: Tree, P: Progress>(
+    alloc: Global,
+    project: &ProjectWorkspace,
+    config: &CargoConfig,
+    ask: &Ask<'_, R, T>,
+    progress: &mut P,
+) -> Result<BuildResult, AllocError>
+    ensures outputs { IfOk result (λ given. Gives given
+        (project_build config.now (means_of R.answers T.files ask.now) project.now)) }
+    ensures lines { TakesLines (IsErr result) (P.lines progress.old) (P.lines progress.new)
+        (project_build_lines config.now (means_of R.answers T.files ask.now) project.now) }
+{
+    match project.run_build_scripts(alloc, config, ask, progress) {
+        Err(BuildError::OutOfMemory) => Err(AllocError),
+        given => Ok(given),
+    }
 }
 
 // What one build by this command gives each project.
@@ -173,13 +208,34 @@ fn run_once<R: Runner, P: Progress>(
     runner: &R,
     progress: &mut P,
 ) -> Result<Items<BuildResult>, AllocError>
-    ensures { IfOk result (λ each. GivesEach each (map (λ p. kind_share
+    ensures outputs { IfOk result (λ each. GivesEach each (map (λ p. kind_share
         (shared_build line.now (workspaces_of projects.now) (R.answers runner.now)) p.kind)
         projects.now)) }
+    ensures lines { TakesLines (IsErr result) (P.lines progress.old) (P.lines progress.new)
+        (shared_lines line.now (workspaces_of projects.now) (R.answers runner.now)) }
 {
     let workspaces = workspaces_of(alloc, projects)?;
-    let build = SharedBuild::run(alloc, line, workspaces.as_slice(), runner, progress);
+    let build = run_shared(alloc, line, workspaces.as_slice(), runner, progress)?;
     shares_of(alloc, &build, projects)
+}
+
+// One build of some workspaces.
+fn run_shared<'a, R: Runner, P: Progress>(
+    alloc: Global,
+    line: &CommandLine,
+    workspaces: &[&'a CargoWorkspace],
+    runner: &R,
+    progress: &mut P,
+) -> Result<Result<SharedBuild<'a>, BuildError>, AllocError>
+    ensures outputs { IfOk result (λ build. Gives build
+        (shared_build line.now (lent_workspaces workspaces.now) (R.answers runner.now))) }
+    ensures lines { TakesLines (IsErr result) (P.lines progress.old) (P.lines progress.new)
+        (shared_lines line.now (lent_workspaces workspaces.now) (R.answers runner.now)) }
+{
+    match SharedBuild::run(alloc, line, workspaces, runner, progress) {
+        Err(BuildError::OutOfMemory) => Err(AllocError),
+        build => Ok(build),
+    }
 }
 
 // The workspaces that a build of all projects covers.

@@ -1,7 +1,12 @@
 //! Loading a project of cargo: what is asked, and in which order.
 
-ghost use Rattle.std.specs.Prelude.{◌≡◌, IfOk};
+ghost use Rattle.std.specs.Prelude.{◌≡◌, IfOk, IsErrOf};
+ghost use Rattle.pm_fetch.specs.Lines.{TakesLines};
 ghost use Rattle.pm_load.specs.Loading.{Gives};
+ghost use Rattle.pm_load.specs.Metadata.{metadata_lines};
+ghost use Rattle.pm_load.specs.ToolAnswers.{tool_answers};
+ghost use Rattle.pm_load.specs.declared.tool_answers.PlatformAsked.TheVariants.{FirstTarget};
+ghost use Rattle.pm_lower.specs.Lines.{cargo_lines};
 ghost use Rattle.pm_lower.specs.Project as spec;
 ghost use Rattle.pm_sysroot.specs.Ask.{means_of};
 
@@ -132,7 +137,11 @@ fn located_project<R: Runner, T: Tree, P: Progress>(
     ask: &Ask<'_, R, T>,
     progress: &mut P,
 ) -> Result<ProjectWorkspace, LoadError>
-    ensures { Gives result (spec.located_project sysroot manifest config.now limits.now
+    ensures project { Gives result (spec.located_project sysroot manifest config.now limits.now
+        (means_of R.answers T.files ask.now)) }
+    ensures lines { TakesLines (IsErrOf result LoadError.OutOfMemory)
+        (P.lines progress.old) (P.lines progress.new) (metadata_lines sysroot manifest config.now
+        (tool_answers sysroot manifest FirstTarget config.now (means_of R.answers T.files ask.now))
         (means_of R.answers T.files ask.now)) }
 {
     let settings = settings_of(alloc, config)?;
@@ -156,8 +165,11 @@ pub(crate) fn cargo_project<R: Runner, T: Tree, P: Progress>(
     ask: &Ask<'_, R, T>,
     progress: &mut P,
 ) -> Result<ProjectWorkspace, LoadError>
-    ensures { Gives result (spec.cargo_project sysroot manifest.now config.now limits.now
+    ensures project { Gives result (spec.cargo_project sysroot manifest.now config.now limits.now
         (means_of R.answers T.files ask.now)) }
+    ensures lines { TakesLines (IsErrOf result LoadError.OutOfMemory)
+        (P.lines progress.old) (P.lines progress.new)
+        (cargo_lines sysroot manifest.now config.now (means_of R.answers T.files ask.now)) }
 {
     progress.line("discovering sysroot");
     let located = located_manifest(alloc, &sysroot, manifest, ask)?;

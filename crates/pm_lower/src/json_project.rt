@@ -1,11 +1,13 @@
 //! Loading a JSON project: the project of its document, and what the compiler of its toolchain says.
 
-ghost use Rattle.std.specs.Prelude.{◌≡◌, IfOk};
+ghost use Rattle.std.specs.Prelude.{◌≡◌, ◌∷◌, [], IfOk, IsErr, IsErrOf};
+ghost use Rattle.pm_fetch.specs.Lines.{TakesLines};
 ghost use Rattle.pm_json.specs.Queries.{root_of};
 ghost use Rattle.pm_load.specs.Compiler.{compiler_answers};
 ghost use Rattle.pm_load.specs.JsonDocument as stated;
 ghost use Rattle.pm_load.specs.Loading.{Gives};
 ghost use Rattle.pm_lower.specs.JsonProject as spec;
+ghost use Rattle.pm_lower.specs.Lines.{lines_of_document, metadata_line, sysroot_line};
 ghost use Rattle.pm_sysroot.specs.Ask.{means_of};
 
 use crate::cargo_project::{Settings, project_of, settings_of};
@@ -32,6 +34,8 @@ fn ask_stated<R: Runner, T: Tree, P: Progress>(
     ensures sysroot { IfOk result (λ said. said.0 ≡ stated.stated_sysroot project.now) }
     ensures answers { IfOk result (λ said. said.1 ≡ compiler_answers (stated.stated_sysroot project.now)
         (root_of project.now) config.now.target (means_of R.answers T.files ask.now)) }
+    ensures lines { TakesLines (IsErr result) (P.lines progress.old) (P.lines progress.new)
+        (sysroot_line ∷ metadata_line ∷ []) }
 {
     progress.line("discovering sysroot");
     let sysroot = stated_sysroot(alloc, project)?;
@@ -55,8 +59,10 @@ fn inline_project<R: Runner, T: Tree, P: Progress>(
       extra_includes = config.now.extra_includes;
       set_test = config.now.set_test;
     } }
-    ensures { IfOk result (λ loaded. loaded
+    ensures project { IfOk result (λ loaded. loaded
         ≡ spec.inline_project project config.now (means_of R.answers T.files ask.now)) }
+    ensures lines { TakesLines (IsErr result) (P.lines progress.old) (P.lines progress.new)
+        (sysroot_line ∷ metadata_line ∷ []) }
 {
     let (sysroot, answers) = ask_stated(alloc, &project, config, ask, progress)?;
     let kind = ProjectWorkspaceKind::Json(project);
@@ -73,8 +79,11 @@ pub(crate) fn json_project<R: Runner, T: Tree, P: Progress>(
     ask: &Ask<'_, R, T>,
     progress: &mut P,
 ) -> Result<ProjectWorkspace, LoadError>
-    ensures { Gives result (spec.json_project path.now config.now limits.now
+    ensures project { Gives result (spec.json_project path.now config.now limits.now
         (means_of R.answers T.files ask.now)) }
+    ensures lines { TakesLines (IsErrOf result LoadError.OutOfMemory)
+        (P.lines progress.old) (P.lines progress.new)
+        (lines_of_document (stated.json_content path.now limits.now (T.files ask.now.tree.now))) }
 {
     let settings = settings_of(alloc, config)?;
     let project = json_content(alloc, path, limits, ask.tree)?;

@@ -1,6 +1,9 @@
 //! Loading a project by the kind of its manifest.
 
+ghost use Rattle.std.specs.Prelude.{IsErrOf};
+ghost use Rattle.pm_fetch.specs.Lines.{TakesLines};
 ghost use Rattle.pm_load.specs.Loading.{Gives};
+ghost use Rattle.pm_lower.specs.Lines.{load_lines};
 ghost use Rattle.pm_lower.specs.ReadProject.{IsPlain, read_project};
 ghost use Rattle.pm_sysroot.specs.Ask.{means_of};
 
@@ -28,8 +31,11 @@ impl ProjectWorkspace {
         progress: &mut P,
     ) -> Result<ProjectWorkspace, LoadError>
         requires { IsPlain config.now (means_of R.answers T.files ask.now) }
-        ensures { Gives result (read_project manifest.now config.now limits.now
+        ensures project { Gives result (read_project manifest.now config.now limits.now
             (means_of R.answers T.files ask.now)) }
+        ensures lines { TakesLines (IsErrOf result LoadError.OutOfMemory)
+            (P.lines progress.old) (P.lines progress.new)
+            (load_lines manifest.now config.now limits.now (means_of R.answers T.files ask.now)) }
     {
         match manifest {
             ProjectManifest::ProjectJson(path) => {
