@@ -1,88 +1,114 @@
--- A text has one cut at its last slash, and the cut of a clean text takes its last component off.
-use Rattle.std.proofs.Common.{◌≡◌, ℕ, ◌-◌, ◌+◌, ◌<◌, ◌≤◌, ◌≢◌, ◌==◌, false, List, [], ◌∷◌, ◌++◌, length, get_or, take, drop, Option, Some, None, MatchOption, Bor, refl, sym, ap, ◌∙◌, arith, length-append, true≢false}
-use Rattle.std.proofs.lemmas.Bool.{ne_eqb, eq-eqb}
-use Rattle.std.proofs.lemmas.List.{take-append-drop, take_all, take_more}
-use Rattle.std.proofs.Math.Seq.{take-append_seam}
-use Rattle.std.proofs.lemmas.List.Elements.{All-from_get_or, All-from_recursion, All-take, recursion_from_All}
-use Rattle.std.proofs.lemmas.Str.Pattern.{NoCharPasses-char, drop_at_char}
-use Rattle.std.specs.Str.Pattern.{RFindsChar}
-use Rattle.base_text.specs.Paths.{components, with_slashes, without_last}
-use Rattle.base_text.specs.Rows.{IsCutAtLast, IsRow, IsSlashed, Lacks}
-use Rattle.base_text.proofs.Names.{components_are_names, row_of_names, slashed-push, AreNames, IsName}
+-- What one more byte does to the lines of some bytes.
+use Rattle.std.proofs.Common.{◌≡◌, ℕ, Bool, true, false, cond, List, [], ◌∷◌, ◌++◌, ◌==◌, refl, sym, ap, subst, ◌∙◌, append_assoc, append-nil}
+use Rattle.std.specs.List.{slice_split, onto_first}
+use Rattle.std.proofs.lemmas.Grind.{common_steps}
+use Rattle.std.proofs.Common.{arith}
+use Rattle.base_text.specs.Lines.{newline, pieces, front, final, whole_lines, partial_line}
+use Rattle.base_text.specs.Reader.{IsFrontOf}
 
--- a text in which a search finds no `at` lacks it
-pub Lacks-from_reads : (at : ℕ) (text : List ℕ) → ((k : ℕ) → k < length text → get_or text k 0 ≢ at) → Lacks at text
-Lacks-from_reads at text h =
-    recursion_from_All (λ b. (b == at) ≡ false) text (All-from_get_or (λ b. (b == at) ≡ false) text 0 (λ k l. ne_eqb _ at (h k l)))
+front-snoc : (ps : List (List ℕ)) (p : List ℕ) → front (ps ++ p ∷ []) ≡ ps
+front-snoc [] p = refl
+front-snoc (q ∷ []) p = refl
+front-snoc (q ∷ r ∷ ps) p = ap (λ l. q ∷ l) (front-snoc (r ∷ ps) p)
 
--- what a search from the end gives is the cut at the last `at`
-pub cut_at_last : (at : ℕ) (text : List ℕ) (r : Option (Bor (List ℕ) × Bor (List ℕ))) → at < 128 → MatchOption r (RFindsChar at text None) (λ x. (i : ℕ) × (j : ℕ) × RFindsChar at text (Some (i, j)) × (x.0.now ≡ take i text) × (x.1.now ≡ drop j text) × (i ≤ j) × (length x.0.now ≡ i) × (length x.1.now + j ≡ length text)) → MatchOption r (Lacks at text) (λ x. IsCutAtLast at text x.0.now x.1.now)
-cut_at_last at text None small h = Lacks-from_reads at text (λ k l. NoCharPasses-char at text k h small l)
-cut_at_last at text (Some x) small h =
-    let whole : text ≡ take h.0 text ++ at ∷ drop h.1 text = sym (take-append-drop h.0 text) ∙ ap (λ rest. take h.0 text ++ rest) (drop_at_char at text h.0 h.1 h.2.1 small) in
-    let no_more : Lacks at (drop h.1 text) = Lacks-from_reads at (drop h.1 text) (λ k l. NoCharPasses-char at (drop h.1 text) k h.2.0 small l) in
-    record { parts = whole ∙ (rw (h.3, h.4) refl); last = rw h.4 no_more }
+final-snoc : (ps : List (List ℕ)) (p : List ℕ) → final (ps ++ p ∷ []) ≡ p
+final-snoc [] p = refl
+final-snoc (q ∷ []) p = refl
+final-snoc (q ∷ r ∷ ps) p = final-snoc (r ∷ ps) p
 
--- behind an `at` there is one
-pub Lacks-not_at : (at : ℕ) (xs ys : List ℕ) → Lacks at (xs ++ at ∷ ys) → ⊥
-Lacks-not_at at [] ys h = true≢false (sym (eq-eqb at at refl) ∙ h.0)
-Lacks-not_at at (x ∷ xs) ys h = Lacks-not_at at xs ys h.1
+-- a list that is not empty is its front and its last
+front-final : (p : List ℕ) (ps : List (List ℕ)) → front (p ∷ ps) ++ final (p ∷ ps) ∷ [] ≡ p ∷ ps
+front-final p [] = refl
+front-final p (q ∷ ps) = ap (λ l. p ∷ l) (front-final q ps)
 
--- two cuts of one text at its last `at` are one
-pub same_cut : (at : ℕ) (xs ys front back : List ℕ) → xs ++ at ∷ ys ≡ front ++ at ∷ back → Lacks at ys → Lacks at back → (front ≡ xs) × (back ≡ ys)
-same_cut at [] ys [] back e h k = (refl, cc)
-same_cut at [] ys (y ∷ front) back e h k =
-    let inside : ys ≡ front ++ at ∷ back = cc in
-    absurd (Lacks-not_at at front back (rw inside at h))
-same_cut at (x ∷ xs) ys [] back e h k =
-    let inside : back ≡ xs ++ at ∷ ys = cc in
-    absurd (Lacks-not_at at xs ys (rw inside at k))
-same_cut at (x ∷ xs) ys (y ∷ front) back e h k =
-    let first : y ≡ x = cc in
-    let rest : xs ++ at ∷ ys ≡ front ++ at ∷ back = cc in
-    let tails = same_cut at xs ys front back rest h k in
-    (cc, tails.1)
+-- the first piece, and the pieces behind it
+pub record Parts (ps : List (List ℕ)) : Type 0 where
+  pub first : List ℕ
+  pub others : List (List ℕ)
+  pub is : ps ≡ first ∷ others
 
--- a list that is not empty is the others and its last
-pub ends : (part : List ℕ) (parts : List (List ℕ)) → part ∷ parts ≡ without_last (part ∷ parts) ++ get_or (part ∷ parts) (length parts) [] ∷ []
-ends part parts =
-    let all : take (length parts + 1) (part ∷ parts) ≡ part ∷ parts = take_all _ _ (omega arith) in
-    let others : length parts ≡ length (part ∷ parts) - 1 = omega arith in
-    sym all
-    ∙ take_more (part ∷ parts) (length parts) [] (omega arith)
-    ∙ ap (λ n. take n (part ∷ parts) ++ get_or (part ∷ parts) (length parts) [] ∷ []) others
+pub parts_of : (p : ℕ → Bool) (bs : List ℕ) → Parts (slice_split p bs)
+parts_of p [] = record { first = []; others = []; is = refl }
+parts_of p (b ∷ bs) =
+    let r = parts_of p bs in
+    elim (p b) as (λ v. Parts (cond v ([] ∷ slice_split p bs) (onto_first b (slice_split p bs)))) [
+      | true ↦ record { first = []; others = slice_split p bs; is = refl }
+      | false ↦ record { first = b ∷ r.first; others = r.others; is = ap (onto_first b) r.is }
+    ]
 
--- the last of names is one
-pub last_name : (part : List ℕ) (parts : List (List ℕ)) → AreNames (part ∷ parts) → IsName (get_or (part ∷ parts) (length parts) [])
-last_name part [] h = h.0
-last_name part (next ∷ parts) h = last_name next parts h.1
+front-final-pieces : (bs : List ℕ) → front (pieces bs) ++ final (pieces bs) ∷ [] ≡ pieces bs
+front-final-pieces bs =
+    let r = parts_of (λ b. b == newline) bs in
+    rw r.is (front-final r.first r.others)
 
--- a row of names is cut at its last slash into the row without the last name, and that name
-pub slashed_cut : (part : List ℕ) (parts : List (List ℕ)) (front back : List ℕ) → AreNames (part ∷ parts) → IsCutAtLast 47 (with_slashes (part ∷ parts)) front back → (front ≡ with_slashes (without_last (part ∷ parts))) × (back ≡ get_or (part ∷ parts) (length parts) [])
-slashed_cut part parts front back h cut =
-    same_cut 47 _ _ front back (sym (ap with_slashes (ends part parts) ∙ slashed-push _ _) ∙ cut.parts) (last_name part parts h).unbroken cut.last
+-- a cut behind the last byte
+split-cut : (p : ℕ → Bool) (bs : List ℕ) (b : ℕ) → p b ≡ true → slice_split p (bs ++ b ∷ []) ≡ slice_split p bs ++ [] ∷ []
+split-cut p [] b h = rw h refl
+split-cut p (x ∷ bs) b h =
+    rw (split-cut p bs b h)
+    (elim (p x) as (λ v. cond v ([] ∷ (slice_split p bs ++ [] ∷ [])) (onto_first x (slice_split p bs ++ [] ∷ [])) ≡ cond v ([] ∷ slice_split p bs) (onto_first x (slice_split p bs)) ++ [] ∷ []) [
+      | true ↦ refl
+      | false ↦ let r = parts_of p bs in rw r.is refl
+    ])
 
--- the row without its last name is names
-pub names_without_last : (text : List ℕ) → AreNames (without_last (components text))
-names_without_last text =
-    recursion_from_All IsName _ (All-take IsName _ _ (All-from_recursion IsName _ (components_are_names text)))
+-- the last piece with one more byte
+onto_last : ℕ → List (List ℕ) → List (List ℕ)
+onto_last b ps = front ps ++ (final ps ++ b ∷ []) ∷ []
 
--- what the cut leaves before it, as the text is cut short there
-pub short_at_cut : (text short front back : List ℕ) → IsSlashed text → IsCutAtLast 47 text front back → short ≡ take (length front) text → IsRow short (without_last (components text))
-unfolding with_slashes
-short_at_cut text short front back clean cut e = row_of_names _ _ (by (components text) clean (components_are_names text)) (names_without_last text)
-  where
-    by : (parts : List (List ℕ)) → text ≡ with_slashes parts → AreNames parts → short ≡ with_slashes (without_last parts)
-    by [] none h = absurd (omega (arith, ap length none, ap length cut.parts, length-append front (47 ∷ back)))
-    by (part ∷ parts) is h =
-        e ∙ ap (take (length front)) cut.parts ∙ take-append_seam front (47 ∷ back)
-        ∙ (slashed_cut part parts front back h (record { parts = sym is ∙ cut.parts; last = cut.last })).0
+onto_last-first : (x b : ℕ) (p : List ℕ) (ps : List (List ℕ)) → onto_first x (onto_last b (p ∷ ps)) ≡ onto_last b (onto_first x (p ∷ ps))
+unfolding onto_last
+onto_last-first x b p [] = refl
+onto_last-first x b p (q ∷ ps) = refl
 
--- a row of names with no slash is empty, and so is the row without its last
-pub none_at_cut : (text : List ℕ) → IsSlashed text → Lacks 47 text → IsRow text (without_last (components text))
-unfolding with_slashes
-none_at_cut text clean lacks = row_of_names _ _ (by (components text) clean) (names_without_last text)
-  where
-    by : (parts : List (List ℕ)) → text ≡ with_slashes parts → text ≡ with_slashes (without_last parts)
-    by [] none = none
-    by (part ∷ parts) is = absurd (Lacks-not_at 47 [] (part ++ with_slashes parts) (rw is at lacks))
+onto_last-empty : (b : ℕ) (p : List ℕ) (ps : List (List ℕ)) → [] ∷ onto_last b (p ∷ ps) ≡ onto_last b ([] ∷ p ∷ ps)
+unfolding onto_last
+onto_last-empty b p ps = refl
+
+split-more : (p : ℕ → Bool) (bs : List ℕ) (b : ℕ) → p b ≡ false → slice_split p (bs ++ b ∷ []) ≡ onto_last b (slice_split p bs)
+unfolding onto_last
+split-more p [] b h = rw h refl
+split-more p (x ∷ bs) b h =
+    let r = parts_of p bs in
+    rw (split-more p bs b h)
+    (elim (p x) as (λ v. cond v ([] ∷ onto_last b (slice_split p bs)) (onto_first x (onto_last b (slice_split p bs))) ≡ onto_last b (cond v ([] ∷ slice_split p bs) (onto_first x (slice_split p bs)))) [
+      | true ↦ rw r.is (onto_last-empty b r.first r.others)
+      | false ↦ rw r.is (onto_last-first x b r.first r.others)
+    ])
+
+-- before the first byte
+pub partial_line-nil : partial_line [] ≡ []
+unfolding partial_line
+partial_line-nil = refl
+
+-- a newline ends the line
+pub whole_lines-newline : (bs : List ℕ) → whole_lines (bs ++ newline ∷ []) ≡ whole_lines bs ++ partial_line bs ∷ []
+unfolding whole_lines partial_line
+whole_lines-newline bs = rw (split-cut (λ b. b == newline) bs newline refl, front-snoc) (sym (front-final-pieces bs))
+
+pub partial_line-newline : (bs : List ℕ) → partial_line (bs ++ newline ∷ []) ≡ []
+unfolding partial_line
+partial_line-newline bs = rw (split-cut (λ b. b == newline) bs newline refl, final-snoc) refl
+
+-- another byte joins the piece
+pub whole_lines-other : (bs : List ℕ) (b : ℕ) → (b == newline) ≡ false → whole_lines (bs ++ b ∷ []) ≡ whole_lines bs
+unfolding whole_lines onto_last
+whole_lines-other bs b h = rw (split-more (λ c. c == newline) bs b h, front-snoc) refl
+
+pub partial_line-other : (bs : List ℕ) (b : ℕ) → (b == newline) ≡ false → partial_line (bs ++ b ∷ []) ≡ partial_line bs ++ b ∷ []
+unfolding partial_line onto_last
+partial_line-other bs b h = rw (split-more (λ c. c == newline) bs b h, final-snoc) refl
+
+-- more bytes add lines behind those that are whole
+one_more : (bs : List ℕ) (b : ℕ) → IsFrontOf (whole_lines bs) (whole_lines (bs ++ b ∷ []))
+one_more bs b =
+    elim (b == newline) as (λ v. (b == newline) ≡ v → IsFrontOf (whole_lines bs) (whole_lines (bs ++ b ∷ []))) [
+      | true ↦ λ h. let same : b ≡ newline = grind (arith, common_steps) in subst (λ c. IsFrontOf (whole_lines bs) (whole_lines (bs ++ c ∷ []))) (sym same) (record { rest = partial_line bs ∷ []; is = whole_lines-newline bs })
+      | false ↦ λ h. record { rest = []; is = whole_lines-other bs b h ∙ sym (append-nil (whole_lines bs)) }
+    ] refl
+
+pub whole_lines-append : (bs rest : List ℕ) → IsFrontOf (whole_lines bs) (whole_lines (bs ++ rest))
+whole_lines-append bs [] = record { rest = []; is = ap whole_lines (append-nil bs) ∙ sym (append-nil (whole_lines bs)) }
+whole_lines-append bs (b ∷ rest) =
+    let first = one_more bs b in
+    let then = whole_lines-append (bs ++ b ∷ []) rest in
+    record { rest = first.rest ++ then.rest; is = ap whole_lines (sym (append_assoc bs (b ∷ []) rest)) ∙ then.is ∙ ap (λ l. l ++ then.rest) first.is ∙ append_assoc (whole_lines bs) first.rest then.rest }

@@ -1,13 +1,13 @@
-pub mod Absolute
-pub mod CfgLemmas
-pub mod CfgSets
-pub mod Comparing
+pub mod Bytes
+pub mod Called
 pub mod Cuts
-pub mod Dots
-pub mod Equalities
-pub mod Joining
-pub mod Names
-pub mod Parents
-pub mod PartedLists
-pub mod Prefixes
-pub mod Resolving
+pub mod EntryNames
+pub mod Facts
+pub mod Fronts
+mod Gaves
+pub mod LineEnds
+pub mod Listing
+pub mod Ordered
+mod Parts
+pub mod Puts
+pub mod Wholes

@@ -1,33 +1,31 @@
-//! Paths, numbers of files and of values, symbols, editions and conditional compilation. The values
-//! and the traits of the outside that they are built on are found here too.
+//! The foundation as one crate: trees of files, bounded lines of a source, and the tools that questions are asked by, beside the
+//! paths, values and traits of the crates below.
 #![tactic(auto)]
 
-pub mod arena;
-pub mod arena_map;
-pub mod cfg;
-pub mod cfg_diff;
-pub mod cfg_options;
-pub mod edition;
-pub mod file_id;
 pub mod laws;
-pub mod paths;
-pub mod symbol;
+pub mod lines;
+pub mod memory_tree;
+pub mod newline;
+mod part;
+pub mod piece;
+pub mod progress;
+pub mod tool;
+pub mod tool_root;
+pub mod tree;
 
-pub use arena::{Arena, Idx};
-pub use arena_map::ArenaMap;
-pub use base_values::{
-    Boxed, ByNumber, ByText, Items, Name, Shared, SharedText, Text, TryClone, Version,
-    copy_entries, copy_items, sort_all,
+pub use base_text_paths::{
+    AbsPath, AbsPathBuf, Arena, ArenaMap, Boxed, ByNumber, ByText, ByteSink, ByteSource, CfgAtom,
+    CfgDiff, CfgError, CfgOptions, CommandLine, Counter, Edition, Failed, FaultSink, FaultSource,
+    FileId, Idx, Items, Ledger, Limit, Limits, ManifestPath, MemorySink, MemorySource, Name,
+    NonceSource, Numbers, Output, PathError, Question, RecordedRunner, RelPath, Runner, Shared,
+    SharedText, SinkError, Steps, Symbol, Text, TryClone, Version, copy_entries, copy_items,
+    manifest_path, parse_cfg, sort_all, write_all, write_cfg,
 };
-pub use cfg::{CfgAtom, CfgError, parse_cfg, write_cfg};
-pub use cfg_diff::CfgDiff;
-pub use cfg_options::CfgOptions;
-pub use edition::Edition;
-pub use file_id::FileId;
-pub use outside::{
-    ByteSink, ByteSource, CommandLine, Counter, Failed, FaultSink, FaultSource, Ledger, Limit,
-    Limits, MemorySink, MemorySource, NonceSource, Numbers, Output, Question, RecordedRunner,
-    Runner, SinkError, Steps, write_all,
-};
-pub use paths::{AbsPath, AbsPathBuf, PathError, RelPath};
-pub use symbol::Symbol;
+pub use lines::{BoundedLines, Line, LineError};
+pub use memory_tree::MemoryTree;
+pub use newline::newline_at;
+pub use piece::Piece;
+pub use progress::{Progress, Quiet};
+pub use tool::{Tool, Tools};
+pub use tool_root::ToolRoot;
+pub use tree::Tree;

@@ -2,6 +2,6 @@ pub mod ByNumberEq
 pub mod ByNumberLends
 pub mod ByText
 pub mod Equality
-pub mod formers
 pub mod Sorted
 pub mod Version
+pub mod formers

@@ -4,11 +4,11 @@
 
 use anyhow::{Result, bail};
 use base_text::{AbsPathBuf, CfgOptions, Edition, FileId, Text};
-use crate_graph::target::TargetLoadError;
 use crate_graph::{
     CrateBuilderId, CrateGraphBuilder, CrateName, CrateOrigin, CrateWorkspaceData, Dependency, Env,
     LangCrateOrigin, ProcMacroPaths, TargetKind,
 };
+use crate_graph_values::target::TargetLoadError;
 use input_db::{InputDb, Nonce, SourceDatabase, set_in_db};
 use std::alloc::Global;
 use std::rc::Rc;

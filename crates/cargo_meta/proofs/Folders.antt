@@ -6,8 +6,8 @@ use Rattle.std.proofs.lemmas.List.Sums.{suffix_len_is}
 use Rattle.std.proofs.Math.Seq.{append_snoc, get_or-append_right, get_or-append_seam, take-append_seam}
 use Rattle.std.specs.List.{suffix_len}
 use Rattle.std.specs.Path.{dot, is_trailing, slash, trim_trailing, trimmed_len}
-use Rattle.base_text.specs.Paths.{is_slash}
-use Rattle.base_text.specs.Rows.{IsCutAtLast, Lacks}
+use Rattle.base_text_paths.specs.Paths.{is_slash}
+use Rattle.base_text_paths.specs.Rows.{IsCutAtLast, Lacks}
 use Rattle.cargo_meta.specs.Beside.{up_to_slash}
 
 -- a trailing byte is taken off, another stays

@@ -1,5 +1,5 @@
 pub mod Folders
-pub mod RootManifest
-pub mod Joins
-pub mod Try
 pub mod GivesBack
+pub mod Joins
+pub mod RootManifest
+pub mod Try

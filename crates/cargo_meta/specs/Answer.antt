@@ -1,14 +1,14 @@
 -- what the answer to a metadata command holds: the document of its first line that begins with `{`
 use Rattle.std.specs.Prelude.{◌≡◌, ◌==◌, ℕ, List, ◌∷◌, Bool, if◌then◌else◌, codes, find, slice_index, Option, Some, None, Result, Ok, Err}
 use Rattle.std.specs.Str.Lines.{lines}
-use Rattle.outside.specs.declared.command.CommandLine.{CommandLine}
-use Rattle.outside.specs.declared.command.Output.{Output}
+use Rattle.base_text_outside.specs.declared.command.CommandLine.{CommandLine}
+use Rattle.base_text_outside.specs.declared.command.Output.{Output}
 use Rattle.json_fields.specs.Document.{document}
 use Rattle.json_fields.specs.Outcome.{Reading}
 use Rattle.cargo_meta.specs.Command.{joined_text}
 use Rattle.cargo_meta.specs.Metadata.{metadata_at}
-use Rattle.cargo_values.specs.declared.errors.Error.{Error}
-use Rattle.cargo_values.specs.declared.errors.Error.TheVariants.{CargoMetadata, Io, Json, NoJson, OutOfMemory}
+use Rattle.cargo_meta_values.specs.declared.errors.Error.{Error}
+use Rattle.cargo_meta_values.specs.declared.errors.Error.TheVariants.{CargoMetadata, Io, Json, NoJson, OutOfMemory}
 use Rattle.cargo_meta.specs.declared.metadata.Metadata.{Metadata}
 
 -- the program and its words, with a space between each two

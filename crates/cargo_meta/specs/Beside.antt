@@ -2,7 +2,7 @@
 use Rattle.std.specs.Prelude.{ℕ, Bool, not, ◌==◌, ◌||◌, ◌-◌, if◌then◌else◌, List, ◌++◌, bytes_eq, length, take}
 use Rattle.std.specs.List.{suffix_len}
 use Rattle.std.specs.Path.{root_dir, trim_trailing}
-use Rattle.base_text.specs.Paths.{is_absolute, is_slash}
+use Rattle.base_text_paths.specs.Paths.{is_absolute, is_slash}
 
 -- the text without what follows its last slash
 abbrev pub up_to_slash : List ℕ → List ℕ

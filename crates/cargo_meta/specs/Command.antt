@@ -1,10 +1,11 @@
 -- the command that asks for metadata: the words of `cargo metadata`, by what was set
-use Rattle.std.specs.Prelude.{◌≡◌, ℕ, List, [], ◌∷◌, ◌++◌, Bool, true, false, if◌then◌else◌, codes, Option, Some, None, unwrap_or}
+use Rattle.std.specs.Prelude.{◌≡◌, ℕ, List, [], ◌∷◌, ◌++◌, Bool, true, false, codes, Option, None, unwrap_or}
 use Rattle.std.specs.List.{join_by}
 use Rattle.base_values.specs.ByText.{with_value}
-use Rattle.outside.specs.declared.command.CommandLine.{CommandLine}
+use Rattle.base_text_outside.specs.declared.command.CommandLine.{CommandLine}
 use Rattle.cargo_meta.specs.declared.command.CargoOpt.{CargoOpt}
 use Rattle.cargo_meta.specs.declared.command.CargoOpt.TheVariants.{AllFeatures, NoDefaultFeatures, SomeFeatures}
+use Rattle.base_text_outside.specs.CommandWords.{flag_word, option_words}
 
 -- what was set of a command; a variable without a value is removed
 pub record Settings : Type 0 where
@@ -53,15 +54,6 @@ with_env key value s = record s { env = with_value key value s.env }
 -- the texts with one between each two
 abbrev pub joined_text : List ℕ → List (List ℕ) → List ℕ
 joined_text between texts = join_by (λ text. text) between texts
-
--- a word that stands where its flag is set
-abbrev pub flag_word : Bool → List ℕ → List (List ℕ)
-flag_word is_set word = if is_set then word ∷ [] else []
-
--- a word and its value, where that is set
-abbrev pub option_words : List ℕ → Option (List ℕ) → List (List ℕ)
-option_words word None = []
-option_words word (Some value) = word ∷ value ∷ []
 
 -- the features, joined by commas, where some are named
 abbrev pub feature_words : List (List ℕ) → List (List ℕ)

@@ -1,9 +1,9 @@
-pub mod Package
-pub mod NewPackage
+pub mod Answer
 pub mod Beside
-pub mod Metadata
-pub mod Select
 pub mod Command
 pub mod GivesBack
-pub mod Answer
+pub mod Metadata
+pub mod NewPackage
+pub mod Package
+pub mod Select
 pub mod laws

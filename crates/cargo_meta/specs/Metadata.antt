@@ -4,9 +4,9 @@ use Rattle.serde_json.specs.Data.{Data, Members, null, number, object, no_member
 use Rattle.json_fields.specs.Fields.{any_at, default_member, list_at, members_at, number_at, optional_member, required_member, text_at}
 use Rattle.json_fields.specs.Outcome.{Reading, ◌>>=◌}
 use Rattle.json_fields.specs.Written.{list_data, option_data, set_member, set_unless_null}
-use Rattle.cargo_values.specs.Names.{package_id_at, package_id_data}
+use Rattle.cargo_meta_values.specs.Names.{package_id_at, package_id_data}
 use Rattle.cargo_meta.specs.Package.{package_at, package_data}
-use Rattle.cargo_values.specs.Resolve.{resolve_at, resolve_data}
+use Rattle.cargo_meta_values.specs.Resolve.{resolve_at, resolve_data}
 use Rattle.cargo_meta.specs.declared.metadata.Metadata.{Metadata}
 
 -- a document as its members give it

@@ -2,8 +2,8 @@
 use Rattle.std.specs.Prelude.{ℕ, List, [], None}
 use Rattle.semver.specs.Parse.{Parts}
 use Rattle.serde_json.specs.Data.{null}
-use Rattle.cargo_values.specs.declared.kinds.Edition.TheVariants.{E2015}
-use Rattle.cargo_values.specs.declared.names.PackageId.{PackageId}
+use Rattle.cargo_meta_values.specs.declared.kinds.Edition.TheVariants.{E2015}
+use Rattle.cargo_meta_values.specs.declared.names.PackageId.{PackageId}
 use Rattle.cargo_meta.specs.declared.package.Package.{Package}
 
 -- the package of these four: its other fields are empty, none, or their defaults

@@ -5,12 +5,12 @@ use Rattle.json_fields.specs.Fields.{any_at, default_member, list_at, map_at, me
 use Rattle.json_fields.specs.Outcome.{Reading, ◌>>=◌}
 use Rattle.json_fields.specs.Versions.{bare_at, version_at, version_data}
 use Rattle.json_fields.specs.Written.{is_null, list_data, map_data, option_data, set_member, set_unless_null}
-use Rattle.cargo_values.specs.Dependency.{dependency_at, dependency_data}
-use Rattle.cargo_values.specs.Kinds.{edition_at, edition_data}
-use Rattle.cargo_values.specs.Names.{package_id_at, package_id_data, source_at, source_data}
+use Rattle.cargo_meta_values.specs.Dependency.{dependency_at, dependency_data}
+use Rattle.cargo_meta_values.specs.Kinds.{edition_at, edition_data}
+use Rattle.cargo_meta_values.specs.Names.{package_id_at, package_id_data, source_at, source_data}
 use Rattle.cargo_meta.specs.NewPackage.{new_package}
-use Rattle.cargo_values.specs.Target.{target_at, target_data}
-use Rattle.cargo_values.specs.declared.kinds.Edition.TheVariants.{E2015}
+use Rattle.cargo_meta_values.specs.Target.{target_at, target_data}
+use Rattle.cargo_meta_values.specs.declared.kinds.Edition.TheVariants.{E2015}
 use Rattle.cargo_meta.specs.declared.package.Package.{Package}
 use Rattle.cargo_meta.specs.declared.package_rows.PackageHead.{PackageHead}
 

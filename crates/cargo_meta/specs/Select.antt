@@ -4,11 +4,11 @@ use Rattle.std.specs.Cmp.Lexicographic.{pointwise}
 use Rattle.std.specs.List.{list_any}
 use Rattle.std.specs.Option.{option_and_then}
 use Rattle.std.specs.Path.{path_components, path_join}
-use Rattle.cargo_values.specs.Resolve.{is_id}
+use Rattle.cargo_meta_values.specs.Resolve.{is_id}
 use Rattle.cargo_meta.specs.declared.metadata.Metadata.{Metadata}
-use Rattle.cargo_values.specs.declared.names.PackageId.{PackageId}
+use Rattle.cargo_meta_values.specs.declared.names.PackageId.{PackageId}
 use Rattle.cargo_meta.specs.declared.package.Package.{Package}
-use Rattle.cargo_values.specs.declared.resolve.Resolve.{Resolve}
+use Rattle.cargo_meta_values.specs.declared.resolve.Resolve.{Resolve}
 
 -- the id is among those
 abbrev pub is_among : List PackageId → PackageId → Bool

@@ -2,10 +2,10 @@
 
 ghost use Rattle.std.specs.Prelude.{◌≡◌, ◌<◌, ◌++◌, IfOk, MatchOption, length};
 ghost use Rattle.std.specs.Path as paths;
-ghost use Rattle.base_text.specs.Rows.{IsCutAtLast, Lacks};
+ghost use Rattle.base_text_paths.specs.Rows.{IsCutAtLast, Lacks};
 ghost use Rattle.cargo_meta.specs.Beside as spec;
 
-use base_text::Text;
+use base_values::Text;
 use std::alloc::{AllocError, Global};
 
 /// The file in the manifest's folder. An absolute file stands alone.

@@ -5,10 +5,10 @@ ghost use Rattle.std.specs.Borrow.{sem};
 ghost use Rattle.base_values.specs.ByText.{HasAscendingKeys};
 ghost use Rattle.cargo_meta.specs.Command.{IsFirst, command_of, nothing_set, with_features, with_env, words_of};
 
-use crate::words::{
-    append, first_words, push_features, push_flag, push_option, push_words, text_or, variables,
-};
-use base_text::{ByText, CommandLine, Items, Text, TryClone};
+use crate::words::{first_words, push_features, text_or, variables};
+use base_text_outside::CommandLine;
+use base_text_outside::command_words::{append, push_flag, push_option, push_words};
+use base_values::{ByText, Items, Text, TryClone};
 use std::alloc::{AllocError, Global};
 use std::marker::Model;
 

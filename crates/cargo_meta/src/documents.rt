@@ -3,11 +3,11 @@
 ghost use Rattle.std.specs.Prelude.{◌≡◌, IfOk};
 ghost use Rattle.serde_json.specs.View.{view};
 ghost use Rattle.json_fields.specs.Document.{IsWholeAgain, whole};
-ghost use Rattle.cargo_values.specs.Errors.{GivesDocument};
+ghost use Rattle.cargo_meta_values.specs.Errors.{GivesDocument};
 ghost use Rattle.cargo_meta.specs.Metadata.{metadata_at, metadata_data};
 
 use crate::metadata::Metadata;
-use cargo_values::{Error, as_error};
+use cargo_meta_values::{Error, as_error};
 use json_fields::{Json, of_value};
 use serde_json::Value;
 use std::alloc::{AllocError, Global};

@@ -1,20 +1,21 @@
 //! What the answer to a metadata command holds.
 
 ghost use Rattle.std.specs.Prelude.{◌≡◌, IfOk, option_copied};
-ghost use Rattle.outside.specs.Runner.{answer_of};
+ghost use Rattle.base_text_outside.specs.Runner.{answer_of};
 ghost use Rattle.json_fields.specs.Document as documents;
 ghost use Rattle.json_fields.specs.Document.{IsWholeAgain};
 ghost use Rattle.cargo_meta.specs.Answer as spec;
 ghost use Rattle.cargo_meta.specs.Answer.{Answers, of_answer, of_output};
 ghost use Rattle.cargo_meta.specs.Command.{command_of};
-ghost use Rattle.cargo_values.specs.Errors.{GivesDocument};
+ghost use Rattle.cargo_meta_values.specs.Errors.{GivesDocument};
 ghost use Rattle.cargo_meta.specs.Metadata.{metadata_at, metadata_data};
 
 use crate::command::MetadataCommand;
 use crate::metadata::Metadata;
 use crate::words::join_texts;
-use base_text::{CommandLine, Output, Runner, Text};
-use cargo_values::{Error, as_error};
+use base_text_outside::{CommandLine, Output, Runner};
+use base_values::Text;
+use cargo_meta_values::{Error, as_error};
 use json_fields::of_text;
 use std::alloc::{AllocError, Global};
 

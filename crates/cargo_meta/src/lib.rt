@@ -11,8 +11,8 @@ mod package_rows;
 pub mod select;
 pub mod words;
 
-pub use base_text::Version;
-pub use cargo_values::{
+pub use base_values::Version;
+pub use cargo_meta_values::{
     CrateType, DepKindInfo, Dependency, DependencyKind, Edition, Error, FeatureName, FeatureTag,
     Node, NodeDep, PackageId, PackageName, PackageTag, Resolve, Source, Target, TargetKind,
     dependency, errors, kinds, names, names_compare_as_texts, resolve, target,

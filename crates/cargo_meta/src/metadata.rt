@@ -5,12 +5,12 @@ ghost use Rattle.serde_json.specs.View.{members_view};
 ghost use Rattle.json_fields.specs.Fields.{list_at, option_at};
 ghost use Rattle.json_fields.specs.Outcome.{Gives};
 ghost use Rattle.json_fields.specs.Written.{list_data, option_data};
-ghost use Rattle.cargo_values.specs.Names.{package_id_at, package_id_data};
+ghost use Rattle.cargo_meta_values.specs.Names.{package_id_at, package_id_data};
 ghost use Rattle.cargo_meta.specs.Metadata.{metadata_at, metadata_data, metadata_from};
 
 use crate::package::Package;
-use base_text::{Items, Text, TryClone};
-use cargo_values::{PackageId, Resolve};
+use base_values::{Items, Text, TryClone};
+use cargo_meta_values::{PackageId, Resolve};
 use json_fields::{
     AnyValue, Json, ReadError, ReadJson, default_member, members, optional_member, required_member,
     set, set_unless_null,
@@ -27,7 +27,7 @@ pub struct WorkspaceDefaultMembers {
 
 impl Model for WorkspaceDefaultMembers {
     ghost use Rattle.std.specs.Prelude.{List, Option};
-    ghost use Rattle.cargo_values.specs.declared.names.PackageId.{PackageId};
+    ghost use Rattle.cargo_meta_values.specs.declared.names.PackageId.{PackageId};
 
     ghost Value = { Option (List PackageId) };
 

@@ -6,8 +6,8 @@ ghost use Rattle.cargo_meta.specs.NewPackage.{new_package};
 
 use crate::beside::beside;
 use crate::package_rows::{read_body, read_head, read_tail, set_body, set_head, set_tail};
-use base_text::{ByText, Items, Text, TryClone, Version};
-use cargo_values::{Dependency, Edition, PackageId, PackageName, Source, Target};
+use base_values::{ByText, Items, Text, TryClone, Version};
+use cargo_meta_values::{Dependency, Edition, PackageId, PackageName, Source, Target};
 use json_fields::{AnyValue, Json, Present, ReadError, ReadJson, members};
 use serde_json::{Map, Value};
 use std::alloc::{AllocError, Global};

@@ -6,8 +6,8 @@ ghost use Rattle.json_fields.specs.Outcome.{Gives};
 ghost use Rattle.cargo_meta.specs.Package.{body_from, body_set, head_from, head_rows, head_set, of_head, tail_from, tail_set};
 
 use crate::package::{Package, new_package};
-use base_text::{Items, Text, Version};
-use cargo_values::{Dependency, Edition, PackageId, PackageName, Source};
+use base_values::{Items, Text, Version};
+use cargo_meta_values::{Dependency, Edition, PackageId, PackageName, Source};
 use json_fields::{
     AnyValue, BareVersion, ReadError, default_member, list_member, optional_member,
     required_member, set, set_unless_null,

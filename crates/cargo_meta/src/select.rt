@@ -4,11 +4,11 @@ ghost use Rattle.std.specs.Prelude.{◌≡◌, ◌↔◌, ◌∷◌, [], List, I
 ghost use Rattle.std.specs.Path.{path_bytes, path_components};
 ghost use Rattle.cargo_meta.specs.Select as select;
 ghost use Rattle.cargo_meta.specs.Select.{is_manifest_in, package_in, package_of_id, root_package_of};
-ghost use Rattle.cargo_values.specs.declared.names.PackageId.{PackageId};
+ghost use Rattle.cargo_meta_values.specs.declared.names.PackageId.{PackageId};
 
 use crate::metadata::Metadata;
 use crate::package::Package;
-use cargo_values::PackageId;
+use cargo_meta_values::PackageId;
 use std::alloc::{AllocError, Global};
 use std::ops::Index;
 use std::path::Path;

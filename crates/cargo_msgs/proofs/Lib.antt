@@ -1,3 +1,4 @@
 pub mod Parts
 mod ReadBack
+pub mod Steps
 mod Streams

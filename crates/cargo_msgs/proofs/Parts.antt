@@ -3,10 +3,10 @@ use Rattle.std.proofs.Common.{◌≡◌, ℕ, Bool, List, [], Option, Ok, Err, c
 use Rattle.serde_json.specs.Data.{Members}
 use Rattle.json_fields.specs.Fields.{default_member, flag_at, list_at, optional_member, required_member, text_at}
 use Rattle.json_fields.specs.Outcome.{Reading, ◌>>=◌}
-use Rattle.cargo_values.specs.Names.{package_id_at}
-use Rattle.cargo_values.specs.Target.{target_at}
-use Rattle.cargo_values.specs.declared.names.PackageId.{PackageId}
-use Rattle.cargo_values.specs.declared.target.Target.{Target}
+use Rattle.cargo_meta_values.specs.Names.{package_id_at}
+use Rattle.cargo_meta_values.specs.Target.{target_at}
+use Rattle.cargo_meta_values.specs.declared.names.PackageId.{PackageId}
+use Rattle.cargo_meta_values.specs.declared.target.Target.{Target}
 use Rattle.cargo_msgs.specs.Artifact.{artifact_from, profile_at}
 use Rattle.cargo_msgs.specs.Gathering.{build_from}
 use Rattle.cargo_msgs.specs.declared.artifact.Artifact.{Artifact}

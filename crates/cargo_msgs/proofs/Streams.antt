@@ -5,12 +5,12 @@ use Rattle.std.proofs.lemmas.Simd.{map-map}
 use Rattle.std.proofs.lemmas.Str.{IsUtf8-from_is_utf8, is_utf8-from_IsUtf8}
 use Rattle.std.specs.Prelude.{if◌then◌else◌}
 use Rattle.std.specs.Str.{IsUtf8, is_utf8}
-use Rattle.bounded_lines.specs.Lines.{lines_of}
-use Rattle.bounded_lines.specs.Part as lines
-use Rattle.bounded_lines.specs.Reader.{Gave, IsFrontOf, Reader, lines_after, new_reader}
-use Rattle.bounded_lines.specs.declared.lines.Line.{Line}
-use Rattle.bounded_lines.specs.declared.lines.LineError.{LineError}
-use Rattle.bounded_lines.proofs.Wholes.{Gave-all, Gave-fresh, Gave-front}
+use Rattle.base_text.specs.Lines.{lines_of}
+use Rattle.base_text.specs.Part as lines
+use Rattle.base_text.specs.Reader.{Gave, IsFrontOf, Reader, lines_after, new_reader}
+use Rattle.base_text.specs.declared.lines.Line.{Line}
+use Rattle.base_text.specs.declared.lines.LineError.{LineError}
+use Rattle.base_text.proofs.Wholes.{Gave-all, Gave-fresh, Gave-front}
 use Rattle.cargo_msgs.specs.Messages.{message_of}
 use Rattle.cargo_msgs.specs.Stream.{GaveMessages, GivesItem, Item, Stream, Tells, is_out_of_memory, is_read_fault, GaveOneMore, item_of_bytes, item_of_line, item_of_read, items_after}
 use Rattle.cargo_msgs.specs.declared.message_iter.ItemFault.TheVariants.{NotUtf8, TooLong, ReadFault, OutOfMemory}

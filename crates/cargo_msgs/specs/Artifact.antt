@@ -4,8 +4,8 @@ use Rattle.serde_json.specs.Data.{Data, Members, object, no_members, boolean, st
 use Rattle.json_fields.specs.Fields.{default_member, flag_at, list_at, members_at, optional_member, required_member, text_at}
 use Rattle.json_fields.specs.Outcome.{Reading, ◌>>=◌}
 use Rattle.json_fields.specs.Written.{list_data, option_data, set_member}
-use Rattle.cargo_values.specs.Names.{package_id_at, package_id_data}
-use Rattle.cargo_values.specs.Target.{target_at, target_data}
+use Rattle.cargo_meta_values.specs.Names.{package_id_at, package_id_data}
+use Rattle.cargo_meta_values.specs.Target.{target_at, target_data}
 use Rattle.cargo_msgs.specs.Debuginfo.{debuginfo_at, debuginfo_data}
 use Rattle.cargo_msgs.specs.declared.artifact.Artifact.{Artifact}
 use Rattle.cargo_msgs.specs.declared.artifact.ArtifactProfile.{ArtifactProfile}

@@ -5,7 +5,7 @@ use Rattle.json_fields.specs.Fields.{default_member, flag_at, list_at, members_a
 use Rattle.json_fields.specs.Outcome.{Reading, ◌>>=◌}
 use Rattle.json_fields.specs.Pairs.{pair_at, pair_data}
 use Rattle.json_fields.specs.Written.{list_data, set_member}
-use Rattle.cargo_values.specs.Names.{package_id_at, package_id_data}
+use Rattle.cargo_meta_values.specs.Names.{package_id_at, package_id_data}
 use Rattle.cargo_msgs.specs.declared.build.BuildFinished.{BuildFinished}
 use Rattle.cargo_msgs.specs.declared.build.BuildScript.{BuildScript}
 

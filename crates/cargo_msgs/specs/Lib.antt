@@ -1,7 +1,11 @@
-pub mod Debuginfo
 pub mod Artifact
 pub mod Build
+pub mod Debuginfo
+pub mod Diagnostic
 pub mod Gathering
+pub mod Levels
 pub mod Messages
+pub mod Printed
+pub mod Span
 pub mod Stream
 pub mod laws

@@ -7,9 +7,9 @@ use Rattle.json_fields.specs.Document.{document}
 use Rattle.json_fields.specs.Fields.{members_at, required_member, text_at, under}
 use Rattle.json_fields.specs.Outcome.{Reading, ◌>>=◌, below_key}
 use Rattle.json_fields.specs.Written.{set_member}
-use Rattle.cargo_values.specs.Names.{package_id_at, package_id_data}
-use Rattle.cargo_values.specs.Target.{target_at, target_data}
-use Rattle.cargo_diagnostics.specs.Diagnostic.{diagnostic_at, diagnostic_data}
+use Rattle.cargo_meta_values.specs.Names.{package_id_at, package_id_data}
+use Rattle.cargo_meta_values.specs.Target.{target_at, target_data}
+use Rattle.cargo_msgs.specs.Diagnostic.{diagnostic_at, diagnostic_data}
 use Rattle.cargo_msgs.specs.Artifact.{artifact_data, artifact_from}
 use Rattle.cargo_msgs.specs.Build.{build_finished_data, build_finished_from, build_script_data, build_script_from}
 use Rattle.cargo_msgs.specs.declared.messages.CompilerMessage.{CompilerMessage}

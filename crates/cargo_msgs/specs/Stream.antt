@@ -1,9 +1,9 @@
 -- the messages of a stream: one for each line of its bytes, or why a line has none
 use Rattle.std.specs.Prelude.{◌≡◌, ◌≤◌, if◌then◌else◌, ℕ, ◌⊎◌, Bool, true, false, List, [], ◌∷◌, ◌++◌, Option, None, Some, Result, Ok, Err, codes, length, map}
 use Rattle.std.specs.Str.{is_utf8}
-use Rattle.outside.specs.Causes.{Rose}
-use Rattle.bounded_lines.specs.Part as lines
-use Rattle.bounded_lines.specs.Reader.{Gave, IsSpent, Reader, new_reader}
+use Rattle.base_text_outside.specs.Causes.{Rose}
+use Rattle.base_text.specs.Part as lines
+use Rattle.base_text.specs.Reader.{Gave, IsSpent, Reader, new_reader}
 use Rattle.cargo_msgs.specs.Messages.{message_of}
 use Rattle.cargo_msgs.specs.declared.message_iter.ItemFault.{ItemFault}
 use Rattle.cargo_msgs.specs.declared.message_iter.ItemFault.TheVariants.{NotUtf8, TooLong, ReadFault, OutOfMemory}

@@ -9,7 +9,7 @@ ghost use Rattle.cargo_msgs.specs.laws.Artifact.{artifact-round_trips, profile-r
 
 use crate::debuginfo::ArtifactDebuginfo;
 use base_text::{Items, Text, TryClone};
-use cargo_meta::{PackageId, Target};
+use cargo_meta_values::{PackageId, Target};
 use json_fields::{
     Json, ReadError, ReadJson, default_member, members, optional_member, required_member, set,
 };

@@ -7,7 +7,7 @@ ghost use Rattle.cargo_msgs.specs.Build.{build_finished_at, build_finished_data,
 ghost use Rattle.cargo_msgs.specs.laws.Build.{build_finished-round_trips, build_script-round_trips};
 
 use base_text::{Items, Text, TryClone};
-use cargo_meta::PackageId;
+use cargo_meta_values::PackageId;
 use json_fields::{Json, ReadError, ReadJson, default_member, members, required_member, set};
 use serde_json::{Map, Value};
 use std::alloc::{AllocError, Global};

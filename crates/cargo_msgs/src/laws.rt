@@ -1,8 +1,8 @@
 //! Laws for callers' proofs. Each is a function that does nothing: its contract is the law.
 
 ghost use Rattle.std.specs.Prelude.{◌≡◌, ℕ, List, [], Option, Some, IsTrue, map};
-ghost use Rattle.bounded_lines.specs.Lines.{lines_of};
-ghost use Rattle.bounded_lines.specs.Reader.{IsFrontOf, Reader, new_reader};
+ghost use Rattle.base_text.specs.Lines.{lines_of};
+ghost use Rattle.base_text.specs.Reader.{IsFrontOf, Reader, new_reader};
 ghost use Rattle.cargo_msgs.specs.Stream.{GaveMessages, Item, item_of_line};
 
 /// What is given of a stream is the front of its lines' messages, and at the end it is all of them,

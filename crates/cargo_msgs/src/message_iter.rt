@@ -1,13 +1,12 @@
 //! The messages of a stream, one for each of its lines.
 
 ghost use Rattle.std.specs.Prelude.{◌≡◌, ◌≤◌, false, ℕ, List, Option, None, IfOk, IsTrue};
-ghost use Rattle.bounded_lines.specs.Calls.{ReadsAtOnce};
-ghost use Rattle.bounded_lines.specs.Reader.{Gave};
+ghost use Rattle.base_text.specs.Calls.{ReadsAtOnce};
+ghost use Rattle.base_text.specs.Reader.{Gave};
 ghost use Rattle.cargo_msgs.specs.Stream.{Answers, GaveMessages, GaveOneMore, GivesItem, Item, Tells, is_fatal, is_out_of_memory, is_read_fault, item_of_bytes, items_after, new_stream};
 
 use crate::messages::Message;
-use base_text::ByteSource;
-use bounded_lines::{BoundedLines, Line, LineError};
+use base_text::{BoundedLines, ByteSource, Line, LineError};
 use std::alloc::{AllocError, Global};
 use std::marker::Model;
 

@@ -8,9 +8,9 @@ ghost use Rattle.cargo_msgs.specs.laws.Messages.{compiler_message-round_trips, m
 
 use crate::artifact::{Artifact, read_artifact};
 use crate::build::{BuildFinished, BuildScript, read_build_finished, read_build_script};
+use crate::diagnostic::Diagnostic;
 use base_text::{Text, TryClone};
-use cargo_diagnostics::Diagnostic;
-use cargo_meta::{PackageId, Target};
+use cargo_meta_values::{PackageId, Target};
 use json_fields::{
     Json, ReadError, ReadJson, below, members, miss, of_text, required_member, set, set_value,
 };

@@ -6,7 +6,7 @@ use std::{error, fmt};
 
 impl fmt::Display for CompilerMessage {
     ghost use Rattle.std.specs.Prelude.{Some};
-    ghost use Rattle.cargo_diagnostics.specs.Printed.{printed_text};
+    ghost use Rattle.cargo_msgs.specs.Printed.{printed_text};
 
     ghost output = { λ m. Some (printed_text m.message) };
 

@@ -2,7 +2,7 @@
 
 use crate::release::Release;
 use base_text::{ByText, Items, Text};
-use cargo_diagnostics::{Diagnostic, DiagnosticSpan};
+use cargo_msgs::{Diagnostic, DiagnosticSpan};
 use cases::{Case, Fault, error_answer, missed_answer};
 use json_fields::{BareError, Json, ReadError, bare_version, normal_text, of_text, to_text};
 use serde_json::Value;

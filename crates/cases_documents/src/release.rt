@@ -1,9 +1,9 @@
 //! A release: nine rows, read and written with no proof file.
 
-use base_text::{ByText, Items, Text};
+use base_text::{ByText, Items, Text, Version};
 use json_fields::{
-    AnyValue, BareVersion, Json, ReadError, ReadJson, Requirement, Version, default_member,
-    list_member, map_member, members, optional_member, required_member, set,
+    AnyValue, BareVersion, Json, ReadError, ReadJson, Requirement, default_member, list_member,
+    map_member, members, optional_member, required_member, set,
 };
 use serde_json::{Map, Value};
 use std::alloc::{AllocError, Global};

@@ -1,10 +1,9 @@
 //! Values that stand in fields: versions, requirements, any values and maps. Each is copied, and written of its copy.
 
-use base_text::{ByText, Text, TryClone};
+use base_text::{ByText, Text, TryClone, Version};
 use cases::{Case, Fault, List, Object, copied_answer, optional_answer, texts_of_pair};
 use json_fields::{
-    AnyValue, BareVersion, Json, ReadJson, Requirement, Version, holds_float, same_value,
-    set_unless_null,
+    AnyValue, BareVersion, Json, ReadJson, Requirement, holds_float, same_value, set_unless_null,
 };
 use serde_json::{Map, Value};
 use std::alloc::Global;

@@ -6,11 +6,11 @@ use cases::{
     Case, Fault, List, Object, agreement_answer, copied_answer, optional_answer, print_answer,
     printed_answer, text_answer,
 };
-use crate_graph::target::{Arch, TargetData, TargetLoadError};
 use crate_graph::{
     CrateBuilderId, CrateDisplayName, CrateName, CrateOrigin, CrateWorkspaceData, Dependency,
     DependencyBuilder, LangCrateOrigin, ProcMacroLoadingError, ReleaseChannel, TargetKind,
 };
+use crate_graph_values::target::{Arch, TargetData, TargetLoadError};
 use serde_json::Value;
 use std::alloc::{AllocError, Global};
 

@@ -1,12 +1,14 @@
 //! Graphs of crates as cases give them: puts in the crates and edges of a case.
 
-use base_text::{AbsPathBuf, CfgAtom, CfgOptions, Edition, FileId, Symbol, Text};
+use base_text::{
+    AbsPathBuf, CfgAtom, CfgOptions, Edition, FileId, Symbol, Text, Version as ToolchainVersion,
+};
 use cases::{Case, Fault, absolute};
-use crate_graph::target::TargetLoadError;
 use crate_graph::{
     AddDepError, CrateBuilderId, CrateDisplayName, CrateGraphBuilder, CrateName, CrateOrigin,
-    CrateWorkspaceData, Dependency, Env, GraphError, LangCrateOrigin, TargetKind, ToolchainVersion,
+    CrateWorkspaceData, Dependency, Env, GraphError, LangCrateOrigin, TargetKind,
 };
+use crate_graph_values::target::TargetLoadError;
 use semver::Version;
 use serde_json::Value;
 use std::alloc::{AllocError, Global};

@@ -1,10 +1,10 @@
 //! Configurations as they are compared.
 
-use base_text::Limits;
+use base_text::{Limits, Tools};
 use cases::{Fault, List, Object, paths_answer, text_answer, texts_answer};
-use crate_values::Env;
-use live_input::LiveConfig;
-use pm_config::{CargoConfig, CargoFeatures, Tools};
+use crate_graph_values::Env;
+use live_config::LiveConfig;
+use pm_cargo_config::{CargoConfig, CargoFeatures};
 use serde_json::Value;
 use std::alloc::Global;
 

@@ -3,7 +3,7 @@
 use crate::values::words_at;
 use base_text::{MemorySink, MemorySource};
 use cases::{Case, Fault, Object, bytes_answer};
-use live::live_top;
+use live::{Live, live_cli};
 use serde_json::Value;
 use std::alloc::Global;
 
@@ -13,7 +13,15 @@ pub fn answer(alloc: Global, case: Case<'_>) -> Result<Value, Fault> {
     let mut input = MemorySource::new(case.text("script").as_bytes().to_vec(alloc)?);
     let mut out = MemorySink::new(alloc);
     let mut err = MemorySink::new(alloc);
-    let status = live_top(alloc, words.as_slice(), &mut input, &mut out, &mut err);
+    let mut live = Live::new(alloc)?;
+    let status = live_cli(
+        alloc,
+        words.as_slice(),
+        &mut live,
+        &mut input,
+        &mut out,
+        &mut err,
+    );
     Object::new(alloc)
         .number("status", status as u64)
         .member("out", bytes_answer(alloc, out.bytes()))

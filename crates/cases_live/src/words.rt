@@ -4,7 +4,7 @@ use crate::config::config_answer;
 use crate::values::words_at;
 use base_text::TryClone;
 use cases::{Case, Fault, Object};
-use live_input::{Command, LiveConfig, WordsError};
+use live_config::{Command, LiveConfig, WordsError};
 use serde_json::Value;
 use std::alloc::Global;
 

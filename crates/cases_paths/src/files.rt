@@ -2,13 +2,11 @@
 
 use crate::marks;
 use crate::vfs_paths::vfs_path;
-use base_text::{Items, TryClone};
+use base_text::{FileId, Items, TryClone};
 use cases::{Case, Fault, List, Object, bytes_answer, text_answer};
 use serde_json::Value;
 use std::alloc::Global;
-use vfs_core::{
-    Change, ChangeKind, ChangedFile, FileExcluded, FileId, Vfs, VfsError, content_hash,
-};
+use vfs_core::{Change, ChangeKind, ChangedFile, FileExcluded, Vfs, VfsError, content_hash};
 
 /// What a call on files gives.
 pub fn answer(alloc: Global, case: Case<'_>) -> Result<Value, Fault> {

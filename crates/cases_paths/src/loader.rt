@@ -5,7 +5,7 @@ use cases::{Case, Fault, List, absolute, paths, paths_answer, texts, texts_answe
 use serde_json::Value;
 use std::alloc::{AllocError, Global};
 use std::fmt;
-use vfs_loader::{Config, Directories, Entry, LoadingProgress, Message};
+use vfs_core_loader::{Config, Directories, Entry, LoadingProgress, Message};
 
 /// What a call on entries gives.
 pub fn answer(alloc: Global, case: Case<'_>) -> Result<Value, Fault> {

@@ -1,10 +1,9 @@
 //! What a tree in memory answers about a path.
 
-use base_text::{AbsPath, Items, Text, TryClone};
+use base_text::{AbsPath, Items, MemoryTree, Text, Tree, TryClone};
 use cases::{Case, Fault, absolute, optional_answer, texts_answer};
 use serde_json::Value;
 use std::alloc::{AllocError, Global};
-use trees::{MemoryTree, Tree};
 
 /// What a copy of the tree of the files of a case answers.
 pub fn answer(alloc: Global, case: Case<'_>) -> Result<Value, Fault> {

@@ -1,11 +1,11 @@
 //! Sets of files: in which set a path belongs, and which file a relative path names.
 
 use crate::vfs_paths::vfs_path;
-use base_text::{Counter, Ledger, Steps, TryClone};
+use base_text::{Counter, FileId, Ledger, Steps, TryClone};
 use cases::{Case, Fault, List, Object, bytes_answer};
 use serde_json::Value;
 use std::alloc::Global;
-use vfs_core::{AnchoredPath, FileId, Vfs, VfsPath};
+use vfs_core::{AnchoredPath, Vfs, VfsPath};
 use vfs_sets::{FileSet, FileSetConfig, FileSetConfigBuilder};
 
 /// What a call on sets gives.

@@ -2,11 +2,10 @@
 
 ghost use Rattle.std.specs.Prelude.{◌≡◌};
 
-use base_text::{CommandLine, Output, RecordedRunner, Runner};
-use pm_sysroot::Ask;
+use base_text::{CommandLine, MemoryTree, Output, RecordedRunner, Runner};
+use pm_tools_ask::Ask;
 use std::alloc::{AllocError, Global};
 use std::cell::Cell;
-use trees::MemoryTree;
 
 /// Gives the recorded answers, and counts the questions.
 #[derive(Drop)]

@@ -4,10 +4,10 @@ use crate::loaders::live_loader;
 use crate::lowerings::{graph_answer, limits_of, workspace_data};
 use crate::roots::out_dirs_of;
 use crate::values::{roots_answer, workspace_of};
-use case_tools::manifest_of;
-use cases::{Case, Fault, paths};
+use cases::{Case, Fault, manifest_of, paths};
 use pm_cargo::CargoWorkspace;
-use pm_detached::{detached_roots, lower_detached};
+use pm_lower_crates::lower_detached;
+use pm_lower_load::detached_roots;
 use serde_json::Value;
 use std::alloc::Global;
 

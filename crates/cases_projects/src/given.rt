@@ -3,14 +3,14 @@
 ghost use Rattle.std.specs.Prelude.{◌≡◌};
 
 use crate::values::limit_of;
-use base_text::{Limits, RecordedRunner};
-use case_tools::{insert, usual_tools};
-use cases::{Case, Fault, optional_path, optional_text, paths, runner_of, variables};
+use base_text::{Limits, MemoryTree, RecordedRunner, Tools};
+use cases::{
+    Case, Fault, insert, optional_path, optional_text, paths, runner_of, usual_tools, variables,
+};
 use crate_graph::Env;
-use pm_config::{CargoConfig, Tools};
-use pm_sysroot::Ask;
+use pm_cargo_config::CargoConfig;
+use pm_tools_ask::Ask;
 use std::alloc::Global;
-use trees::MemoryTree;
 
 /// What a load is given besides its manifest and its configuration.
 #[derive(Drop)]

@@ -3,14 +3,13 @@
 use crate::loaders::live_loader;
 use crate::lowerings::refusal;
 use crate::projects::has_no_rustc;
-use base_text::{Limits, RecordedRunner};
+use base_text::{Limits, MemoryTree, RecordedRunner};
 use cases::{Case, Fault, List};
 use crate_graph::{CrateBuilder, CrateGraphBuilder, ProcMacroPaths};
 use pm_lower::{LowerError, ProjectWorkspace};
-use pm_sysroot::Ask;
+use pm_tools_ask::Ask;
 use serde_json::Value;
 use std::alloc::Global;
-use trees::MemoryTree;
 
 /// The crates of a project in order, each by the place of its root file among the live ones, with its dependencies; or
 /// why there is no graph.

@@ -5,9 +5,9 @@ use crate::lowerings::{graph_answer, limits_of, workspace_data};
 use crate::values::roots_answer;
 use base_text::Limits;
 use cases::{Case, Fault, absolute, paths};
-use pm_json::ProjectJson;
-use pm_json_data::ProjectJsonData;
-use pm_json_rows::{json_roots, lower_json};
+use pm_json::{ProjectJson, ProjectJsonData};
+use pm_lower_crates::lower_json;
+use pm_lower_load::json_roots;
 use serde_json::Value;
 use std::alloc::Global;
 

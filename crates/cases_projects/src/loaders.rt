@@ -2,7 +2,7 @@
 
 use base_text::{FileId, TryClone};
 use cases::{Case, Fault, absolute};
-use pm_loader::{Loader, MapLoader};
+use pm_lower_crates::{Loader, MapLoader};
 use serde_json::Value;
 use std::alloc::Global;
 

@@ -5,17 +5,15 @@ use crate::given::{Given, configure};
 use crate::projects::{answer_question, cargo_of, load_project, project_manifest_of};
 use crate::workspace_builds::build_config::command_of;
 use crate::workspace_builds::outputs::{refusal_answer, result_answer};
-use base_text::{AbsPathBuf, RecordedRunner, TryClone};
-use case_tools::Lines;
-use cases::{Case, Fault, List, Object, absolute, output_of};
-use pm_build::WorkspaceBuildScripts;
-use pm_config::{CargoConfig, InvocationStrategy, Quiet};
+use base_text::{AbsPathBuf, MemoryTree, Quiet, RecordedRunner, TryClone};
+use cases::{Case, Fault, Lines, List, Object, absolute, output_of};
+use pm_cargo_config::{CargoConfig, InvocationStrategy};
 use pm_lower::ProjectWorkspace;
 use pm_lower::build_scripts::BuildResult;
-use pm_sysroot::Ask;
+use pm_tools::WorkspaceBuildScripts;
+use pm_tools_ask::Ask;
 use serde_json::Value;
 use std::alloc::Global;
-use trees::MemoryTree;
 
 /// What a case gives.
 pub fn answer(alloc: Global, case: Case<'_>) -> Result<Value, Fault> {

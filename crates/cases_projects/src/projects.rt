@@ -7,21 +7,18 @@ use crate::counting::{CountingRunner, counted};
 use crate::given::{Given, configure};
 use crate::graphs;
 use crate::values::{limit_name, roots_answer, with_text};
-use base_text::{RecordedRunner, Text, Version};
-use case_tools::{Lines, env_answer};
+use base_text::{MemoryTree, Progress, Quiet, RecordedRunner, Text, Version};
 use cases::{
-    Case, Fault, List, absolute, atoms_answer, error_answer, optional_answer, paths_answer,
-    text_answer,
+    Case, Fault, Lines, List, absolute, atoms_answer, env_answer, error_answer, optional_answer,
+    paths_answer, text_answer,
 };
-use crate_graph::target::{Arch, TargetLoadResult};
+use crate_graph_values::target::{Arch, TargetLoadResult};
 use pm_cargo::CargoWorkspace;
-use pm_config::{CargoConfig, Progress, Quiet};
+use pm_cargo_config::CargoConfig;
 use pm_lower::{LoadError, ProjectWorkspace, ProjectWorkspaceKind};
-use pm_sysroot::Ask;
-use pm_tools::ProjectManifest;
+use pm_tools_ask::{Ask, ProjectManifest};
 use serde_json::Value;
 use std::alloc::Global;
-use trees::MemoryTree;
 
 /// What a case gives.
 pub fn answer(alloc: Global, case: Case<'_>) -> Result<Value, Fault> {

@@ -4,7 +4,7 @@ use crate::values::{roots_answer, workspace_of};
 use base_text::{AbsPathBuf, ArenaMap, Items};
 use cases::{Case, Fault, absolute, copied_answer, paths};
 use pm_cargo::{CargoWorkspace, Package, PackageTag};
-use pm_roots::{PackageRoot, cargo_roots};
+use pm_lower_load::{PackageRoot, cargo_roots};
 use serde_json::Value;
 use std::alloc::Global;
 

@@ -2,11 +2,10 @@
 
 use base_text::{Edition, Limit, Limits};
 use cargo_meta::Metadata;
-use case_tools::manifest_of;
-use cases::{Case, Fault, List, Object, paths_answer};
+use cases::{Case, Fault, List, Object, manifest_of, paths_answer};
 use crate_graph::Env;
 use pm_cargo::{CargoWorkspace, WorkspaceError};
-use pm_roots::PackageRoot;
+use pm_lower_load::PackageRoot;
 use serde_json::Value;
 use std::alloc::Global;
 

@@ -2,10 +2,10 @@
 
 use base_text::{TryClone, Version};
 use cases::{Case, Fault, List, atoms_answer, optional_answer};
-use crate_values::target::{Arch, TargetData};
+use crate_graph_values::target::{Arch, TargetData};
+use pm_tools_info::{TargetSpec, atoms_of, host_of, spec_of, version_behind};
 use serde_json::Value;
 use std::alloc::Global;
-use toolchain_answers::{TargetSpec, atoms_of, host_of, spec_of, version_behind};
 
 /// What a call on a text gives.
 pub fn answer(alloc: Global, case: Case<'_>) -> Result<Value, Fault> {

@@ -1,11 +1,11 @@
 //! What is configured, and what versions allow.
 
 use base_text::{ByText, CfgAtom, CfgDiff, CfgOptions, Items, Text, TryClone, Version, parse_cfg};
-use case_tools::{features_of, optional_version, version_of};
 use cases::{
-    Case, Fault, atoms_answer, is_copied, optional_answer, optional_path, texts, variables,
+    Case, Fault, atoms_answer, features_of, is_copied, optional_answer, optional_path,
+    optional_version, texts, variables, version_of,
 };
-use pm_config::{
+use pm_cargo_config::{
     CargoConfig, CargoFeatures, CargoMetadataConfig, CfgOverrides, InvocationStrategy,
     LockfileUsage, TargetDirectoryConfig, lockfile_usage, needs_json_flag,
 };

@@ -1,9 +1,8 @@
 //! The environments that configurations give.
 
 use crate::origins::text_of_case;
-use case_tools::{env_answer, given_of};
-use cases::{Case, Fault};
-use pm_tools::{CargoConfigFile, cargo_config_env};
+use cases::{Case, Fault, env_answer, given_of};
+use pm_tools_ask::{CargoConfigFile, cargo_config_env};
 use serde_json::Value;
 use std::alloc::Global;
 

@@ -2,12 +2,12 @@
 
 use crate::config::metadata_config;
 use crate::tools::root_of;
-use base_text::{RecordedRunner, TryClone};
+use base_text::{Progress, Quiet, RecordedRunner, TryClone};
 use cargo_meta::{Error, Metadata};
-use case_tools::{Lines, manifest_of};
-use cases::{Case, Fault, Object, absolute, line_answer, print_answer, runner_of};
-use pm_config::{Progress, Quiet};
-use pm_fetch::FetchMetadata;
+use cases::{
+    Case, Fault, Lines, Object, absolute, line_answer, manifest_of, print_answer, runner_of,
+};
+use pm_cargo_fetch::FetchMetadata;
 use serde_json::Value;
 use std::alloc::{AllocError, Global};
 

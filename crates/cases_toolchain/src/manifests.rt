@@ -2,7 +2,7 @@
 
 use base_text::{AbsPathBuf, PathError};
 use cases::{Case, Fault, List, Object, error_answer};
-use pm_tools::ProjectManifest;
+use pm_tools_ask::ProjectManifest;
 use serde_json::Value;
 use std::alloc::Global;
 

@@ -2,7 +2,7 @@
 
 use base_text::AbsPathBuf;
 use cases::{Case, Fault, optional_answer, texts};
-use config_origins::origin_root;
+use pm_tools_ask::origin_root;
 use serde_json::Value;
 use std::alloc::{AllocError, Global};
 

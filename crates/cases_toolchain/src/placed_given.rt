@@ -1,12 +1,10 @@
 //! A toolchain of a case, and where it is asked.
 
-use base_text::AbsPathBuf;
-use case_tools::{CaseAsk, Given, manifest_of, usual_tools};
-use cases::{Case, Fault, absolute};
-use pm_packages::ManifestPath;
-use pm_tools::CargoConfigFile;
+use base_text::{AbsPathBuf, ManifestPath};
+use cases::{Case, CaseAsk, Fault, Given, absolute, manifest_of, usual_tools};
+use pm_tools_ask::CargoConfigFile;
+use pm_tools_info::QueryConfig;
 use std::alloc::Global;
-use toolchain_info::QueryConfig;
 
 /// A toolchain with tools of the usual names, and where it is asked.
 #[derive(Drop)]

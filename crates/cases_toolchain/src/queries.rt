@@ -2,11 +2,13 @@
 
 use crate::answers::{machine_answer, version_answer};
 use crate::placed_given::PlacedGiven;
-use case_tools::{CaseAsk, optional_version};
-use cases::{Case, Fault, Object, atoms_answer, copied_answer, print_answer, texts_answer};
+use cases::{
+    Case, CaseAsk, Fault, Object, atoms_answer, copied_answer, optional_version, print_answer,
+    texts_answer,
+};
+use pm_tools_info::{QueryConfig, QueryError, rustc_cfg, target_data, target_tuple, version};
 use serde_json::Value;
 use std::alloc::Global;
-use toolchain_info::{QueryConfig, QueryError, rustc_cfg, target_data, target_tuple, version};
 
 /// What a query gives.
 pub fn answer(alloc: Global, case: Case<'_>) -> Result<Value, Fault> {

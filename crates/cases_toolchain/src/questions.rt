@@ -1,14 +1,12 @@
 //! Questions to the tools of a toolchain, and what is made of their answers.
 
 use base_text::{AbsPath, AbsPathBuf, CommandLine, Text};
-use case_tools::{Given, env_of, given_of, manifest_of, tool_of};
 use cases::{
-    Case, Fault, Object, copied_answer, line_answer, line_of, optional_answer, optional_path,
-    print_answer, text_answer,
+    Case, Fault, Given, Object, copied_answer, env_of, given_of, line_answer, line_of, manifest_of,
+    optional_answer, optional_path, print_answer, text_answer, tool_of,
 };
-use pm_sysroot::{Sysroot, serving_answer, set_variable, words_of};
-use pm_tools::CargoConfigFile;
-use pm_tools::config_question::config_question;
+use pm_tools_ask::config_question::config_question;
+use pm_tools_ask::{CargoConfigFile, Sysroot, serving_answer, set_variable, words_of};
 use serde_json::Value;
 use std::alloc::{AllocError, Global};
 

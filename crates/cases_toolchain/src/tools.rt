@@ -1,8 +1,7 @@
 //! Commands that start the tools of a toolchain.
 
-use case_tools::usual_tools;
-use cases::{Case, Fault, is_copied, line_answer, optional_path, variables};
-use pm_config::{Tool, ToolRoot};
+use base_text::{Tool, ToolRoot};
+use cases::{Case, Fault, is_copied, line_answer, optional_path, usual_tools, variables};
 use serde_json::Value;
 use std::alloc::Global;
 

@@ -3,7 +3,7 @@
 use crate::origins::{item_of_case, root_answer, text_of_case};
 use base_text::Text;
 use cases::{Case, Fault, text_answer, texts};
-use pm_tools::CargoConfigFile;
+use pm_tools_ask::CargoConfigFile;
 use serde_json::Value;
 use std::alloc::{AllocError, Global};
 

@@ -9,8 +9,8 @@ use Rattle.std.proofs.lemmas.List.Elements.{Contains-get_or}
 use Rattle.std.proofs.lemmas.List.Sums.{fold-append, fold_more}
 use Rattle.graph_base.specs.Edges.{HasEdge, IsInRange}
 use Rattle.graph_base.proofs.ReachLemmas.{none_in}
-use Rattle.crate_values.specs.declared.builder.CrateBuilder.{CrateBuilder}
-use Rattle.crate_values.specs.declared.crate_data.Dependency.{Dependency}
+use Rattle.crate_graph_values.specs.declared.builder.CrateBuilder.{CrateBuilder}
+use Rattle.crate_graph_values.specs.declared.crate_data.Dependency.{Dependency}
 use Rattle.crate_graph.specs.Extend.{Id, Merge, before_merge, with_sorted_dependencies, with_new_ids, new_id_at, take_in, with_first_equal, with_crate_at, merge_of}
 use Rattle.crate_graph.specs.Graph.{edges, row_of, target_of}
 use Rattle.crate_graph.proofs.GraphLemmas.{length-edges, row-at, slice_get_some}

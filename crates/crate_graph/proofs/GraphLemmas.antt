@@ -5,13 +5,13 @@ use Rattle.std.proofs.lemmas.Option.{get_or_from_slice_get, slice_get-get_or, sl
 use Rattle.std.proofs.lemmas.List.{length_push, length-map, map-append, map-set, set-get_or, set-set, take_at}
 use Rattle.std.proofs.lemmas.List.Elements.{All-append, All-cons, All-nil, All-set}
 use Rattle.std.specs.List.{All}
-use Rattle.base_text.specs.declared.arena.Idx.{Idx}
+use Rattle.base_text_paths.specs.declared.arena.Idx.{Idx}
 use Rattle.graph_base.specs.Edges.{HasEdge, IsInRange, row, with_edge, with_node}
 use Rattle.graph_base.specs.Reach.{IsAcyclic}
-use Rattle.crate_values.specs.declared.builder.CrateBuilder.{CrateBuilder}
-use Rattle.crate_values.specs.declared.crate_data.CrateTag.{CrateTag}
-use Rattle.crate_values.specs.declared.crate_data.Dependency.{Dependency}
-use Rattle.crate_values.specs.Laws.{HasCleanPath}
+use Rattle.crate_graph_values.specs.declared.builder.CrateBuilder.{CrateBuilder}
+use Rattle.crate_graph_values.specs.declared.crate_data.CrateTag.{CrateTag}
+use Rattle.crate_graph_values.specs.declared.crate_data.Dependency.{Dependency}
+use Rattle.crate_graph_values.specs.Laws.{HasCleanPath}
 use Rattle.crate_graph.specs.Graph.{HasDependency, IsWellMade, edges, row_of, target_of, with_dependency}
 
 pub length-edges : (crates : List CrateBuilder) → length (edges crates) ≡ length crates

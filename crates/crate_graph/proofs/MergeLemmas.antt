@@ -8,15 +8,15 @@ use Rattle.std.specs.declared.cmp.Ordering.{Ordering}
 use Rattle.std.proofs.lemmas.Bool.{cases_lt, false≢true}
 use Rattle.std.proofs.lemmas.List.Elements.{All-append, All-cons, All-map, All-nil, All-weaker, recursion_from_All}
 use Rattle.std.proofs.lemmas.Option.{slice_get-get_or, slice_get_within}
-use Rattle.base_text.specs.Arena.{number_of}
+use Rattle.base_text_paths.specs.Arena.{number_of}
 use Rattle.graph_base.specs.Edges.{HasEdge, IsInRange}
 use Rattle.graph_base.specs.Reach.{IsAcyclic}
-use Rattle.crate_values.specs.declared.builder.CrateBuilder.{CrateBuilder}
+use Rattle.crate_graph_values.specs.declared.builder.CrateBuilder.{CrateBuilder}
 use Rattle.crate_graph.specs.Extend.{AreApart, PassesLimit, HasEquals, Id, Merge, before_merge, with_dependencies, with_sorted_dependencies, merge_of, moved_entry, new_id, with_new_ids, new_id_at, take_in, with_first_equal, with_crate_at}
-use Rattle.crate_values.specs.Laws.{HasCleanPath}
+use Rattle.crate_graph_values.specs.Laws.{HasCleanPath}
 use Rattle.graph_base.specs.Finish.{IsFinishOrder}
 use Rattle.graph_base.proofs.FinishLemmas.{visits_unique}
-use Rattle.graph_order.specs.Order.{IsOrderOf, Ranking, with_next_nodes}
+use Rattle.crate_graph.specs.Order.{IsOrderOf, Ranking, with_next_nodes}
 use Rattle.crate_graph.specs.Graph.{Graph, IsWellMade, edges, row_of}
 use Rattle.crate_graph.proofs.RankLemmas.{ranked-with_more}
 use Rattle.crate_graph.proofs.ExtendLemmas.{before_merge-new_numbers, crate_edge, edge_crate, take_in-new_numbers}

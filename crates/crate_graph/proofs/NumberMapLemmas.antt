@@ -12,10 +12,10 @@ use Rattle.std.proofs.lemmas.Bool.Decides.{nat_tests}
 use Rattle.std.proofs.lemmas.List.{length-map, length_push, take_more}
 use Rattle.std.proofs.lemmas.Option.{slice_get-get_or, slice_get_past}
 use Rattle.std.proofs.lemmas.List.{get_or_append_left, get_or_at, length-take-le}
-use Rattle.base_text.specs.Arena.{number_of}
-use Rattle.base_text.specs.contracts.arena.IdxOrd.TheImpl as orders
-use Rattle.base_text.specs.contracts.arena.IdxPartialEq.TheImpl as equals
-use Rattle.crate_values.specs.contracts.crate_data.CrateTag.{the_row}
+use Rattle.base_text_paths.specs.Arena.{number_of}
+use Rattle.base_text_paths.specs.contracts.arena.IdxOrd.TheImpl as orders
+use Rattle.base_text_paths.specs.contracts.arena.IdxPartialEq.TheImpl as equals
+use Rattle.crate_graph_values.specs.contracts.crate_data.CrateTag.{the_row}
 use Rattle.crate_graph.specs.Extend.{Id, moved_entry}
 
 -- comparing two numbers decides whether they are one

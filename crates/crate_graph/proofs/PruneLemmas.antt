@@ -8,18 +8,18 @@ use Rattle.std.proofs.lemmas.List.{append_assoc, drop_more, get_or-map, length-m
 use Rattle.std.proofs.lemmas.List.Elements.{All-cons, All-head, All-nil, All-tail}
 use Rattle.std.proofs.lemmas.List.Folds.{list_all_at, list_all_more, list_all-map, list_any_at, list_any_more}
 use Rattle.std.proofs.lemmas.List.FromFn.{get_or-map-range_with_len, length-map-range_with_len, map-range_with_len_more}
-use Rattle.base_text.specs.Arena.{number_of}
-use Rattle.base_text.specs.declared.arena.Idx.{Idx}
+use Rattle.base_text_paths.specs.Arena.{number_of}
+use Rattle.base_text_paths.specs.declared.arena.Idx.{Idx}
 use Rattle.graph_base.specs.Edges.{IsInRange, row}
 use Rattle.graph_base.specs.Reach.{IsAcyclic}
 use Rattle.graph_base.specs.Kept.{IsClosed, is_named, kept_below, kept_rows}
 use Rattle.crate_graph.proofs.GraphLemmas.{length-edges}
-use Rattle.crate_values.specs.declared.builder.CrateBuilder.{CrateBuilder}
-use Rattle.crate_values.specs.declared.crate_data.CrateTag.{CrateTag}
-use Rattle.crate_values.specs.declared.crate_data.Dependency.{Dependency}
+use Rattle.crate_graph_values.specs.declared.builder.CrateBuilder.{CrateBuilder}
+use Rattle.crate_graph_values.specs.declared.crate_data.CrateTag.{CrateTag}
+use Rattle.crate_graph_values.specs.declared.crate_data.Dependency.{Dependency}
 use Rattle.crate_graph.specs.Graph.{IsWellMade, edges, row_of, target_of}
-use Rattle.crate_values.specs.Laws.{HasCleanPath, renamed_dependency}
-use Rattle.graph_order.specs.Suborder.{new_number}
+use Rattle.crate_graph_values.specs.Laws.{HasCleanPath, renamed_dependency}
+use Rattle.crate_graph.specs.Suborder.{new_number}
 use Rattle.crate_graph.specs.Prune.{Stays, kept_crates, renumbered_crate, renumbered_id, number_at}
 
 -- each number of a list is named by it

@@ -9,9 +9,9 @@ use Rattle.graph_base.specs.Edges.{HasEdge, IsInRange, row, with_edge, with_node
 use Rattle.graph_base.proofs.KeptLemmas.{edge_within}
 use Rattle.graph_base.proofs.MarkLemmas.{pushed_old}
 use Rattle.graph_base.proofs.ReachLemmas.{edge_cases, in_range_with_edge, in_range_with_node, node_edges, none_in}
-use Rattle.graph_order.specs.Insertion.{MakesRoom}
-use Rattle.graph_order.specs.Order.{IsOrder, IsOrderOf, Ranking, empty_order, with_next_node, with_next_nodes}
-use Rattle.graph_order.proofs.OrderLemmas.{length-with_next_nodes, next_more, order-with_next_node}
+use Rattle.crate_graph.specs.Insertion.{MakesRoom}
+use Rattle.crate_graph.specs.Order.{IsOrder, IsOrderOf, Ranking, empty_order, with_next_node, with_next_nodes}
+use Rattle.crate_graph.proofs.OrderLemmas.{length-with_next_nodes, next_more, order-with_next_node}
 
 -- ---- one more crate
 

@@ -15,11 +15,11 @@ use Rattle.graph_base.specs.Edges.{HasEdge}
 use Rattle.graph_base.specs.Finish.{IsBehindTargets}
 use Rattle.graph_base.proofs.FinishLemmas.{contains_cases}
 use Rattle.graph_base.proofs.ReachLemmas.{none_in}
-use Rattle.crate_values.specs.declared.builder.CrateBuilder.{CrateBuilder}
-use Rattle.crate_values.specs.declared.crate_data.Dependency.{Dependency}
+use Rattle.crate_graph_values.specs.declared.builder.CrateBuilder.{CrateBuilder}
+use Rattle.crate_graph_values.specs.declared.crate_data.Dependency.{Dependency}
 use Rattle.crate_graph.specs.Extend.{Id, Merge, KeepsCrates, before_merge, by_number, with_dependencies, with_sorted_dependencies, merge_of, with_new_ids, new_id_at, take_in, with_crate_at}
 use Rattle.crate_graph.specs.Graph.{edges, row_of, target_of}
-use Rattle.crate_values.specs.Laws.{renamed_dependency}
+use Rattle.crate_graph_values.specs.Laws.{renamed_dependency}
 use Rattle.crate_graph.proofs.ExtendLemmas.{before_merge-long, before_merge-new_numbers, crate_edge, edge_crate, take_in-at}
 use Rattle.crate_graph.proofs.GraphLemmas.{length-edges, slice_get_some}
 

@@ -4,16 +4,16 @@ use Rattle.std.specs.BTreeMap as tree
 use Rattle.std.specs.Option.{option_map, option_or}
 use Rattle.std.specs.Ordering.{nat_cmp}
 use Rattle.std.specs.declared.cmp.Ordering.{Ordering}
-use Rattle.base_text.specs.Arena.{number_of}
+use Rattle.base_text_paths.specs.Arena.{number_of}
 use Rattle.base_values.specs.Sorted.{sorted}
-use Rattle.base_text.specs.declared.arena.Idx.{Idx}
+use Rattle.base_text_paths.specs.declared.arena.Idx.{Idx}
 use Rattle.graph_base.specs.Finish.{IsFinishOrder}
-use Rattle.graph_order.specs.Order.{with_next_nodes}
+use Rattle.crate_graph.specs.Order.{with_next_nodes}
 use Rattle.crate_graph.specs.Graph.{Graph, edges, target_of}
-use Rattle.crate_values.specs.Laws.{renamed_dependency}
-use Rattle.crate_values.specs.declared.builder.CrateBuilder.{CrateBuilder}
-use Rattle.crate_values.specs.declared.crate_data.CrateTag.{CrateTag}
-use Rattle.crate_values.specs.declared.crate_data.Dependency.{Dependency}
+use Rattle.crate_graph_values.specs.Laws.{renamed_dependency}
+use Rattle.crate_graph_values.specs.declared.builder.CrateBuilder.{CrateBuilder}
+use Rattle.crate_graph_values.specs.declared.crate_data.CrateTag.{CrateTag}
+use Rattle.crate_graph_values.specs.declared.crate_data.Dependency.{Dependency}
 
 -- the number of a crate
 abbrev pub Id : Type 0

@@ -1,16 +1,16 @@
 -- The crates of a graph, the edges between them, and what every graph keeps.
 use Rattle.std.specs.Prelude.{◌≡◌, ℕ, ◌<◌, ◌≤◌, ◌^◌, List, ◌++◌, ◌∷◌, [], map, length, codes, Some, slice_get, slice_set}
 use Rattle.std.specs.List.{All}
-use Rattle.base_text.specs.Arena.{number_of}
-use Rattle.base_text.specs.declared.arena.Idx.{Idx}
+use Rattle.base_text_paths.specs.Arena.{number_of}
+use Rattle.base_text_paths.specs.declared.arena.Idx.{Idx}
 use Rattle.graph_base.specs.Edges.{IsInRange}
 use Rattle.graph_base.specs.Reach.{IsAcyclic}
-use Rattle.graph_order.specs.Insertion.{MakesRoom}
-use Rattle.graph_order.specs.Order.{IsOrderOf, Ranking, with_next_node}
-use Rattle.crate_values.specs.Laws.{HasCleanPath}
-use Rattle.crate_values.specs.declared.builder.CrateBuilder.{CrateBuilder}
-use Rattle.crate_values.specs.declared.crate_data.Dependency.{Dependency}
-use Rattle.crate_values.specs.declared.crate_data.CrateTag.{CrateTag}
+use Rattle.crate_graph.specs.Insertion.{MakesRoom}
+use Rattle.crate_graph.specs.Order.{IsOrderOf, Ranking, with_next_node}
+use Rattle.crate_graph_values.specs.Laws.{HasCleanPath}
+use Rattle.crate_graph_values.specs.declared.builder.CrateBuilder.{CrateBuilder}
+use Rattle.crate_graph_values.specs.declared.crate_data.Dependency.{Dependency}
+use Rattle.crate_graph_values.specs.declared.crate_data.CrateTag.{CrateTag}
 
 -- the number of the crate that a dependency names
 abbrev pub target_of : Dependency (Idx CrateTag) → ℕ

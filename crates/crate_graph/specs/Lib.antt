@@ -1,7 +1,14 @@
+pub mod Blocks
+pub mod Counting
 pub mod Cyclic
 pub mod Extend
 pub mod Graph
 pub mod GraphError
+pub mod Insertion
+pub mod Order
 pub mod Places
+pub mod Placing
 pub mod Prune
 pub mod Refused
+pub mod Suborder
+pub mod Walking

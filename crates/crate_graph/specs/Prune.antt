@@ -1,14 +1,14 @@
 -- The crates that stay where only some are kept, numbered anew in their order.
 use Rattle.std.specs.Prelude.{◌≡◌, ℕ, suc, ◌<◌, true, List, [], ◌∷◌, length, slice_index_or, if◌then◌else◌}
-use Rattle.base_text.specs.Arena.{number_of}
-use Rattle.base_text.specs.declared.arena.Idx.{Idx}
+use Rattle.base_text_paths.specs.Arena.{number_of}
+use Rattle.base_text_paths.specs.declared.arena.Idx.{Idx}
 use Rattle.graph_base.specs.Edges.{HasEdge}
 use Rattle.graph_base.specs.Kept.{is_named, kept_below}
-use Rattle.graph_order.specs.Suborder.{kept_nodes}
+use Rattle.crate_graph.specs.Suborder.{kept_nodes}
 use Rattle.crate_graph.specs.Graph.{Graph}
-use Rattle.crate_values.specs.Laws.{renamed_crate}
-use Rattle.crate_values.specs.declared.builder.CrateBuilder.{CrateBuilder}
-use Rattle.crate_values.specs.declared.crate_data.CrateTag.{CrateTag}
+use Rattle.crate_graph_values.specs.Laws.{renamed_crate}
+use Rattle.crate_graph_values.specs.declared.builder.CrateBuilder.{CrateBuilder}
+use Rattle.crate_graph_values.specs.declared.crate_data.CrateTag.{CrateTag}
 
 -- a number under a new name
 abbrev pub renumbered_id : (ℕ → ℕ) → Idx CrateTag → Idx CrateTag

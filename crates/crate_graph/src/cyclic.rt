@@ -5,8 +5,8 @@ ghost use Rattle.std.specs.Fmt.{DisplaysOnOk};
 ghost use Rattle.std.specs.Option.{option_copied};
 ghost use Rattle.crate_graph.specs.Cyclic.{back_text, end_text, names, numbers, shown_of, step_text};
 
-use base_text::{Items, TryClone};
-use crate_values::{CrateBuilder, CrateBuilderId, CrateDisplayName};
+use base_text_paths::{Items, TryClone};
+use crate_graph_values::{CrateBuilder, CrateBuilderId, CrateDisplayName};
 use std::alloc::{AllocError, Global};
 use std::error::Error;
 use std::fmt;

@@ -5,10 +5,10 @@ ghost use Rattle.std.specs.Prelude.{IfOk, IsErrOf, OnErr, OnOk, IsTrue, slice_ge
 ghost use Rattle.std.specs.Iterator.{YieldsFirstBy, item_count};
 ghost use Rattle.std.specs.List.{range_with_len};
 ghost use Rattle.std.specs.Option.{option_map};
-ghost use Rattle.base_text.specs.Arena.{number_of};
-ghost use Rattle.crate_values.specs.Builder.{crate_of};
+ghost use Rattle.base_text_paths.specs.Arena.{number_of};
+ghost use Rattle.crate_graph_values.specs.Builder.{crate_of};
 ghost use Rattle.crate_graph.specs.Graph.{AddsCrate, IsWellMade, attribute, edges};
-ghost use Rattle.graph_order.specs.Order.{IsOrderOf, empty_order, with_next_node};
+ghost use Rattle.crate_graph.specs.Order.{IsOrderOf, empty_order, with_next_node};
 ghost use Rattle.std.specs.Vec.{vec_capacity, vec_len};
 
 mod add_dep;
@@ -18,13 +18,14 @@ mod prune;
 mod reach;
 mod renaming;
 
-use base_text::{AbsPathBuf, CfgOptions, Edition, FileId, Items, Shared, Text};
-use crate_values::{
+use crate::insertion::Marks;
+use crate::order::Order;
+use base_text_paths::{AbsPathBuf, CfgOptions, Edition, FileId, Items, Shared, Text};
+use crate_graph_values::{
     CrateBuilder, CrateBuilderId, CrateData, CrateDisplayName, CrateOrigin, CrateWorkspaceData,
     Env, ExtraCrateData, TargetKind,
 };
 use graph_base::Graph;
-use graph_order::{Marks, Order};
 use std::alloc::{AllocError, Global};
 use std::error::Error;
 use std::fmt;

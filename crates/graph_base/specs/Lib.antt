@@ -1,7 +1,15 @@
+pub mod Blocks
 pub mod EdgeList
 pub mod Edges
 pub mod Finish
 pub mod Kept
+pub mod Listing
+pub mod Placing
+pub mod Pushing
+pub mod Ranks
 pub mod Reach
+pub mod Reversed
+pub mod Ring
+pub mod Spreading
 pub mod Trail
 pub mod Walk

@@ -5,7 +5,7 @@ use Rattle.std.specs.declared.cmp.Ordering.{Ordering}
 use Rattle.crate_graph.specs.Graph.{Graph}
 use Rattle.input_db.specs.Change.{IsChanged, SetsCrates, text_after}
 use Rattle.input_db.specs.Database.{Database}
-use Rattle.source_files.specs.Files.{FileTables, file_root_of, root_of, text_of}
+use Rattle.input_db_files.specs.Files.{FileTables, file_root_of, root_of, text_of}
 use Rattle.crate_graph.specs.Extend.{Id}
 use Rattle.input_db.specs.SetInDb.{KeepsFiles}
 use Rattle.input_db.specs.declared.change.FileChange.{FileChange}

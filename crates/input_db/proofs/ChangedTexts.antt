@@ -6,11 +6,11 @@ use Rattle.std.specs.Option.{option_map, option_or, unwrap_or}
 use Rattle.input_db.specs.Applied.{database_after_change, with_changed_file, with_changed_files, with_roots_from}
 use Rattle.input_db.specs.Change.{IsChanged, text_after, text_given}
 use Rattle.input_db.specs.Database.{Database}
-use Rattle.source_files.specs.Files.{FileTables, durability_of_file, stored_text, text_of}
+use Rattle.input_db_files.specs.Files.{FileTables, durability_of_file, stored_text, text_of}
 use Rattle.input_db.specs.declared.change.FileChange.{FileChange}
-use Rattle.source_files.specs.declared.inputs.FileText.{FileText}
-use Rattle.source_files.specs.declared.source_root.SourceRoot.{SourceRoot}
-use Rattle.source_files.proofs.Entries.{get_set}
+use Rattle.input_db_files.specs.declared.inputs.FileText.{FileText}
+use Rattle.input_db_files.specs.declared.source_root.SourceRoot.{SourceRoot}
+use Rattle.input_db_files.proofs.Entries.{get_set}
 use Rattle.input_db.proofs.GivenRoots.{places_given, roots_from-texts, roots_given}
 
 files-roots : (files : FileTables) (changed : List (ℕ × Option (List ℕ)))

@@ -4,16 +4,16 @@ use Rattle.std.specs.Bool.{beq}
 use Rattle.std.specs.Prelude.{bytes_eq, nat_eq, ◌↔◌}
 use Rattle.std.specs.Cmp.Lexicographic.{pointwise, pointwise_decides}
 use Rattle.base_values.specs.Equality.{IsContentEquality}
-use Rattle.base_text.specs.PathOrder.{path_eq}
-use Rattle.base_text.specs.Paths.{IsClean}
-use Rattle.base_text.specs.contracts.cfg.CfgAtomPartialEq.TheImpl as atom
-use Rattle.base_text.specs.contracts.edition.EditionPartialEq.TheImpl as edition
-use Rattle.base_text.specs.declared.cfg.CfgAtom.{CfgAtom}
-use Rattle.crate_values.proofs.LawLemmas.{crates_are_equal}
-use Rattle.crate_values.specs.contracts.origin.CrateOriginPartialEq.TheImpl as origin
-use Rattle.crate_values.specs.contracts.target_kind.TargetKindPartialEq.TheImpl as kind
-use Rattle.crate_values.specs.declared.crate_data.CrateData.{CrateData}
-use Rattle.crate_values.specs.declared.crate_data.Dependency.{Dependency}
+use Rattle.base_text_paths.specs.PathOrder.{path_eq}
+use Rattle.base_text_paths.specs.Paths.{IsClean}
+use Rattle.base_text_outside.specs.contracts.cfg.CfgAtomPartialEq.TheImpl as atom
+use Rattle.base_text_paths.specs.contracts.edition.EditionPartialEq.TheImpl as edition
+use Rattle.base_text_outside.specs.declared.cfg.CfgAtom.{CfgAtom}
+use Rattle.crate_graph_values.proofs.LawLemmas.{crates_are_equal}
+use Rattle.crate_graph_values.specs.contracts.origin.CrateOriginPartialEq.TheImpl as origin
+use Rattle.crate_graph_values.specs.contracts.target_kind.TargetKindPartialEq.TheImpl as kind
+use Rattle.crate_graph_values.specs.declared.crate_data.CrateData.{CrateData}
+use Rattle.crate_graph_values.specs.declared.crate_data.Dependency.{Dependency}
 use Rattle.input_db.specs.Identity.{HasCleanIdentity, full_identity, unique_eq}
 use Rattle.input_db.specs.declared.crate_input.UniqueCrateData.{UniqueCrateData}
 use Rattle.input_db.proofs.Contents.{ComparesCrates, full_parts, identities_compare}

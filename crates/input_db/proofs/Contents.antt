@@ -3,15 +3,15 @@ use Rattle.std.proofs.Common.{◌≡◌, ℕ, List, Bool, true, false, ◌&&◌,
 use Rattle.std.specs.Prelude.{nat_eq, ◌↔◌}
 use Rattle.std.proofs.lemmas.Bool.{and_parts, eqb-true, false≢true}
 use Rattle.base_values.specs.Equality.{IsContentEquality}
-use Rattle.base_text.specs.Paths.{IsClean}
-use Rattle.base_text.specs.declared.cfg.CfgAtom.{CfgAtom}
-use Rattle.crate_values.specs.declared.builder.ExtraCrateData.{ExtraCrateData}
-use Rattle.crate_values.specs.declared.crate_data.CrateData.{CrateData}
-use Rattle.crate_values.specs.declared.workspace_data.CrateWorkspaceData.{CrateWorkspaceData}
+use Rattle.base_text_paths.specs.Paths.{IsClean}
+use Rattle.base_text_outside.specs.declared.cfg.CfgAtom.{CfgAtom}
+use Rattle.crate_graph_values.specs.declared.builder.ExtraCrateData.{ExtraCrateData}
+use Rattle.crate_graph_values.specs.declared.crate_data.CrateData.{CrateData}
+use Rattle.crate_graph_values.specs.declared.workspace_data.CrateWorkspaceData.{CrateWorkspaceData}
 use Rattle.input_db.specs.Identity.{HasCleanIdentity, HasCleanInput, full_identity, input_eq, root_identity, unique_eq}
 use Rattle.input_db.specs.declared.crate_input.CrateInput.{CrateInput}
 use Rattle.input_db.specs.declared.crate_input.UniqueCrateData.{UniqueCrateData}
-use Rattle.source_files.specs.declared.durability.Durability.{Durability}
+use Rattle.input_db_files.specs.declared.durability.Durability.{Durability}
 
 -- the equality of crate data is that of its content, for data with clean paths
 abbrev pub ComparesCrates : (CrateData ℕ → CrateData ℕ → Bool) → Type 0

@@ -9,11 +9,11 @@ use Rattle.input_db.proofs.Numbers.{at_start, shift}
 use Rattle.input_db.specs.Applied.{with_given_root, with_members, with_roots_from}
 use Rattle.input_db.specs.Change.{place_after, place_given, root_after, root_given}
 use Rattle.input_db.specs.Database.{Database, with_files}
-use Rattle.source_files.specs.Files.{FileTables, file_root_of, root_of, stored_place, with_file_root}
-use Rattle.source_files.specs.SourceRoot.{files_in, has_file, root_durability}
-use Rattle.source_files.specs.declared.durability.Durability.{Durability}
-use Rattle.source_files.specs.declared.source_root.SourceRoot.{SourceRoot}
-use Rattle.source_files.proofs.Entries.{get_set}
+use Rattle.input_db_files.specs.Files.{FileTables, file_root_of, root_of, stored_place, with_file_root}
+use Rattle.input_db_files.specs.SourceRoot.{files_in, has_file, root_durability}
+use Rattle.input_db_files.specs.declared.durability.Durability.{Durability}
+use Rattle.input_db_files.specs.declared.source_root.SourceRoot.{SourceRoot}
+use Rattle.input_db_files.proofs.Entries.{get_set}
 
 -- one root more is given
 roots_from-append : (n : ℕ) (files : FileTables) (roots : List SourceRoot) (root : SourceRoot)

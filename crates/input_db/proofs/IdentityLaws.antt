@@ -10,12 +10,12 @@ use Rattle.std.proofs.lemmas.List.Folds.{list_any_at}
 use Rattle.std.proofs.lemmas.List.Quantifiers.{position-Some}
 use Rattle.std.proofs.lemmas.Option.{same_Some}
 use Rattle.graph_base.specs.Finish.{IsBehindTargets}
-use Rattle.base_text.specs.Paths.{IsClean}
-use Rattle.base_text.specs.declared.cfg.CfgAtom.{CfgAtom}
+use Rattle.base_text_paths.specs.Paths.{IsClean}
+use Rattle.base_text_outside.specs.declared.cfg.CfgAtom.{CfgAtom}
 use Rattle.crate_graph.proofs.GraphLemmas.{clean_at}
 use Rattle.crate_graph.specs.Graph.{edges}
-use Rattle.crate_values.specs.declared.builder.CrateBuilder.{CrateBuilder}
-use Rattle.crate_values.specs.declared.crate_data.CrateData.{CrateData}
+use Rattle.crate_graph_values.specs.declared.builder.CrateBuilder.{CrateBuilder}
+use Rattle.crate_graph_values.specs.declared.crate_data.CrateData.{CrateData}
 use Rattle.input_db.specs.Database.{Database}
 use Rattle.input_db.specs.Identity.{Table, crate_in, unique_eq, uniques_in}
 use Rattle.input_db.specs.Identity.{full_identity, data_of, identity_of, input_of, number_in, root_identity}

@@ -4,7 +4,7 @@ use Rattle.std.specs.Prelude.{slice_get}
 use Rattle.std.proofs.lemmas.Bool.{cases_lt}
 use Rattle.graph_base.specs.Finish.{IsBehindTargets}
 use Rattle.crate_graph.specs.Graph.{edges}
-use Rattle.crate_values.specs.declared.builder.CrateBuilder.{CrateBuilder}
+use Rattle.crate_graph_values.specs.declared.builder.CrateBuilder.{CrateBuilder}
 use Rattle.input_db.specs.Database.{Database}
 use Rattle.input_db.specs.Identity.{Table, input_in, unique_eq, uniques_in, with_entry}
 use Rattle.input_db.specs.Identity.{input_of, number_in}

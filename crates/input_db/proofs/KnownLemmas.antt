@@ -10,9 +10,9 @@ use Rattle.std.proofs.lemmas.List.{get_or_default, get_or-take, length-replicate
 use Rattle.std.proofs.lemmas.List.Elements.{All-cons, All-nil, All-push, Contains-append_cases, Contains-append_right, Contains-push_cases}
 use Rattle.std.proofs.lemmas.List.Sums.{fold_push}
 use Rattle.graph_base.specs.Finish.{IsBehindTargets}
-use Rattle.crate_values.specs.declared.builder.CrateBuilder.{CrateBuilder}
-use Rattle.crate_values.specs.declared.crate_data.Dependency.{Dependency}
-use Rattle.crate_values.specs.Laws.{renamed_dependency}
+use Rattle.crate_graph_values.specs.declared.builder.CrateBuilder.{CrateBuilder}
+use Rattle.crate_graph_values.specs.declared.crate_data.Dependency.{Dependency}
+use Rattle.crate_graph_values.specs.Laws.{renamed_dependency}
 use Rattle.crate_graph.proofs.ExtendLemmas.{crate_edge}
 use Rattle.crate_graph.proofs.GraphLemmas.{length-edges, slice_get_some}
 use Rattle.crate_graph.specs.Graph.{edges, target_of}

@@ -8,7 +8,7 @@ use Rattle.std.specs.Cmp.{nat_cmp_is}
 use Rattle.std.specs.List.{AllByRecursion}
 use Rattle.std.specs.Ordering.{nat_cmp}
 use Rattle.input_db.specs.Change.{numbers_from, numbers_of}
-use Rattle.source_files.specs.declared.source_root.SourceRoot.{SourceRoot}
+use Rattle.input_db_files.specs.declared.source_root.SourceRoot.{SourceRoot}
 
 -- a number above all others goes last
 insert_key-last : (ks : List ℕ) (n : ℕ) → AllByRecursion (λ k. k < n) ks

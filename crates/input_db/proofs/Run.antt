@@ -1,6 +1,6 @@
 -- The crates of a graph that are finished one by one, by the numbers that they have in the end.
 use Rattle.std.specs.Prelude.{◌≡◌, ℕ, suc, ◌<◌, List, Some, length, slice_index_or, take}
-use Rattle.crate_values.specs.declared.builder.CrateBuilder.{CrateBuilder}
+use Rattle.crate_graph_values.specs.declared.builder.CrateBuilder.{CrateBuilder}
 use Rattle.input_db.specs.Database.{Database}
 use Rattle.input_db.specs.Identity.{identity_of, input_of, number_in}
 use Rattle.input_db.specs.FinishSteps.{Progress, is_first_of_root, progress_after, with_put_crate}

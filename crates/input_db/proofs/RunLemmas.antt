@@ -11,12 +11,12 @@ use Rattle.std.proofs.lemmas.List.Elements.{Contains-append_right}
 use Rattle.std.proofs.lemmas.List.Sums.{fold-append, fold_more}
 use Rattle.std.proofs.lemmas.Option.{slice_get-get_or, slice_get_past}
 use Rattle.graph_base.specs.Finish.{IsBehindTargets}
-use Rattle.crate_values.specs.declared.builder.CrateBuilder.{CrateBuilder}
-use Rattle.crate_values.specs.declared.crate_data.CrateData.{CrateData}
-use Rattle.crate_values.specs.declared.crate_data.Dependency.{Dependency}
-use Rattle.crate_values.specs.Builder.{workspace_of}
+use Rattle.crate_graph_values.specs.declared.builder.CrateBuilder.{CrateBuilder}
+use Rattle.crate_graph_values.specs.declared.crate_data.CrateData.{CrateData}
+use Rattle.crate_graph_values.specs.declared.crate_data.Dependency.{Dependency}
+use Rattle.crate_graph_values.specs.Builder.{workspace_of}
 use Rattle.crate_graph.specs.Graph.{edges, row_of, target_of}
-use Rattle.crate_values.specs.Laws.{renamed_dependency}
+use Rattle.crate_graph_values.specs.Laws.{renamed_dependency}
 use Rattle.crate_graph.proofs.ExtendLemmas.{crate_edge}
 use Rattle.input_db.specs.Database.{Database}
 use Rattle.crate_graph.specs.Extend.{Id}
@@ -24,7 +24,7 @@ use Rattle.input_db.specs.Identity.{full_identity, data_of, number_in, root_iden
 use Rattle.input_db.specs.FinishSteps.{Progress, finish, finish_crate, is_first_of_root, progress_after}
 use Rattle.input_db.specs.FinishSteps.{initial_progress, with_put_crate}
 use Rattle.input_db.specs.SetInDb.{crate_at}
-use Rattle.source_files.specs.declared.durability.Durability.TheVariants.{Medium}
+use Rattle.input_db_files.specs.declared.durability.Durability.TheVariants.{Medium}
 use Rattle.input_db.proofs.Run.{IsRun, IsStable, before, final_numbers}
 
 -- the crate of a number is finished

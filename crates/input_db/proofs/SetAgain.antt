@@ -14,10 +14,10 @@ use Rattle.std.proofs.lemmas.Option.{same_Some}
 use Rattle.indexmap.specs.IndexMap.{insert_entry}
 use Rattle.graph_base.proofs.FinishLemmas.{visits_unique}
 use Rattle.graph_base.specs.Finish.{IsBehindTargets}
-use Rattle.crate_values.specs.Builder.{workspace_of}
+use Rattle.crate_graph_values.specs.Builder.{workspace_of}
 use Rattle.crate_graph.specs.Graph.{edges, row_of}
-use Rattle.crate_values.specs.declared.builder.CrateBuilder.{CrateBuilder}
-use Rattle.crate_values.specs.declared.crate_data.CrateData.{CrateData}
+use Rattle.crate_graph_values.specs.declared.builder.CrateBuilder.{CrateBuilder}
+use Rattle.crate_graph_values.specs.declared.crate_data.CrateData.{CrateData}
 use Rattle.input_db.specs.Database.{Database, with_crate_input, with_crate_list, writes_after}
 use Rattle.input_db.specs.FinishSteps.{IsSetInSteps, Progress, progress_after, with_new_list}
 use Rattle.crate_graph.specs.Extend.{Id}
@@ -27,7 +27,7 @@ use Rattle.input_db.specs.SetInDb.{HaveIdentities, HaveOwnNumbers, crate_at, fir
 use Rattle.input_db.specs.SetInDb.{number_at}
 use Rattle.input_db.specs.declared.crate_input.CrateInput.{CrateInput}
 use Rattle.input_db.specs.declared.crate_input.UniqueCrateData.{UniqueCrateData}
-use Rattle.source_files.specs.declared.durability.Durability.TheVariants.{Medium}
+use Rattle.input_db_files.specs.declared.durability.Durability.TheVariants.{Medium}
 use Rattle.crate_graph.proofs.ExtendLemmas.{crate_edge}
 use Rattle.input_db.proofs.Equality.{input_itself}
 use Rattle.input_db.proofs.PlaceLemmas.{of_place, one_more}

@@ -7,15 +7,15 @@ use Rattle.std.specs.Cmp.{unsigned_Decides}
 use Rattle.std.specs.Cmp.Lexicographic.{pointwise_decides}
 use Rattle.std.proofs.lemmas.Bool.{cases_Bool}
 use Rattle.std.proofs.lemmas.List.{take_all}
-use Rattle.crate_values.specs.declared.builder.CrateBuilder.{CrateBuilder}
-use Rattle.base_text.specs.declared.cfg.CfgAtom.{CfgAtom}
-use Rattle.crate_values.specs.declared.crate_data.CrateData.{CrateData}
+use Rattle.crate_graph_values.specs.declared.builder.CrateBuilder.{CrateBuilder}
+use Rattle.base_text_outside.specs.declared.cfg.CfgAtom.{CfgAtom}
+use Rattle.crate_graph_values.specs.declared.crate_data.CrateData.{CrateData}
 use Rattle.input_db.specs.Database.{Database, with_crate_list}
 use Rattle.input_db.specs.Identity.{named_in, names_of}
 use Rattle.input_db.specs.Identity.{full_identity, root_identity}
 use Rattle.input_db.specs.FinishSteps.{progress_after, with_new_list}
 use Rattle.input_db.specs.SetInDb.{KeepsFiles}
-use Rattle.source_files.specs.declared.durability.Durability.TheVariants.{Medium}
+use Rattle.input_db_files.specs.declared.durability.Durability.TheVariants.{Medium}
 use Rattle.input_db.proofs.KnownLemmas.{files-progress_after, library-progress_after, local-progress_after, nonce-progress_after}
 use Rattle.input_db.proofs.RunLemmas.{long}
 

@@ -5,11 +5,11 @@ use Rattle.std.specs.List.{fold}
 use Rattle.std.specs.Option.{unwrap_or}
 use Rattle.input_db.specs.Change.{library_after, local_after}
 use Rattle.input_db.specs.Database.{Database}
-use Rattle.source_files.specs.Files.{FileTables, durability_of_file, with_file_root, with_root, with_text}
-use Rattle.source_files.specs.SourceRoot.{files_in, root_durability}
+use Rattle.input_db_files.specs.Files.{FileTables, durability_of_file, with_file_root, with_root, with_text}
+use Rattle.input_db_files.specs.SourceRoot.{files_in, root_durability}
 use Rattle.input_db.specs.declared.change.FileChange.{FileChange}
-use Rattle.source_files.specs.declared.durability.Durability.{Durability}
-use Rattle.source_files.specs.declared.source_root.SourceRoot.{SourceRoot}
+use Rattle.input_db_files.specs.declared.durability.Durability.{Durability}
+use Rattle.input_db_files.specs.declared.source_root.SourceRoot.{SourceRoot}
 
 -- the files of a root have it as theirs
 abbrev pub with_members : FileTables → List ℕ → ℕ → Durability → FileTables

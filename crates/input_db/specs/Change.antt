@@ -10,18 +10,18 @@ use Rattle.std.specs.Option.{option_map, option_or, unwrap_or}
 use Rattle.std.specs.declared.cmp.Ordering.{Ordering}
 use Rattle.crate_graph.specs.Graph.{Graph}
 use Rattle.input_db.specs.Database.{Database, library_numbers, local_numbers}
-use Rattle.source_files.specs.Files.{FileTables, durability_of_file, file_root_of, root_of, stored_place, stored_root}
-use Rattle.source_files.specs.Files.{stored_text, text_of}
+use Rattle.input_db_files.specs.Files.{FileTables, durability_of_file, file_root_of, root_of, stored_place, stored_root}
+use Rattle.input_db_files.specs.Files.{stored_text, text_of}
 use Rattle.input_db.specs.FinishSteps.{IsSetInSteps}
 use Rattle.crate_graph.specs.Extend.{Id}
-use Rattle.source_files.specs.SourceRoot.{has_file, root_durability}
+use Rattle.input_db_files.specs.SourceRoot.{has_file, root_durability}
 use Rattle.input_db.specs.declared.change.FileChange.{FileChange}
-use Rattle.source_files.specs.declared.inputs.FileText.{FileText}
-use Rattle.source_files.specs.declared.inputs.FileSourceRootInput.{FileSourceRootInput}
-use Rattle.source_files.specs.declared.inputs.SourceRootInput.{SourceRootInput}
-use Rattle.source_files.specs.declared.roots.LocalRoots.{LocalRoots}
-use Rattle.source_files.specs.declared.roots.LibraryRoots.{LibraryRoots}
-use Rattle.source_files.specs.declared.source_root.SourceRoot.{SourceRoot}
+use Rattle.input_db_files.specs.declared.inputs.FileText.{FileText}
+use Rattle.input_db_files.specs.declared.inputs.FileSourceRootInput.{FileSourceRootInput}
+use Rattle.input_db_files.specs.declared.inputs.SourceRootInput.{SourceRootInput}
+use Rattle.input_db_files.specs.declared.roots.LocalRoots.{LocalRoots}
+use Rattle.input_db_files.specs.declared.roots.LibraryRoots.{LibraryRoots}
+use Rattle.input_db_files.specs.declared.source_root.SourceRoot.{SourceRoot}
 
 -- the roots that a change gives, where it gives some
 abbrev pub given_roots : FileChange → List SourceRoot

@@ -2,8 +2,8 @@
 use Rattle.std.specs.Prelude.{ℕ, List, Option}
 use Rattle.std.specs.Option.{option_and_then, option_map}
 use Rattle.base_values.specs.Version.{Parts}
-use Rattle.crate_values.specs.ReleaseChannel.{channel_of}
-use Rattle.crate_values.specs.declared.release_channel.ReleaseChannel.{ReleaseChannel}
+use Rattle.crate_graph_values.specs.ReleaseChannel.{channel_of}
+use Rattle.crate_graph_values.specs.declared.release_channel.ReleaseChannel.{ReleaseChannel}
 use Rattle.input_db.specs.Identity.{Table, input_in}
 
 -- the pre-release part of a version

@@ -3,20 +3,20 @@
 use Rattle.std.specs.Prelude.{ℕ, ◌<◌, List, [], Option, Some, None, if◌then◌else◌, length, refl}
 use Rattle.std.specs.Coded.{Coded, code_by, coded×, coded_list, coded_ℕ}
 use Rattle.std.specs.List.{All}
-use Rattle.outside.specs.Causes.{next_count}
-use Rattle.source_files.specs.Files.{FileTables, file_tables_code, no_files}
+use Rattle.base_text_outside.specs.Causes.{next_count}
+use Rattle.input_db_files.specs.Files.{FileTables, file_tables_code, no_files}
 use Rattle.input_db.specs.Identity.{IsTable, Table, input_eq, input_under, with_entry}
 use Rattle.input_db.specs.contracts.crate_input.CrateInput as input
 use Rattle.input_db.specs.contracts.crate_input.UniqueCrateData as unique
-use Rattle.source_files.specs.contracts.durability.Durability as durability
-use Rattle.source_files.specs.contracts.roots.LibraryRoots as libraries
-use Rattle.source_files.specs.contracts.roots.LocalRoots as locals
+use Rattle.input_db_files.specs.contracts.durability.Durability as durability
+use Rattle.input_db_files.specs.contracts.roots.LibraryRoots as libraries
+use Rattle.input_db_files.specs.contracts.roots.LocalRoots as locals
 use Rattle.input_db.specs.declared.crate_input.CrateInput.{CrateInput}
 use Rattle.input_db.specs.declared.crate_input.UniqueCrateData.{UniqueCrateData}
-use Rattle.source_files.specs.declared.durability.Durability.{Durability}
-use Rattle.source_files.specs.declared.durability.Durability.TheVariants.{Low}
-use Rattle.source_files.specs.declared.roots.LocalRoots.{LocalRoots}
-use Rattle.source_files.specs.declared.roots.LibraryRoots.{LibraryRoots}
+use Rattle.input_db_files.specs.declared.durability.Durability.{Durability}
+use Rattle.input_db_files.specs.declared.durability.Durability.TheVariants.{Low}
+use Rattle.input_db_files.specs.declared.roots.LocalRoots.{LocalRoots}
+use Rattle.input_db_files.specs.declared.roots.LibraryRoots.{LibraryRoots}
 
 -- what a database holds
 pub record Database : Type 0 where

@@ -5,14 +5,14 @@ use Rattle.std.specs.List.{list_any}
 use Rattle.std.specs.Cmp.Lexicographic.{pointwise}
 use Rattle.std.specs.Option.{option_map_or}
 use Rattle.std.specs.declared.cmp.Ordering.{Ordering}
-use Rattle.crate_values.specs.declared.builder.CrateBuilder.{CrateBuilder}
+use Rattle.crate_graph_values.specs.declared.builder.CrateBuilder.{CrateBuilder}
 use Rattle.input_db.specs.Database.{Database, with_crate_input, with_crate_list}
 use Rattle.crate_graph.specs.Extend.{Id}
 use Rattle.input_db.specs.Identity.{crate_for, identity_of, input_of, number_in}
 use Rattle.input_db.specs.SetInDb.{HaveOwnNumbers, IsSetInDb, listed_crates, with_member}
 use Rattle.input_db.specs.declared.crate_input.CrateInput.{CrateInput}
 use Rattle.input_db.specs.declared.crate_input.UniqueCrateData.{UniqueCrateData}
-use Rattle.source_files.specs.declared.durability.Durability.TheVariants.{Medium}
+use Rattle.input_db_files.specs.declared.durability.Durability.TheVariants.{Medium}
 
 -- the crates of a graph that are finished
 pub record FinishedCrates : Type 0 where

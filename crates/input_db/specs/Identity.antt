@@ -8,19 +8,19 @@ use Rattle.std.specs.List.{All, position_or_len}
 use Rattle.std.specs.Map.{keys_of, lookup}
 use Rattle.std.specs.Option.{option_map, option_map_or}
 use Rattle.indexmap.specs.IndexMap.{insert_entry}
-use Rattle.base_text.specs.Arena.{number_of}
-use Rattle.base_text.specs.Paths.{IsClean}
-use Rattle.base_text.specs.declared.cfg.CfgAtom.{CfgAtom}
+use Rattle.base_text_paths.specs.Arena.{number_of}
+use Rattle.base_text_paths.specs.Paths.{IsClean}
+use Rattle.base_text_outside.specs.declared.cfg.CfgAtom.{CfgAtom}
 use Rattle.crate_graph.specs.Extend.{Id}
-use Rattle.crate_values.specs.Builder.{workspace_of}
-use Rattle.crate_values.specs.Laws.{renamed_crate}
-use Rattle.crate_values.specs.declared.builder.CrateBuilder.{CrateBuilder}
-use Rattle.crate_values.specs.declared.crate_data.CrateData.{CrateData}
+use Rattle.crate_graph_values.specs.Builder.{workspace_of}
+use Rattle.crate_graph_values.specs.Laws.{renamed_crate}
+use Rattle.crate_graph_values.specs.declared.builder.CrateBuilder.{CrateBuilder}
+use Rattle.crate_graph_values.specs.declared.crate_data.CrateData.{CrateData}
 use Rattle.input_db.specs.contracts.crate_input.UniqueCrateDataPartialEq.TheImpl as identities
 use Rattle.input_db.specs.contracts.crate_input.CrateInputPartialEq.TheImpl as inputs
 use Rattle.input_db.specs.declared.crate_input.CrateInput.{CrateInput}
 use Rattle.input_db.specs.declared.crate_input.UniqueCrateData.{UniqueCrateData}
-use Rattle.source_files.specs.declared.durability.Durability.TheVariants.{Medium}
+use Rattle.input_db_files.specs.declared.durability.Durability.TheVariants.{Medium}
 
 -- the `==` of identities: true exactly of the same root file with the same data and atoms, as the laws of this crate say
 abbrev pub unique_eq : UniqueCrateData → UniqueCrateData → Bool

@@ -2,8 +2,8 @@ pub mod Applied
 pub mod Change
 pub mod Channel
 pub mod Database
-pub mod Identity
-pub mod SetInDb
 pub mod FinishSteps
+pub mod Identity
 pub mod Queries
 pub mod RootCrates
+pub mod SetInDb

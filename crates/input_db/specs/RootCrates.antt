@@ -2,7 +2,7 @@
 use Rattle.std.specs.Prelude.{ℕ, Bool, false, ◌==◌, List, [], Option, filter, IsSome}
 use Rattle.std.specs.List.{All}
 use Rattle.std.specs.Option.{option_and_then, option_map, option_map_or}
-use Rattle.source_files.specs.Files.{file_root_of}
+use Rattle.input_db_files.specs.Files.{file_root_of}
 use Rattle.input_db.specs.Database.{Database}
 use Rattle.input_db.specs.Identity.{input_in}
 

@@ -7,10 +7,10 @@ use Rattle.std.specs.BTreeMap as tree
 use Rattle.std.specs.List.{list_any}
 use Rattle.std.specs.Option.{option_and_then, option_map, unwrap_or}
 use Rattle.std.specs.declared.cmp.Ordering.{Ordering}
-use Rattle.base_text.specs.Arena.{number_of}
+use Rattle.base_text_paths.specs.Arena.{number_of}
 use Rattle.graph_base.specs.Finish.{IsBehindTargets, IsFinishOrder}
 use Rattle.crate_graph.specs.Graph.{edges}
-use Rattle.crate_values.specs.declared.builder.CrateBuilder.{CrateBuilder}
+use Rattle.crate_graph_values.specs.declared.builder.CrateBuilder.{CrateBuilder}
 use Rattle.input_db.specs.Database.{Database}
 use Rattle.crate_graph.specs.Extend.{Id}
 use Rattle.input_db.specs.Identity.{IsTable, Table, crate_in, data_of, identity_of, input_in, input_of, number_in, uniques_in}

@@ -5,12 +5,12 @@ ghost use Rattle.input_db.specs.Applied.{with_changed_files, with_given_root, wi
 ghost use Rattle.input_db.specs.Applied.{with_roots_from};
 ghost use Rattle.input_db.specs.Change.{fits_file, is_in_some, keeps_root, numbers_of};
 ghost use Rattle.input_db.specs.Database.{with_files};
-ghost use Rattle.source_files.specs.Files.{durability_of_file};
-ghost use Rattle.source_files.specs.SourceRoot.{files_in};
+ghost use Rattle.input_db_files.specs.Files.{durability_of_file};
+ghost use Rattle.input_db_files.specs.SourceRoot.{files_in};
 
 use crate::source_database::SourceDatabase;
-use base_text::{FileId, Items, Text};
-use source_files::{Durability, Files, LibraryRoots, LocalRoots, SourceRoot, SourceRootId};
+use base_text_paths::{FileId, Items, Text};
+use input_db_files::{Durability, Files, LibraryRoots, LocalRoots, SourceRoot, SourceRootId};
 use std::alloc::{AllocError, Global};
 use std::collections::BTreeSet;
 

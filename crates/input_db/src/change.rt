@@ -9,9 +9,10 @@ ghost use Rattle.input_db.specs.Change.{IsChanged, SetsCrates, fits, fits_file, 
 use crate::applying::{fits_file, give_roots, set_texts};
 use crate::lowering::{CratesIdMap, set_in_db};
 use crate::source_database::SourceDatabase;
-use base_text::{FileId, Items, Text, TryClone};
-use crate_graph::{CrateBuilderId, CrateGraphBuilder};
-use source_files::SourceRoot;
+use base_text_paths::{FileId, Items, Text, TryClone};
+use crate_graph::CrateGraphBuilder;
+use crate_graph_values::CrateBuilderId;
+use input_db_files::SourceRoot;
 use std::alloc::{AllocError, Global};
 use std::mem;
 

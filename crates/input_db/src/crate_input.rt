@@ -2,9 +2,9 @@
 
 ghost use Rattle.std.specs.Prelude.{◌≡◌};
 
-use base_text::{Boxed, CfgOptions, FileId, TryClone};
-use crate_graph::{CrateData, CrateWorkspaceData, Dependency, Env, ExtraCrateData, Shared};
-use source_files::Durability;
+use base_text_paths::{Boxed, CfgOptions, FileId, Shared, TryClone};
+use crate_graph_values::{CrateData, CrateWorkspaceData, Dependency, Env, ExtraCrateData};
+use input_db_files::Durability;
 use std::alloc::{AllocError, Global};
 use std::marker::Model;
 

@@ -9,7 +9,7 @@ ghost use Rattle.input_db.specs.Identity.{IsTable, PutsCrate, crate_edges, crate
 ghost use Rattle.input_db.specs.Identity.{named_in, names_of, unique_eq, uniques_in, with_entry};
 
 use crate::crate_input::{BuiltDependency, Crate, CrateInput, UniqueCrateData};
-use base_text::{TryClone, copy_entries};
+use base_text_paths::{TryClone, copy_entries};
 use graph_base::Graph;
 use indexmap::IndexMap;
 use std::alloc::{AllocError, Global};

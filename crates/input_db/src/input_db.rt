@@ -7,8 +7,8 @@ ghost use Rattle.input_db.specs.Database.{empty_database, writes_after};
 use crate::crate_input::{Crate, CrateInput, UniqueCrateData};
 use crate::crates_map::CratesMap;
 use crate::source_database::SourceDatabase;
-use base_text::{FileId, Items};
-use source_files::{
+use base_text_paths::{FileId, Items};
+use input_db_files::{
     Durability, FileSourceRootInput, FileText, Files, LibraryRoots, LocalRoots, Nonce, SourceRoot,
     SourceRootId, SourceRootInput,
 };

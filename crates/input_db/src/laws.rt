@@ -4,7 +4,7 @@
 ghost use Rattle.std.specs.Prelude.{◌≡◌, ◌↔◌, IfSome, ℕ, List, slice_get, true};
 ghost use Rattle.std.specs.BTreeMap as tree;
 ghost use Rattle.std.specs.declared.cmp.Ordering.{Ordering};
-ghost use Rattle.crate_values.specs.declared.builder.CrateBuilder.{CrateBuilder};
+ghost use Rattle.crate_graph_values.specs.declared.builder.CrateBuilder.{CrateBuilder};
 ghost use Rattle.input_db.specs.Database.{Database};
 ghost use Rattle.input_db.specs.FinishSteps.{IsSetInSteps};
 ghost use Rattle.crate_graph.specs.Extend.{Id};
@@ -50,10 +50,10 @@ pub fn equality_of_inputs()
     ensures { (x y : CrateInput) → HasCleanInput x → HasCleanInput y
         → (input_eq x y ≡ true) ↔ (x ≡ y) }
 {
-    crate_graph::laws::equality_of_extra_data_is_content();
-    crate_graph::laws::equality_of_workspace_data_is_content();
-    crate_graph::laws::equality_of_environments_is_content();
-    source_files::laws::equality_of_durabilities();
+    crate_graph_values::laws::equality_of_extra_data_is_content();
+    crate_graph_values::laws::equality_of_workspace_data_is_content();
+    crate_graph_values::laws::equality_of_environments_is_content();
+    input_db_files::laws::equality_of_durabilities();
 }
 
 /// A graph that was set, and whose crates have each a number of its own, is set again: the database is as it

@@ -3,7 +3,7 @@
 ghost use Rattle.std.specs.Prelude.{◌≡◌, ◌<◌, ◌^◌, IfOk, OnOk, length, slice_get};
 ghost use Rattle.std.specs.BTreeMap as tree;
 ghost use Rattle.std.specs.List.{All};
-ghost use Rattle.base_text.specs.Arena.{number_of};
+ghost use Rattle.base_text_paths.specs.Arena.{number_of};
 ghost use Rattle.graph_base.specs.Finish.{IsBehindTargets};
 ghost use Rattle.crate_graph.specs.Graph.{edges, target_of};
 ghost use Rattle.crate_graph.specs.Extend.{Id};
@@ -18,8 +18,9 @@ use crate::crate_input::Crate;
 use crate::lowering::finished::FinishedCrates;
 use crate::lowering::renamed::{input_of, unique_of};
 use crate::source_database::SourceDatabase;
-use crate_graph::{CrateBuilder, CrateBuilderId, CrateGraphBuilder};
-use source_files::Durability;
+use crate_graph::CrateGraphBuilder;
+use crate_graph_values::{CrateBuilder, CrateBuilderId};
+use input_db_files::Durability;
 use std::alloc::{AllocError, Global};
 use std::collections::BTreeMap;
 

@@ -5,17 +5,17 @@ ghost use Rattle.std.specs.List.{All, Contains};
 ghost use Rattle.std.specs.Option.{option_map};
 ghost use Rattle.graph_base.specs.Reach.{Reaches};
 ghost use Rattle.input_db.specs.Database.{with_crate_list};
-ghost use Rattle.source_files.specs.EditionedFileId.{edition_of, file_of};
+ghost use Rattle.input_db_files.specs.EditionedFileId.{edition_of, file_of};
 ghost use Rattle.input_db.specs.Identity.{crate_edges, input_in};
 ghost use Rattle.input_db.specs.Channel.{channel_in};
 ghost use Rattle.input_db.specs.Queries.{AreListed, IsListedDependent, IsWithItselfFirst, is_marked, others};
 
 use crate::crate_input::{BuiltCrateData, Crate};
 use crate::source_database::SourceDatabase;
-use base_text::CfgOptions;
-use crate_graph::{CrateWorkspaceData, Env, ExtraCrateData, ReleaseChannel};
-use reversed_graph::Reversed;
-use source_files::{Durability, EditionedFileId};
+use base_text_paths::CfgOptions;
+use crate_graph_values::{CrateWorkspaceData, Env, ExtraCrateData, ReleaseChannel};
+use graph_base::Reversed;
+use input_db_files::{Durability, EditionedFileId};
 use std::alloc::{AllocError, Global};
 
 /// The crates that there are now, in the order in which they were stored. `set_in_db` stores each after

@@ -2,13 +2,13 @@
 
 ghost use Rattle.std.specs.Prelude.{◌≡◌, ◌↔◌, IfOk, IsSome, IsTrue};
 ghost use Rattle.input_db.specs.RootCrates.{HaveSourceRoots, crates_beside, crates_in_root};
-ghost use Rattle.source_files.specs.Files.{file_root_of};
+ghost use Rattle.input_db_files.specs.Files.{file_root_of};
 
 use crate::crate_input::Crate;
 use crate::queries::all_crates;
 use crate::source_database::SourceDatabase;
-use base_text::FileId;
-use source_files::SourceRootId;
+use base_text_paths::FileId;
+use input_db_files::SourceRootId;
 use std::alloc::{AllocError, Global};
 
 /// Whether the root file of each crate that there is now has a source root.

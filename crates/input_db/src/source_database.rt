@@ -3,16 +3,16 @@
 ghost use Rattle.std.specs.Prelude.{◌≡◌, ◌↔◌, ◌<◌, IfOk, IsSome, IsTrue, OnErr, OnOk, Some, length};
 ghost use Rattle.std.specs.List.{All};
 ghost use Rattle.input_db.specs.Database.{Database, with_crate_input, with_crate_list, with_files, with_lists};
-ghost use Rattle.source_files.specs.Files.{SetsFileRoot, SetsRoot, SetsText, kept_durability, stored_place};
-ghost use Rattle.source_files.specs.Files.{stored_root, stored_text};
-ghost use Rattle.source_files.specs.Files.{file_root_of, resolved_from, root_of, root_of_file, text_of};
-ghost use Rattle.source_files.specs.Files.{with_file_root, with_root, with_same_durability, with_text};
+ghost use Rattle.input_db_files.specs.Files.{SetsFileRoot, SetsRoot, SetsText, kept_durability, stored_place};
+ghost use Rattle.input_db_files.specs.Files.{stored_root, stored_text};
+ghost use Rattle.input_db_files.specs.Files.{file_root_of, resolved_from, root_of, root_of_file, text_of};
+ghost use Rattle.input_db_files.specs.Files.{with_file_root, with_root, with_same_durability, with_text};
 ghost use Rattle.input_db.specs.Identity.{IsTable, PutsCrate, crate_for, input_in, named_in, names_of};
 
 use crate::crate_input::{Crate, CrateInput, UniqueCrateData};
 use crate::crates_map::CratesMap;
-use base_text::FileId;
-use source_files::{
+use base_text_paths::FileId;
+use input_db_files::{
     Durability, FileSourceRootInput, FileText, Files, LibraryRoots, LocalRoots, Nonce, SourceRoot,
     SourceRootId, SourceRootInput,
 };

@@ -1,8 +1,8 @@
 -- an atom of conditional compilation as tables read and write it: a text that `parse_cfg` reads
 use Rattle.std.specs.Prelude.{ℕ, List, [], Option, Some, None, Ok, Err}
 use Rattle.serde_json.specs.Data.{Data}
-use Rattle.base_text.specs.Cfg.{atom_of, text_of}
-use Rattle.base_text.specs.declared.cfg.CfgAtom.{CfgAtom}
+use Rattle.base_text_outside.specs.Cfg.{atom_of, text_of}
+use Rattle.base_text_outside.specs.declared.cfg.CfgAtom.{CfgAtom}
 use Rattle.json_fields.specs.Outcome.{Reading}
 use Rattle.json_fields.specs.TextJson.{text_form_at, text_form_data}
 

@@ -9,7 +9,7 @@ ghost use Rattle.json_fields.specs.Laws.RoundTrips.{any-round_trips};
 use crate::equal::same_value;
 use crate::place::ReadError;
 use crate::reading::{Json, ReadJson};
-use base_text::TryClone;
+use base_values::TryClone;
 use serde_json::Value;
 use std::alloc::{AllocError, Global};
 use std::marker::Model;

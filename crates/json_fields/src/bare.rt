@@ -9,7 +9,7 @@ ghost use Rattle.json_fields.specs.Laws.ReadAgain.{bare_of-again};
 use crate::place::ReadError;
 use crate::reading::miss;
 use crate::text_json::TextJson;
-use base_text::{TryClone, Version};
+use base_values::{TryClone, Version};
 use std::alloc::{AllocError, Global};
 use std::marker::Model;
 use std::{error, fmt};

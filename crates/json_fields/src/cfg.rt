@@ -1,13 +1,13 @@
 //! An atom of conditional compilation, whose JSON is the text that `parse_cfg` reads.
 
-ghost use Rattle.base_text.specs.Cfg as atoms;
+ghost use Rattle.base_text_outside.specs.Cfg as atoms;
 ghost use Rattle.json_fields.specs.Cfg.{cfg_of};
 ghost use Rattle.json_fields.specs.Laws.Cfgs.{cfg_of-again};
 
 use crate::place::ReadError;
 use crate::reading::miss;
 use crate::text_json::TextJson;
-use base_text::{CfgAtom, CfgError, parse_cfg, write_cfg};
+use base_text_outside::{CfgAtom, CfgError, parse_cfg, write_cfg};
 use std::alloc::{AllocError, Global};
 
 #[tactic(auto, unfolding(crate::specs::Cfg::cfg_of))]

@@ -13,7 +13,7 @@ ghost use Rattle.json_fields.specs.RoundTrip.{RoundTrips};
 use crate::floats::holds_float;
 use crate::place::{ReadError, whole_place};
 use crate::reading::{Json, ReadJson};
-use base_text::Text;
+use base_values::Text;
 use serde_json::Value;
 use std::alloc::{AllocError, Global};
 

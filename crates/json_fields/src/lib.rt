@@ -20,7 +20,7 @@ pub mod writing;
 
 pub use any_value::AnyValue;
 pub use bare::{BareError, BareVersion, bare_version};
-pub use base_text::Version;
+pub use base_values::Version;
 pub use document::{normal_text, of_bytes, of_text, of_value, to_text};
 pub use equal::same_value;
 pub use floats::holds_float;

@@ -11,7 +11,7 @@ ghost use Rattle.json_fields.specs.Laws.RoundTrips.{map-round_trips};
 use crate::place::{ReadError, below};
 use crate::reading::{Json, Present, ReadJson, members};
 use crate::writing::set;
-use base_text::ByText;
+use base_values::ByText;
 use serde_json::{Map, Value};
 use std::alloc::{AllocError, Global};
 

@@ -10,7 +10,7 @@ ghost use Rattle.json_fields.specs.Outcome.{Gives, Reading};
 
 use crate::place::{ReadError, below};
 use crate::reading::{member, miss};
-use base_text::Boxed;
+use base_values::Boxed;
 use serde_json::{Map, Value};
 use std::alloc::Global;
 

@@ -3,7 +3,7 @@
 ghost use Rattle.std.specs.Prelude.{◌≡◌, ◌++◌, ◌∷◌, decimal, Ok, IfOk};
 ghost use Rattle.json_fields.specs.Outcome.{Gives, Reading, below_key, below_position, whole_place_of};
 
-use base_text::{Text, TryClone};
+use base_values::{Text, TryClone};
 use std::alloc::{AllocError, AllocFailed, Global};
 use std::{error, fmt};
 

@@ -11,7 +11,7 @@ ghost use Rattle.json_fields.specs.RoundTrip.{RoundTrips};
 ghost use Rattle.json_fields.specs.Written.{is_null};
 
 use crate::place::{ReadError, below};
-use base_text::{ByText, Items, Text};
+use base_values::{ByText, Items, Text};
 use serde_json::{Map, Value};
 use std::alloc::{AllocError, Global};
 

@@ -11,7 +11,7 @@ ghost use Rattle.json_fields.specs.Laws.RoundTrips.{flag-round_trips, list-round
 
 use crate::place::{ReadError, below_item};
 use crate::reading::{Json, Present, ReadJson, miss};
-use base_text::{Items, Name, Text};
+use base_values::{Items, Name, Text};
 use serde_json::Value;
 use std::alloc::{AllocError, Global};
 

@@ -10,7 +10,7 @@ ghost use Rattle.json_fields.specs.Laws.ReadAgain.{requirement_of-again, version
 use crate::place::ReadError;
 use crate::reading::miss;
 use crate::text_json::TextJson;
-use base_text::{Text, TryClone, Version};
+use base_values::{Text, TryClone, Version};
 use semver::VersionReq;
 use std::alloc::{AllocError, Global};
 use std::marker::Model;

@@ -1,17 +1,17 @@
 -- One event that is a build: what it gives the project, or why it is refused.
 use Rattle.std.proofs.Common.{◌≡◌, ℕ, Bool, true, false, cond, List, [], Option, Some, None, Result, Ok, Err, inl, inr, ◌⊎◌, refl, sym, ap, subst, ◌∙◌, arith}
 use Rattle.std.specs.Prelude.{IfErr, IsErrOf, OnErr, OnOk, is_err}
-use Rattle.outside.specs.Sink.{Appends-nil}
-use Rattle.outside.specs.declared.command.Output.{Output}
-use Rattle.outside.specs.declared.limits.Limit.TheVariants.{Bytes}
-use Rattle.pm_build.specs.Reading.{Reading}
-use Rattle.pm_build.specs.declared.build_error.BuildError.{BuildError}
-use Rattle.pm_build.specs.declared.build_error.BuildError.TheVariants as build
+use Rattle.base_text_outside.specs.Sink.{Appends-nil}
+use Rattle.base_text_outside.specs.declared.command.Output.{Output}
+use Rattle.base_text_outside.specs.declared.limits.Limit.TheVariants.{Bytes}
+use Rattle.pm_tools.specs.Reading.{Reading}
+use Rattle.pm_tools.specs.declared.build_error.BuildError.{BuildError}
+use Rattle.pm_tools.specs.declared.build_error.BuildError.TheVariants as build
 use Rattle.pm_lower.specs.ProjectWorkspace.{has_cargo_workspace}
 use Rattle.live_project.specs.Build.{built_project}
 use Rattle.live_project.specs.Project.{ProjectContent}
-use Rattle.live_input.specs.declared.event.Event.{Event}
-use Rattle.live_input.specs.declared.event.Event.TheVariants.{Build, Flush}
+use Rattle.live_page.specs.declared.event.Event.{Event}
+use Rattle.live_page.specs.declared.event.Event.TheVariants.{Build, Flush}
 use Rattle.live.specs.declared.fault.LiveError.{LiveError}
 use Rattle.live.specs.declared.fault.LiveError.TheVariants.{NoCargoProject, OutOfMemory, TooMany, WriteFault}
 use Rattle.live.specs.declared.session.Live.{Live}

@@ -2,12 +2,12 @@
 use Rattle.std.proofs.Common.{◌≡◌, ℕ, ◌+◌, ◌-◌, ◌<◌, ◌≤◌, true, false, List, ◌++◌, Option, Some, length, take, nat_le, refl, sym, ap, subst, ◌∙◌, length-append, arith, unwrap_or}
 use Rattle.std.proofs.lemmas.Bool.Decides.{nat_tests}
 use Rattle.std.proofs.Math.Seq.{take-append-add, take-append_seam}
-use Rattle.outside.specs.declared.limits.Limit.TheVariants.{Bytes}
+use Rattle.base_text_outside.specs.declared.limits.Limit.TheVariants.{Bytes}
 use Rattle.live.specs.declared.session.Live.{Live}
 use Rattle.live.specs.declared.fault.LiveError.{LiveError}
 use Rattle.live.specs.declared.fault.LiveError.TheVariants.{TooMany}
-use Rattle.bounded_lines.specs.Lines.{lines_of, whole_lines, partial_line, last_line}
-use Rattle.bounded_lines.proofs.Cuts.{whole_lines-append}
+use Rattle.base_text.specs.Lines.{lines_of, whole_lines, partial_line, last_line}
+use Rattle.base_text.proofs.Cuts.{whole_lines-append}
 use Rattle.live.specs.Run.{Ran, Stops}
 use Rattle.live.specs.Session.{State, Outcome, refused_by, session, turns}
 use Rattle.live.specs.Written.{AppendsFront}

@@ -16,7 +16,7 @@ use Rattle.vfs_core.specs.Marks.{live_files, live_text, mentioned_paths}
 use Rattle.vfs_core.specs.VfsPath.{PathContent, vfs_path_eq}
 use Rattle.vfs_core.specs.VfsPathOrder.{vfs_path_equiv}
 use Rattle.vfs_core.proofs.LiveLemmas.{existing_files-told}
-use Rattle.live_flush.proofs.Ascending.{nat_eq-above}
+use Rattle.live_page.proofs.Ascending.{nat_eq-above}
 use Rattle.live.specs.Page.{LiveFile}
 use Rattle.live.specs.Session.{live_file, numbered_files}
 

@@ -3,12 +3,12 @@ use Rattle.std.proofs.Common.{◌≡◌, ℕ, ◌-◌, ◌+◌, ◌<◌, ◌≤�
 use Rattle.std.proofs.lemmas.Bool.Decides.{nat_tests}
 use Rattle.std.proofs.Math.Seq.{take-append-add}
 use Rattle.std.specs.Io.KnownBytes.{Consumes}
-use Rattle.outside.specs.Source.{Knows-after, Knows-all}
-use Rattle.bounded_lines.specs.Lines.{last_line, lines_of, partial_line, whole_lines}
-use Rattle.bounded_lines.specs.Reader.{IsCut, IsFrontOf}
-use Rattle.bounded_lines.proofs.Cuts.{whole_lines-append}
-use Rattle.bounded_lines.proofs.LineEnds.{lines_of-whole}
-use Rattle.live_input.specs.Reader.{Gave, Reader}
+use Rattle.base_text_outside.specs.Source.{Knows-after, Knows-all}
+use Rattle.base_text.specs.Lines.{last_line, lines_of, partial_line, whole_lines}
+use Rattle.base_text.specs.Reader.{IsCut, IsFrontOf}
+use Rattle.base_text.proofs.Cuts.{whole_lines-append}
+use Rattle.base_text.proofs.LineEnds.{lines_of-whole}
+use Rattle.live_page.specs.Reader.{Gave, Reader}
 use Rattle.live.specs.Session.{lines_within}
 
 -- the lines of a script within its limit, and of a longer one

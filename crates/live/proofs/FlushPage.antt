@@ -14,18 +14,18 @@ use Rattle.vfs_core.specs.Marks.{live_text}
 use Rattle.vfs_core.specs.Texts.{BringsTo, all_pass}
 use Rattle.vfs_core.specs.VfsPath.{PathContent, vfs_path_eq}
 use Rattle.crate_graph.specs.Graph.{Graph}
-use Rattle.crate_values.specs.declared.builder.CrateBuilder.{CrateBuilder}
-use Rattle.pages.specs.Entries.{Node, entries_of, entries_shown, node_of, path_in}
-use Rattle.pages.specs.Page.{page_of}
-use Rattle.pages.proofs.Alike.{entries_alike}
-use Rattle.pages.proofs.GraphEntries.{entries_after_set}
-use Rattle.pages.proofs.Pages.{no_entries}
-use Rattle.pm_rows.specs.Lowering.{Crate, crate_seen}
-use Rattle.live_flush.specs.Page as placed
-use Rattle.live_flush.specs.Refresh.{GivesCrates, KeepsCrates}
-use Rattle.live_flush.specs.Shape.{base_image, base_shape, file_image, file_shape, files_sorted, image, texts_known}
-use Rattle.live_flush.specs.declared.file_root.FileRoot.{FileRoot}
-use Rattle.live_flush.proofs.Shown.{base_is, page_is, path_is, place_is, text_is}
+use Rattle.crate_graph_values.specs.declared.builder.CrateBuilder.{CrateBuilder}
+use Rattle.live_page.specs.Entries.{Node, entries_of, entries_shown, node_of, path_in}
+use Rattle.live_page.specs.Page.{page_of}
+use Rattle.live_page.proofs.Alike.{entries_alike}
+use Rattle.live_page.proofs.GraphEntries.{entries_after_set}
+use Rattle.live_page.proofs.Pages.{no_entries}
+use Rattle.pm_lower_crates.specs.Lowering.{Crate, crate_seen}
+use Rattle.live_page.specs.FlushPage as placed
+use Rattle.live_page.specs.Refresh.{GivesCrates, KeepsCrates}
+use Rattle.live_page.specs.Shape.{base_image, base_shape, file_image, file_shape, files_sorted, image, texts_known}
+use Rattle.vfs_sets.specs.declared.file_root.FileRoot.{FileRoot}
+use Rattle.live_page.proofs.FlushShown.{base_is, page_is, path_is, place_is, text_is}
 use Rattle.live_project.specs.Crates.{BeginIn}
 use Rattle.live_project.specs.Project.{ProjectContent}
 use Rattle.live.specs.declared.last_flush.LastFlush.{LastFlush}

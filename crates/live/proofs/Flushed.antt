@@ -7,11 +7,11 @@ use Rattle.vfs_core.specs.VfsPath.{PathContent}
 use Rattle.crate_graph.specs.Graph.{Graph}
 use Rattle.input_db.specs.Database.{Database}
 use Rattle.crate_graph.specs.Extend.{Id}
-use Rattle.live_input.specs.declared.event.Event.TheVariants.{Flush as FlushEvent}
-use Rattle.pages.specs.Page.{page_of}
-use Rattle.live_flush.proofs.Stable.{same_identities}
-use Rattle.live_flush.specs.Refresh.{GivesCrates, KeepsCrates, KeepsIdentities, Refreshes}
-use Rattle.live_flush.specs.declared.file_root.FileRoot.{FileRoot}
+use Rattle.live_page.specs.declared.event.Event.TheVariants.{Flush as FlushEvent}
+use Rattle.live_page.specs.Page.{page_of}
+use Rattle.live_page.proofs.Stable.{same_identities}
+use Rattle.live_page.specs.Refresh.{GivesCrates, KeepsCrates, KeepsIdentities, Refreshes}
+use Rattle.vfs_sets.specs.declared.file_root.FileRoot.{FileRoot}
 use Rattle.live_project.specs.Project.{ProjectContent}
 use Rattle.live.specs.declared.fault.LiveError.{LiveError}
 use Rattle.live.specs.declared.fault.LiveError.TheVariants.{OutOfMemory, WriteFault}

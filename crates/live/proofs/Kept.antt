@@ -5,7 +5,7 @@ use Rattle.std.specs.Option.{option_and_then, option_map}
 use Rattle.std.proofs.lemmas.List.{append-nil}
 use Rattle.std.proofs.lemmas.List.Sums.{fold-append}
 use Rattle.std.proofs.lemmas.Option.{slice_get-map}
-use Rattle.trees.specs.Tree as tree
+use Rattle.base_text.specs.Tree as tree
 use Rattle.vfs_core.specs.declared.marks.Mark.{Mark}
 use Rattle.vfs_core.specs.Files.{Files, Follows, existing_files, paths_of}
 use Rattle.vfs_core.specs.Marks.{live_files, live_text, mentioned_paths}

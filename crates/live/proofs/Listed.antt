@@ -13,10 +13,10 @@ use Rattle.std.proofs.lemmas.Simd.{map-map}
 use Rattle.graph_base.specs.Edges.{HasEdge}
 use Rattle.graph_base.specs.Reach.{Reaches}
 use Rattle.graph_base.specs.Reach.Reaches.{itself, further}
-use Rattle.crate_values.specs.Laws.{renamed_dependency}
-use Rattle.crate_values.specs.declared.builder.CrateBuilder.{CrateBuilder}
-use Rattle.crate_values.specs.declared.crate_data.CrateData.{CrateData}
-use Rattle.crate_values.specs.declared.crate_data.Dependency.{Dependency}
+use Rattle.crate_graph_values.specs.Laws.{renamed_dependency}
+use Rattle.crate_graph_values.specs.declared.builder.CrateBuilder.{CrateBuilder}
+use Rattle.crate_graph_values.specs.declared.crate_data.CrateData.{CrateData}
+use Rattle.crate_graph_values.specs.declared.crate_data.Dependency.{Dependency}
 use Rattle.crate_graph.specs.Graph.{Graph, edges, row_of, target_of}
 use Rattle.crate_graph.proofs.ExtendLemmas.{crate_edge, edge_crate}
 use Rattle.crate_graph.proofs.GraphLemmas.{slice_get_some}
@@ -26,10 +26,10 @@ use Rattle.crate_graph.specs.Extend.{Id}
 use Rattle.input_db.specs.Identity.{Table, crate_edges, data_of, input_in, named_in, number_in}
 use Rattle.input_db.specs.SetInDb.{IsSetInDb, first_places, with_member}
 use Rattle.input_db.specs.declared.crate_input.CrateInput.{CrateInput}
-use Rattle.pages.proofs.GraphEntries.{below_crates, data_held, in_order}
-use Rattle.pages.proofs.Members.{first_places_all, first_places_from, holds_first, holds_further, mapped_from, mapped_to}
-use Rattle.pm_rows.specs.Lowering.{Crate, HasDep, crate_seen, dep_seen}
-use Rattle.pm_rows.specs.WantedEdges.{Dep}
+use Rattle.live_page.proofs.GraphEntries.{below_crates, data_held, in_order}
+use Rattle.live_page.proofs.Members.{first_places_all, first_places_from, holds_first, holds_further, mapped_from, mapped_to}
+use Rattle.pm_lower_crates.specs.Lowering.{Crate, HasDep, crate_seen, dep_seen}
+use Rattle.pm_lower_crates.specs.WantedEdges.{Dep}
 use Rattle.vfs_core.specs.VfsPath.{PathContent}
 use Rattle.live_project.specs.Crates.{project_edges}
 use Rattle.live_project.specs.Project.{ProjectContent}

@@ -1,21 +1,21 @@
 -- One event that is no mark and no flush: an answer that is recorded, or a load.
 use Rattle.std.proofs.Common.{◌≡◌, ℕ, List, [], Option, Some, Result, Ok, Err, inl, inr, refl, sym, ap, subst, ◌∙◌, arith}
 use Rattle.std.specs.Prelude.{IfErr, IsErrOf, OnErr, OnOk, is_err}
-use Rattle.outside.specs.Command.{question_of}
-use Rattle.outside.specs.Runner.{with_answer}
-use Rattle.outside.specs.Sink.{Appends-nil}
-use Rattle.outside.specs.declared.command.CommandLine.{CommandLine}
-use Rattle.outside.specs.declared.command.Output.{Output}
-use Rattle.outside.specs.declared.limits.Limit.TheVariants.{Bytes, Paths, Packages, Targets, Crates}
-use Rattle.pm_load.specs.declared.load_error.LoadError.{LoadError}
-use Rattle.pm_load.specs.declared.load_error.LoadError.TheVariants as load
+use Rattle.base_text_outside.specs.Command.{question_of}
+use Rattle.base_text_outside.specs.Runner.{with_answer}
+use Rattle.base_text_outside.specs.Sink.{Appends-nil}
+use Rattle.base_text_outside.specs.declared.command.CommandLine.{CommandLine}
+use Rattle.base_text_outside.specs.declared.command.Output.{Output}
+use Rattle.base_text_outside.specs.declared.limits.Limit.TheVariants.{Bytes, Paths, Packages, Targets, Crates}
+use Rattle.pm_lower_load.specs.declared.load_error.LoadError.{LoadError}
+use Rattle.pm_lower_load.specs.declared.load_error.LoadError.TheVariants as load
 use Rattle.pm_lower.specs.declared.project_workspace.ProjectWorkspace.{ProjectWorkspace}
 use Rattle.live_project.specs.Project.{NamesLoadLimit, ProjectContent, Refuses, read_sources}
 use Rattle.live_project.specs.declared.project_error.ProjectError.{ProjectError}
 use Rattle.live_project.specs.declared.project_error.ProjectError.TheVariants as project
 use Rattle.live_project.specs.declared.sources.Sources.{Sources}
-use Rattle.live_input.specs.declared.event.Event.{Event}
-use Rattle.live_input.specs.declared.event.Event.TheVariants.{Answer, Flush, Load}
+use Rattle.live_page.specs.declared.event.Event.{Event}
+use Rattle.live_page.specs.declared.event.Event.TheVariants.{Answer, Flush, Load}
 use Rattle.live.specs.declared.fault.LiveError.{LiveError}
 use Rattle.live.specs.declared.fault.LiveError.TheVariants.{OutOfMemory, TooMany, WriteFault}
 use Rattle.live.specs.declared.session.Live.{Live}

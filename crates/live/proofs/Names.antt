@@ -3,8 +3,8 @@ use Rattle.std.proofs.Common.{◌≡◌, ℕ, List, [], ap, sym, subst, ◌∙�
 use Rattle.std.specs.Map.{keys_of}
 use Rattle.std.specs.Prelude.{slice_get}
 use Rattle.input_db.specs.Identity.{Table}
-use Rattle.live_flush.proofs.Stable.{same_identities}
-use Rattle.live_flush.specs.Refresh.{KeepsIdentities}
+use Rattle.live_page.proofs.Stable.{same_identities}
+use Rattle.live_page.specs.Refresh.{KeepsIdentities}
 use Rattle.vfs_core.specs.Files.{Files, KeepsNumbers}
 use Rattle.vfs_core.specs.VfsPath.{vfs_path_eq}
 use Rattle.live.specs.declared.session.Live.{Live}

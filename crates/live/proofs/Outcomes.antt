@@ -7,10 +7,10 @@ use Rattle.std.proofs.lemmas.List.Sums.{fold-append}
 use Rattle.std.proofs.lemmas.List.Folds.{concat-append}
 use Rattle.std.proofs.lemmas.List.{take-append-le}
 use Rattle.std.proofs.Math.Seq.{take-append-add, take-append_seam}
-use Rattle.bounded_lines.specs.Reader.{IsFrontOf}
+use Rattle.base_text.specs.Reader.{IsFrontOf}
 use Rattle.live.specs.declared.session.Live.{Live}
 use Rattle.live.specs.declared.fault.LiveError.{LiveError}
-use Rattle.live_input.specs.Event.{event}
+use Rattle.live_page.specs.Event.{event}
 use Rattle.live.specs.Run.{Ran, Stops}
 use Rattle.live.specs.Session.{State, Outcome, start, then_turn, take_line, take_line_after, turn_of, turns}
 use Rattle.live.specs.Turn.{TakesTurn, RefusesTurn}

@@ -12,19 +12,19 @@ use Rattle.vfs_core.specs.declared.marks.MarkKind.{MarkKind}
 use Rattle.vfs_core.specs.Marks.{text_of_kinds, kept_text, mentioned_paths}
 use Rattle.std.specs.Str.{is_utf8}
 use Rattle.vfs_core.specs.Texts.{BringsTo, all_pass}
-use Rattle.outside.specs.Sink.{Appends-nil}
+use Rattle.base_text_outside.specs.Sink.{Appends-nil}
 use Rattle.input_db.specs.Database.{empty_database}
 use Rattle.live.specs.declared.session.Live.{Live}
 use Rattle.live.specs.declared.fault.LiveError.{LiveError}
 use Rattle.live.specs.declared.fault.LiveError.TheVariants.{OutOfMemory, TooMany}
-use Rattle.outside.specs.declared.limits.Limit.TheVariants.{Paths}
+use Rattle.base_text_outside.specs.declared.limits.Limit.TheVariants.{Paths}
 use Rattle.live.specs.Session.{State, has_room, mark_turn}
-use Rattle.live_input.specs.Config.{first_config}
+use Rattle.live_config.specs.Config.{first_config}
 use Rattle.live.specs.Fault.{IsRefusal}
 use Rattle.live.specs.Image.{ShowsFlush}
 use Rattle.live.specs.Marked.{AddsMarkTo}
 use Rattle.live.specs.Turn.{EndsTurn, Holds, KeepsFlush, RefusesTurn, TakesTurn, first_state}
-use Rattle.live_flush.specs.Shape.{texts_known}
+use Rattle.live_page.specs.Shape.{texts_known}
 use Rattle.live.proofs.Kept.{flush_mark}
 use Rattle.live.proofs.Outcomes.{AppendsFront-nil}
 

@@ -1,21 +1,21 @@
 -- What a run keeps between two lines, and what follows from it at each of its ends.
 use Rattle.std.proofs.Common.{◌≡◌, ℕ, ◌+◌, ◌^◌, ◌<◌, ◌≤◌, Bool, true, false, List, [], ◌∷◌, ◌++◌, Option, Some, None, Err, length, refl, sym, ap, subst, ◌∙◌, append_assoc, append-nil, length-append, inl, inr, arith}
 use Rattle.std.specs.Io.KnownBytes.{Appends, Consumes}
-use Rattle.outside.specs.Causes.{Rose, Rose-after}
-use Rattle.outside.specs.Source.{Knows-after, Knows-all}
-use Rattle.outside.specs.Sink.{Appends-nil}
-use Rattle.outside.specs.declared.limits.Limit.TheVariants.{Bytes}
-use Rattle.bounded_lines.specs.Lines.{has_newline, partial_line, whole_lines}
-use Rattle.bounded_lines.specs.Reader.{IsCut, IsFrontOf}
-use Rattle.bounded_lines.proofs.LineEnds.{lines_of-whole, whole_lines-uncut}
-use Rattle.live_input.specs.Reader.{Breaks, Gave, IsPast, Reader, Tells, bytes_ahead, fresh}
-use Rattle.live_input.specs.declared.lines.LineError.{LineError}
-use Rattle.live_input.specs.declared.lines.LineError.TheVariants.{ReadFault as ReadFault', TooMany as TooMany', OutOfMemory as OutOfMemory', Ended}
-use Rattle.live_input.proofs.Gaves.{Gave-fresh}
+use Rattle.base_text_outside.specs.Causes.{Rose, Rose-after}
+use Rattle.base_text_outside.specs.Source.{Knows-after, Knows-all}
+use Rattle.base_text_outside.specs.Sink.{Appends-nil}
+use Rattle.base_text_outside.specs.declared.limits.Limit.TheVariants.{Bytes}
+use Rattle.base_text.specs.Lines.{has_newline, partial_line, whole_lines}
+use Rattle.base_text.specs.Reader.{IsCut, IsFrontOf}
+use Rattle.base_text.proofs.LineEnds.{lines_of-whole, whole_lines-uncut}
+use Rattle.live_page.specs.Reader.{Breaks, Gave, IsPast, Reader, Tells, bytes_ahead, fresh}
+use Rattle.live_page.specs.declared.lines.LineError.{LineError}
+use Rattle.live_page.specs.declared.lines.LineError.TheVariants.{ReadFault as ReadFault', TooMany as TooMany', OutOfMemory as OutOfMemory', Ended}
+use Rattle.live_page.proofs.Gaves.{Gave-fresh}
 use Rattle.live.specs.declared.session.Live.{Live}
 use Rattle.live.specs.declared.fault.LiveError.{LiveError}
 use Rattle.live.specs.declared.fault.LiveError.TheVariants.{OutOfMemory, Usage, ReadFault, WriteFault, Script, BadManifest, NoSuchFile, Io, CargoMetadata, NoJson, Json, NotAbsolute, UnknownPackage, BadCrateName, NoParent, NoCargoProject, TooMany}
-use Rattle.live_input.specs.Event.{event}
+use Rattle.live_page.specs.Event.{event}
 use Rattle.live.specs.Fault.{IsOneOf, IsRefusal, fault_of, line_statuses, run_statuses, status_of}
 use Rattle.live.specs.Run.{Completes, EndsRun, Fails, Finishes, HasCause, Leaves, Ran, Stops, TakesAtMost, WereWhole}
 use Rattle.live.specs.Session.{State, Outcome, lines_within, session, state_after_line, turn_of, turns}

@@ -1,16 +1,16 @@
 -- One event: a mark that is taken or refused, or a flush.
 use Rattle.std.proofs.Common.{◌≡◌, ℕ, Bool, true, List, [], Option, Some, None, Result, Ok, Err, inl, inr, ◌⊎◌, refl, sym, ap, subst, arith}
 use Rattle.std.specs.Prelude.{IfErr, IsErrOf, OnErr, OnOk, is_err}
-use Rattle.outside.specs.Sink.{Appends-nil}
-use Rattle.outside.specs.declared.limits.Limit.TheVariants.{Paths}
+use Rattle.base_text_outside.specs.Sink.{Appends-nil}
+use Rattle.base_text_outside.specs.declared.limits.Limit.TheVariants.{Paths}
 use Rattle.vfs_core.specs.Files.{IsFullFor}
 use Rattle.vfs_core.specs.VfsPath.{PathContent}
 use Rattle.vfs_core.specs.declared.marks.Mark.{Mark}
 use Rattle.vfs_core.specs.declared.marks.MarkKind.{MarkKind}
 use Rattle.input_db.specs.Database.{Database}
-use Rattle.live_input.specs.Event.{event}
-use Rattle.live_input.specs.declared.event.Event.{Event}
-use Rattle.live_input.specs.declared.event.Event.TheVariants.{Flush}
+use Rattle.live_page.specs.Event.{event}
+use Rattle.live_page.specs.declared.event.Event.{Event}
+use Rattle.live_page.specs.declared.event.Event.TheVariants.{Flush}
 use Rattle.live.specs.declared.fault.LiveError.{LiveError}
 use Rattle.live.specs.declared.fault.LiveError.TheVariants.{OutOfMemory, Script, TooMany}
 use Rattle.live.specs.declared.fault.StepError.{StepError}
@@ -18,7 +18,7 @@ use Rattle.live.specs.declared.fault.StepError.TheVariants.{Refused}
 use Rattle.live.specs.declared.session.Live.{Live}
 use Rattle.live.specs.Fault.{IsOneOf, flush_statuses, line_statuses, status_of, turn_statuses}
 use Rattle.live.specs.Marked.{AddsMarkTo}
-use Rattle.live_flush.specs.Refresh.{KeepsCrates}
+use Rattle.live_page.specs.Refresh.{KeepsCrates}
 use Rattle.live.specs.Session.{State, ended_state, flush_turn, mark_turn, state_after_failure, state_after_line, turn, turn_of}
 use Rattle.live.specs.Turn.{EndsLine, EndsTurn, Holds, LeavesAsWas, TakesTurn}
 use Rattle.live.specs.Written.{HasWriteCause}

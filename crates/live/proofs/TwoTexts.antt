@@ -5,27 +5,27 @@ use Rattle.std.specs.Option.{option_map}
 use Rattle.std.proofs.lemmas.List.Sums.{fold-append}
 use Rattle.vfs_core.specs.VfsPath.{PathContent}
 use Rattle.vfs_core.specs.declared.marks.MarkKind.{MarkKind}
-use Rattle.live_input.specs.declared.config.LiveConfig.{LiveConfig}
-use Rattle.live_input.specs.declared.event.Event.{Event}
-use Rattle.live_input.specs.declared.event.Event.TheVariants.{Answer, Build, Exclude, File, Flush, Load}
+use Rattle.live_config.specs.declared.config.LiveConfig.{LiveConfig}
+use Rattle.live_page.specs.declared.event.Event.{Event}
+use Rattle.live_page.specs.declared.event.Event.TheVariants.{Answer, Build, Exclude, File, Flush, Load}
 use Rattle.live.specs.declared.fault.LiveError.{LiveError}
 use Rattle.live.specs.declared.fault.LiveError.TheVariants.{NoCargoProject}
-use Rattle.live_input.specs.Event.{event}
+use Rattle.live_page.specs.Event.{event}
 use Rattle.live.specs.Laws.{IsJoined, SessionsJoin, counted_on}
-use Rattle.bounded_lines.specs.Lines.{final, front, last_line, lines_of, newline, partial_line, pieces, whole_lines}
+use Rattle.base_text.specs.Lines.{final, front, last_line, lines_of, newline, partial_line, pieces, whole_lines}
 use Rattle.live.specs.Session.{Outcome, State, built_turn, flush_of, flushed_turn, has_room, loaded_turn, mark_turn, of_building, project_after_build, session, sources_of, start, take_line, take_line_after, turn, turn_of, turns}
-use Rattle.bounded_lines.proofs.Cuts.{parts_of}
+use Rattle.base_text.proofs.Cuts.{parts_of}
 use Rattle.live.proofs.Deciding.{session-within}
 use Rattle.std.specs.Prelude.{Result, Ok, Err}
-use Rattle.outside.specs.declared.command.Output.{Output}
-use Rattle.pm_build.specs.Reading.{Reading}
-use Rattle.pm_build.specs.declared.build_error.BuildError.TheVariants as build
-use Rattle.pm_load.specs.declared.load_error.LoadError.{LoadError}
-use Rattle.pm_load.specs.declared.load_error.LoadError.TheVariants as load
+use Rattle.base_text_outside.specs.declared.command.Output.{Output}
+use Rattle.pm_tools.specs.Reading.{Reading}
+use Rattle.pm_tools.specs.declared.build_error.BuildError.TheVariants as build
+use Rattle.pm_lower_load.specs.declared.load_error.LoadError.{LoadError}
+use Rattle.pm_lower_load.specs.declared.load_error.LoadError.TheVariants as load
 use Rattle.pm_lower.specs.declared.project_workspace.ProjectWorkspace.{ProjectWorkspace}
-use Rattle.pm_rows.specs.Lowering.{Crate}
-use Rattle.pm_rows.specs.declared.lower_error.LowerError.{LowerError}
-use Rattle.pm_rows.specs.declared.lower_error.LowerError.TheVariants as lower
+use Rattle.pm_lower_crates.specs.Lowering.{Crate}
+use Rattle.pm_lower_crates.specs.declared.lower_error.LowerError.{LowerError}
+use Rattle.pm_lower_crates.specs.declared.lower_error.LowerError.TheVariants as lower
 use Rattle.pm_lower.specs.ProjectWorkspace.{has_cargo_workspace}
 use Rattle.live_project.specs.Build.{built_project}
 use Rattle.live_project.specs.Project.{ProjectContent, read_sources}

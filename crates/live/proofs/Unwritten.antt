@@ -1,13 +1,13 @@
 -- A flush that comes to no page: it ran out of memory, or the crates of its project are refused.
 use Rattle.std.proofs.Common.{◌≡◌, ℕ, List, [], Option, Some, None, Err, inl, inr, refl, sym, ◌∙◌, ap, subst, arith}
-use Rattle.outside.specs.Sink.{Appends-nil}
-use Rattle.outside.specs.declared.limits.Limit.{Limit}
-use Rattle.outside.specs.declared.limits.Limit.TheVariants.{Bytes, Crates}
+use Rattle.base_text_outside.specs.Sink.{Appends-nil}
+use Rattle.base_text_outside.specs.declared.limits.Limit.{Limit}
+use Rattle.base_text_outside.specs.declared.limits.Limit.TheVariants.{Bytes, Crates}
 use Rattle.vfs_core.specs.Files.{existing_files}
 use Rattle.vfs_core.specs.VfsPath.{PathContent}
-use Rattle.pm_rows.specs.Refusal.{Refuses}
-use Rattle.pm_rows.specs.declared.lower_error.LowerError.{LowerError}
-use Rattle.pm_rows.specs.declared.lower_error.LowerError.TheVariants as lower
+use Rattle.pm_lower_crates.specs.Refusal.{Refuses}
+use Rattle.pm_lower_crates.specs.declared.lower_error.LowerError.{LowerError}
+use Rattle.pm_lower_crates.specs.declared.lower_error.LowerError.TheVariants as lower
 use Rattle.live_project.specs.Project.{ProjectContent}
 use Rattle.live_project.proofs.Limited.{lowered_limit}
 use Rattle.live.specs.declared.fault.LiveError.{LiveError}

@@ -2,15 +2,15 @@
 use Rattle.std.proofs.Common.{◌≡◌, ℕ, ◌+◌, List, Option, Some, None, Result, Ok, Err, ◌⊎◌, refl, sym, ap, subst, ◌∙◌, inl, inr, arith}
 use Rattle.std.specs.Option.{option_map}
 use Rattle.live.specs.declared.session.Live.{Live}
-use Rattle.live_input.specs.declared.config.LiveConfig.{LiveConfig}
+use Rattle.live_config.specs.declared.config.LiveConfig.{LiveConfig}
 use Rattle.live.specs.declared.fault.LiveError.{LiveError}
 use Rattle.live.specs.declared.fault.LiveError.TheVariants.{OutOfMemory, Usage, ReadFault, WriteFault, Script, BadManifest, NoSuchFile, Io, CargoMetadata, NoJson, Json, NotAbsolute, UnknownPackage, BadCrateName, NoParent, NoCargoProject, TooMany}
 use Rattle.std.specs.Prelude.{IfErr, IsErrOf, OnOk, String}
 use Rattle.std.specs.declared.alloc.Global.{Global}
 use Rattle.live.specs.Cli.{CompletesAs, CompletesFor, FailsFor, FinishesAs, KeepsAlways, StatusOf, TakesFor, UsageError, UsageExactly, with_config, state_of_command, state_for, texts_of}
-use Rattle.live_input.specs.declared.config.Command.{Command}
-use Rattle.live_input.specs.declared.config.Command.TheVariants.{Run}
-use Rattle.live_input.specs.Config.{command_of}
+use Rattle.live_config.specs.declared.config.Command.{Command}
+use Rattle.live_config.specs.declared.config.Command.TheVariants.{Run}
+use Rattle.live_config.specs.Config.{command_of}
 use Rattle.live.specs.Fault.{IsOneOf, IsRefusal, all_statuses, run_statuses, status_of, word_statuses}
 use Rattle.live.specs.Run.{Completes, FailsFrom, Finishes, HasCause, TakesAtMost}
 use Rattle.live.specs.Session.{State, session}

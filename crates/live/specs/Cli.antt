@@ -2,14 +2,14 @@
 use Rattle.std.specs.Prelude.{◌≡◌, ℕ, List, ◌+◌, ◌⊎◌, Option, Some, None, Result, IsErrOf, String, map, string_bytes}
 use Rattle.std.specs.Option.{option_map}
 use Rattle.std.specs.declared.alloc.Global.{Global}
-use Rattle.outside.specs.declared.sink.SinkError.{SinkError}
-use Rattle.live_input.specs.declared.config.LiveConfig.{LiveConfig}
+use Rattle.base_text_outside.specs.declared.sink.SinkError.{SinkError}
+use Rattle.live_config.specs.declared.config.LiveConfig.{LiveConfig}
 use Rattle.live.specs.declared.session.Live.{Live}
 use Rattle.live.specs.declared.fault.LiveError.{LiveError}
 use Rattle.live.specs.declared.fault.LiveError.TheVariants.{OutOfMemory, Usage}
-use Rattle.live_input.specs.declared.config.Command.{Command}
-use Rattle.live_input.specs.declared.config.Command.TheVariants.{Run}
-use Rattle.live_input.specs.Config.{command_of}
+use Rattle.live_config.specs.declared.config.Command.{Command}
+use Rattle.live_config.specs.declared.config.Command.TheVariants.{Run}
+use Rattle.live_config.specs.Config.{command_of}
 use Rattle.live.specs.Fault.{status_of, text_of}
 use Rattle.live.specs.Run.{Completes, FailsFrom, Finishes, TakesAtMost}
 use Rattle.live.specs.Session.{State, session}

@@ -4,15 +4,15 @@ use Rattle.std.specs.Prelude.{◌≡◌, ◌↔◌, ℕ, ◌<◌, List, [], leng
 use Rattle.std.specs.List.{Contains, IsDistinct}
 use Rattle.std.specs.Option.{option_and_then, option_map}
 use Rattle.graph_base.specs.Reach.{Reaches}
-use Rattle.crate_values.specs.CrateData.{prelude_of, sysroot_of}
-use Rattle.crate_values.specs.declared.crate_data.Dependency.{Dependency}
+use Rattle.crate_graph_values.specs.CrateData.{prelude_of, sysroot_of}
+use Rattle.crate_graph_values.specs.declared.crate_data.Dependency.{Dependency}
 use Rattle.input_db.specs.Database.{Database}
 use Rattle.input_db.specs.Identity.{Table, crate_edges, input_in, named_in}
 use Rattle.input_db.specs.declared.crate_input.CrateInput.{CrateInput}
 use Rattle.live_project.specs.Crates.{project_crates, project_edges}
 use Rattle.live_project.specs.Project.{ProjectContent}
-use Rattle.pm_rows.specs.Lowering.{Crate}
-use Rattle.pm_rows.specs.WantedEdges.{Dep, Edge}
+use Rattle.pm_lower_crates.specs.Lowering.{Crate}
+use Rattle.pm_lower_crates.specs.WantedEdges.{Dep, Edge}
 use Rattle.vfs_core.specs.VfsPath.{PathContent}
 
 -- ---- the list

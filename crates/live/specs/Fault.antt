@@ -1,18 +1,18 @@
 -- The errors of a run: their numbers, their texts, and which of them a session gives.
 use Rattle.std.specs.Prelude.{◌≡◌, ℕ, ◌≤◌, true, nat_eq, List, [], ◌∷◌, ◌++◌, Option, Some, None, codes, decimal}
 use Rattle.std.specs.List.{list_any}
-use Rattle.outside.specs.declared.limits.Limit.{Limit}
-use Rattle.outside.specs.declared.limits.Limit.TheVariants.{Bytes, Paths, Packages, Targets, Crates}
-use Rattle.live_input.specs.declared.lines.LineError.{LineError}
-use Rattle.live_input.specs.declared.lines.LineError.TheVariants.{ReadFault as ReadFault', TooMany as TooMany', OutOfMemory as OutOfMemory', Ended as Ended'}
+use Rattle.base_text_outside.specs.declared.limits.Limit.{Limit}
+use Rattle.base_text_outside.specs.declared.limits.Limit.TheVariants.{Bytes, Paths, Packages, Targets, Crates}
+use Rattle.live_page.specs.declared.lines.LineError.{LineError}
+use Rattle.live_page.specs.declared.lines.LineError.TheVariants.{ReadFault as ReadFault', TooMany as TooMany', OutOfMemory as OutOfMemory', Ended as Ended'}
 use Rattle.live_project.specs.declared.project_error.ProjectError.{ProjectError}
 use Rattle.live_project.specs.declared.project_error.ProjectError.TheVariants as project
-use Rattle.pm_build.specs.declared.build_error.BuildError.{BuildError}
-use Rattle.pm_build.specs.declared.build_error.BuildError.TheVariants as build
-use Rattle.pm_load.specs.declared.load_error.LoadError.{LoadError}
-use Rattle.pm_load.specs.declared.load_error.LoadError.TheVariants as load
-use Rattle.pm_rows.specs.declared.lower_error.LowerError.{LowerError}
-use Rattle.pm_rows.specs.declared.lower_error.LowerError.TheVariants as lower
+use Rattle.pm_tools.specs.declared.build_error.BuildError.{BuildError}
+use Rattle.pm_tools.specs.declared.build_error.BuildError.TheVariants as build
+use Rattle.pm_lower_load.specs.declared.load_error.LoadError.{LoadError}
+use Rattle.pm_lower_load.specs.declared.load_error.LoadError.TheVariants as load
+use Rattle.pm_lower_crates.specs.declared.lower_error.LowerError.{LowerError}
+use Rattle.pm_lower_crates.specs.declared.lower_error.LowerError.TheVariants as lower
 use Rattle.live.specs.declared.fault.LiveError.{LiveError}
 use Rattle.live.specs.declared.fault.LiveError.TheVariants.{OutOfMemory, Usage, ReadFault, WriteFault, Script, BadManifest, NoSuchFile, Io, CargoMetadata, NoJson, Json, NotAbsolute, UnknownPackage, BadCrateName, NoParent, NoCargoProject, TooMany}
 use Rattle.live.specs.declared.fault.StepError.{StepError}

@@ -2,7 +2,7 @@
 use Rattle.std.specs.Prelude.{◌≡◌, ℕ, List, Option, Some, None, map}
 use Rattle.vfs_core.specs.VfsPath.{PathContent}
 use Rattle.input_db.specs.Database.{Database}
-use Rattle.live_flush.specs.Shape.{Shape, base_image, base_shape, shape}
+use Rattle.live_page.specs.Shape.{Shape, base_image, base_shape, shape}
 use Rattle.live.specs.Page.{Flush, paths_of_flush, roots_by}
 
 -- the files of a flush with their texts

@@ -3,7 +3,7 @@ use Rattle.std.specs.Prelude.{◌≡◌, ℕ, ◌≤◌, ◌+◌, List, [], ◌+
 use Rattle.std.specs.Option.{option_map}
 use Rattle.live.specs.declared.fault.LiveError.{LiveError}
 use Rattle.live.specs.declared.fault.LiveError.TheVariants.{Script}
-use Rattle.bounded_lines.specs.Lines.{partial_line}
+use Rattle.base_text.specs.Lines.{partial_line}
 use Rattle.live.specs.Session.{Outcome, State, session}
 
 -- a refusal of a text that follows so many lines: their numbers are counted on

@@ -1,14 +1,13 @@
 pub mod Cli
 pub mod Crates
 pub mod Fault
+pub mod Image
 pub mod Laws
 pub mod LiveTexts
 pub mod Marked
 pub mod Page
+pub mod Refresh
 pub mod Run
 pub mod Session
-pub mod Top
 pub mod Turn
 pub mod Written
-pub mod Refresh
-pub mod Image

@@ -3,7 +3,7 @@ use Rattle.std.specs.Prelude.{◌≡◌, ℕ, ◌+◌, Bool, true, List, [], ◌
 use Rattle.std.proofs.Common.{set}
 use Rattle.std.specs.Option.{option_and_then}
 use Rattle.std.specs.Str.{is_utf8}
-use Rattle.trees.specs.Tree as tree
+use Rattle.base_text.specs.Tree as tree
 use Rattle.vfs_core.specs.declared.marks.Mark.{Mark}
 use Rattle.vfs_core.specs.Files.{Files, Follows, KeepsNumbers, TakesMark, TakesOut}
 use Rattle.vfs_core.specs.Marks.{live_text, mentioned_paths}

@@ -1,9 +1,9 @@
 -- What an event that is no flush does to a session, and what a refresh that fails leaves of it.
 use Rattle.std.specs.Prelude.{◌≡◌, ◌⊎◌, ℕ, List, Some, Ok, Err}
-use Rattle.outside.specs.Command.{question_of}
-use Rattle.outside.specs.Runner.{with_answer}
-use Rattle.outside.specs.declared.command.CommandLine.{CommandLine}
-use Rattle.outside.specs.declared.command.Output.{Output}
+use Rattle.base_text_outside.specs.Command.{question_of}
+use Rattle.base_text_outside.specs.Runner.{with_answer}
+use Rattle.base_text_outside.specs.declared.command.CommandLine.{CommandLine}
+use Rattle.base_text_outside.specs.declared.command.Output.{Output}
 use Rattle.vfs_core.specs.Files.{existing_files}
 use Rattle.vfs_core.specs.declared.marks.Mark.{Mark}
 use Rattle.pm_lower.specs.declared.project_workspace.ProjectWorkspace.{ProjectWorkspace}

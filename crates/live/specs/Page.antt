@@ -3,15 +3,15 @@
 use Rattle.std.specs.Prelude.{ℕ, List, [], map, nat_eq, Option, Some, None, Result, Ok}
 use Rattle.std.specs.Map.{lookup}
 use Rattle.std.specs.Option.{option_map}
-use Rattle.live_flush.specs.Page as placed
-use Rattle.live_flush.specs.declared.file_root.FileRoot.{FileRoot}
+use Rattle.live_page.specs.FlushPage as placed
+use Rattle.vfs_sets.specs.declared.file_root.FileRoot.{FileRoot}
 use Rattle.live_project.specs.Crates.{project_crates}
 use Rattle.live_project.specs.Project.{ProjectContent}
 use Rattle.live_project.specs.Roots.{roots_of_project}
-use Rattle.pages.specs.Entries.{Node, Paths, entries_of}
-use Rattle.pages.specs.declared.crate_entry.CrateEntry.{CrateEntry}
-use Rattle.pm_rows.specs.Lowering.{Crate}
-use Rattle.pm_rows.specs.declared.lower_error.LowerError.{LowerError}
+use Rattle.live_page.specs.Entries.{Node, Paths, entries_of}
+use Rattle.live_page.specs.declared.crate_entry.CrateEntry.{CrateEntry}
+use Rattle.pm_lower_crates.specs.Lowering.{Crate}
+use Rattle.pm_lower_crates.specs.declared.lower_error.LowerError.{LowerError}
 use Rattle.vfs_core.specs.VfsPath.{PathContent}
 
 -- a file that lives: its number, which is the place of its path among those of which the events spoke, its path and its text

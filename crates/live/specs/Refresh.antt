@@ -6,10 +6,10 @@ use Rattle.vfs_core.specs.Files.{existing_files}
 use Rattle.vfs_core.specs.VfsPath.{PathContent}
 use Rattle.crate_graph.specs.Graph.{Graph}
 use Rattle.crate_graph.specs.Extend.{Id}
-use Rattle.pm_rows.specs.Lowering.{LacksCyclesAlone, crate_seen}
-use Rattle.pm_rows.specs.Refusal.{Refuses}
-use Rattle.pm_rows.specs.declared.lower_error.LowerError.{LowerError}
-use Rattle.live_flush.specs.Refresh.{GivesCrates, KeepsIdentities, Refreshes}
+use Rattle.pm_lower_crates.specs.Lowering.{LacksCyclesAlone, crate_seen}
+use Rattle.pm_lower_crates.specs.Refusal.{Refuses}
+use Rattle.pm_lower_crates.specs.declared.lower_error.LowerError.{LowerError}
+use Rattle.live_page.specs.Refresh.{GivesCrates, KeepsIdentities, Refreshes}
 use Rattle.live_project.specs.Crates.{BeginIn, project_crates, project_edges}
 use Rattle.live_project.specs.Project.{ProjectContent}
 use Rattle.live.specs.declared.fault.LiveError.{LiveError}

@@ -1,10 +1,10 @@
 -- What a run over a source and a sink did: the session of the bytes that it took, held and written.
 use Rattle.std.specs.Prelude.{◌≡◌, ℕ, ◌+◌, ◌≤◌, ◌⊎◌, List, [], ◌∷◌, ◌++◌, Option, Some, None, Result, Ok, Err, length}
 use Rattle.std.specs.Io.KnownBytes.{Consumes, IsAtEnd}
-use Rattle.outside.specs.Causes.{Rose}
-use Rattle.bounded_lines.specs.Lines.{whole_lines}
-use Rattle.bounded_lines.specs.Reader.{IsFrontOf}
-use Rattle.live_input.specs.Event.{event}
+use Rattle.base_text_outside.specs.Causes.{Rose}
+use Rattle.base_text.specs.Lines.{whole_lines}
+use Rattle.base_text.specs.Reader.{IsFrontOf}
+use Rattle.live_page.specs.Event.{event}
 use Rattle.live.specs.declared.session.Live.{Live}
 use Rattle.live.specs.declared.fault.LiveError.{LiveError}
 use Rattle.live.specs.declared.fault.LiveError.TheVariants.{OutOfMemory, ReadFault, WriteFault}

@@ -2,28 +2,28 @@
 use Rattle.std.specs.Prelude.{ℕ, Bool, true, List, [], ◌∷◌, ◌++◌, Option, Some, None, Result, Ok, Err, length, take, unwrap_or, nat_le, nat_lt, ◌||◌, ◌+◌, if◌then◌else◌}
 use Rattle.std.specs.List.{enumerate_from, filter_map, fold, list_any}
 use Rattle.std.specs.Option.{option_map}
-use Rattle.outside.specs.Command.{question_of}
-use Rattle.outside.specs.Runner.{with_answer}
-use Rattle.outside.specs.declared.command.CommandLine.{CommandLine}
-use Rattle.outside.specs.declared.command.Output.{Output}
-use Rattle.outside.specs.declared.command.Question.{Question}
-use Rattle.outside.specs.declared.limits.Limit.TheVariants.{Bytes, Paths}
-use Rattle.bounded_lines.specs.Lines.{lines_of, whole_lines}
+use Rattle.base_text_outside.specs.Command.{question_of}
+use Rattle.base_text_outside.specs.Runner.{with_answer}
+use Rattle.base_text_outside.specs.declared.command.CommandLine.{CommandLine}
+use Rattle.base_text_outside.specs.declared.command.Output.{Output}
+use Rattle.base_text_outside.specs.declared.command.Question.{Question}
+use Rattle.base_text_outside.specs.declared.limits.Limit.TheVariants.{Bytes, Paths}
+use Rattle.base_text.specs.Lines.{lines_of, whole_lines}
 use Rattle.vfs_core.specs.VfsPath.{PathContent, vfs_path_eq}
 use Rattle.vfs_core.specs.declared.marks.Mark.{Mark}
 use Rattle.vfs_core.specs.declared.marks.MarkKind.{MarkKind}
 use Rattle.vfs_core.specs.declared.marks.MarkKind.TheVariants.{Out}
 use Rattle.vfs_core.specs.Marks.{live_files, live_text, mentioned_paths}
 use Rattle.vfs_core.specs.Files.{kind_of}
-use Rattle.pm_build.specs.Reading.{Reading}
+use Rattle.pm_tools.specs.Reading.{Reading}
 use Rattle.pm_lower.specs.ProjectWorkspace.{has_cargo_workspace}
 use Rattle.pm_lower.specs.declared.project_workspace.ProjectWorkspace.{ProjectWorkspace}
-use Rattle.pm_rows.specs.Lowering.{Crate}
-use Rattle.pm_rows.specs.declared.lower_error.LowerError.{LowerError}
-use Rattle.live_input.specs.declared.config.LiveConfig.{LiveConfig}
-use Rattle.live_input.specs.declared.event.Event.{Event}
-use Rattle.live_input.specs.declared.event.Event.TheVariants.{Answer, Build, Exclude, File, Flush as FlushEvent, Load}
-use Rattle.live_input.specs.Event.{event}
+use Rattle.pm_lower_crates.specs.Lowering.{Crate}
+use Rattle.pm_lower_crates.specs.declared.lower_error.LowerError.{LowerError}
+use Rattle.live_config.specs.declared.config.LiveConfig.{LiveConfig}
+use Rattle.live_page.specs.declared.event.Event.{Event}
+use Rattle.live_page.specs.declared.event.Event.TheVariants.{Answer, Build, Exclude, File, Flush as FlushEvent, Load}
+use Rattle.live_page.specs.Event.{event}
 use Rattle.live_project.specs.Build.{built_project}
 use Rattle.live_project.specs.Project.{ProjectContent, read_sources}
 use Rattle.live_project.specs.Sources.{kept_files}

@@ -6,12 +6,12 @@ use Rattle.vfs_core.specs.Texts.{BringsTo, all_pass}
 use Rattle.vfs_core.specs.Files.{KeepsNumbers, existing_files, paths_of}
 use Rattle.vfs_core.specs.VfsPath.{PathContent}
 use Rattle.vfs_sets.specs.Probes.{RaisesAtMost, most_probes}
-use Rattle.live_flush.specs.Refresh.{KeepsCrates, KeepsIdentities}
-use Rattle.live_flush.specs.Shape.{image, texts_known}
-use Rattle.live_input.specs.Config.{first_config}
-use Rattle.live_input.specs.Event.{event}
-use Rattle.live_input.specs.declared.event.Event.{Event}
-use Rattle.live_input.specs.declared.event.Event.TheVariants.{Flush as FlushEvent}
+use Rattle.live_page.specs.Refresh.{KeepsCrates, KeepsIdentities}
+use Rattle.live_page.specs.Shape.{image, texts_known}
+use Rattle.live_config.specs.Config.{first_config}
+use Rattle.live_page.specs.Event.{event}
+use Rattle.live_page.specs.declared.event.Event.{Event}
+use Rattle.live_page.specs.declared.event.Event.TheVariants.{Flush as FlushEvent}
 use Rattle.live.specs.declared.fault.LiveError.{LiveError}
 use Rattle.live.specs.declared.fault.LiveError.TheVariants.{OutOfMemory, WriteFault}
 use Rattle.live.specs.declared.fault.StepError.{StepError}

@@ -2,10 +2,10 @@
 use Rattle.std.specs.Prelude.{ℕ, ◌<◌, ◌≤◌, List, [], ◌∷◌, ◌++◌, Option, Result, IfErr, IsErrOf, OnErr, OnOk, length, take}
 use Rattle.std.specs.List.{concat}
 use Rattle.std.specs.Io.KnownBytes.{Appends}
-use Rattle.outside.specs.Causes.{Rose, WritesHaveCause}
-use Rattle.outside.specs.Sink.{AppendsPart}
-use Rattle.outside.specs.declared.limits.Limit.TheVariants.{Bytes}
-use Rattle.outside.specs.declared.sink.SinkError.{SinkError}
+use Rattle.base_text_outside.specs.Causes.{Rose, WritesHaveCause}
+use Rattle.base_text_outside.specs.Sink.{AppendsPart}
+use Rattle.base_text_outside.specs.declared.limits.Limit.TheVariants.{Bytes}
+use Rattle.base_text_outside.specs.declared.sink.SinkError.{SinkError}
 use Rattle.live.specs.declared.fault.LiveError.{LiveError}
 use Rattle.live.specs.declared.fault.LiveError.TheVariants.{TooMany, WriteFault}
 use Rattle.live.specs.Fault.{IsOneOf, status_of}

@@ -2,7 +2,7 @@
 
 ghost use Rattle.std.specs.Prelude.{◌≡◌, ℕ, List, IfErr, IsErrOf, OnOk, Some};
 ghost use Rattle.live.specs.Cli.{CompletesAs, CompletesFor, FailsAs, FailsFor, FinishesAs, KeepsAlways, TakesFor, UsageError, UsageExactly, state_for, texts_of};
-ghost use Rattle.live_input.specs.Config.{command_of};
+ghost use Rattle.live_config.specs.Config.{command_of};
 ghost use Rattle.live.specs.Fault.{all_statuses, status_of, text_of, word_statuses};
 ghost use Rattle.live.specs.Run.{HasCause, IsFaultless};
 ghost use Rattle.live.specs.Session.{State};
@@ -14,7 +14,7 @@ use crate::fault::{LiveError, fault_text};
 use crate::run::live_run;
 use crate::session::Live;
 use base_text::{ByteSink, ByteSource, SinkError, write_all};
-use live_input::{Command, WordsError};
+use live_config::{Command, WordsError};
 use std::alloc::Global;
 
 /// Reads the words, runs the script on the session, and answers the exit status. On a refusal its text

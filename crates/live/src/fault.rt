@@ -5,9 +5,9 @@ ghost use Rattle.live.specs.Fault.{limit_name, status_of, text_of};
 
 use base_text::{Limit, Text, TryClone};
 use live_project::ProjectError;
-use pm_build::BuildError;
-use pm_lower::LoadError;
-use pm_rows::LowerError;
+use pm_lower_crates::LowerError;
+use pm_lower_load::LoadError;
+use pm_tools::BuildError;
 use std::alloc::{AllocError, AllocFailed, Global};
 use std::error::Error;
 use std::fmt;

@@ -6,9 +6,8 @@ ghost use Rattle.vfs_core.specs.Files.{existing_files};
 ghost use Rattle.live.specs.LiveTexts.{kept_by, with_row};
 
 use crate::live_texts::LiveTexts;
-use base_text::{SharedText, TryClone};
+use base_text::{MemoryTree, SharedText, TryClone};
 use std::alloc::{AllocError, Global};
-use trees::MemoryTree;
 use vfs_core::{Vfs, VfsPath};
 
 // Puts a file with its text in, where it has one. A file whose path is virtual is in no tree.

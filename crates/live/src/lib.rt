@@ -11,16 +11,13 @@ mod page;
 mod rows;
 pub mod run;
 pub mod session;
-pub mod top;
 
 pub use cli::{live_cli, tell};
 pub use fault::{LiveError, StepError, fault_text};
 pub use last_flush::LastFlush;
-pub use live_input::{
-    Command, Event, EventError, LineError, Lines, LiveConfig, WordsError, config, event, lines,
-};
+pub use live_config::{Command, LiveConfig, WordsError, config};
+pub use live_page::{Event, EventError, LineError, Lines, event, lines};
 pub use live_project::{LiveAnswers, Project, Sources};
 pub use live_texts::LiveTexts;
 pub use run::live_run;
 pub use session::Live;
-pub use top::live_top;

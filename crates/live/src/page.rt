@@ -6,12 +6,12 @@ ghost use Rattle.std.specs.Result.{IsErrOf};
 ghost use Rattle.live.specs.Fault.{flush_statuses};
 ghost use Rattle.live.specs.Written.{AppendsFront, AppendsProperFront, HasWriteCause};
 ghost use Rattle.live.specs.declared.fault.LiveError.TheVariants.{OutOfMemory, WriteFault};
-ghost use Rattle.pages.specs.Page.{page_of};
+ghost use Rattle.live_page.specs.Page.{page_of};
 
 use crate::fault::LiveError;
 use base_text::{ByteSink, SinkError, write_all};
 use input_db::InputDb;
-use pages::page;
+use live_page::page;
 use std::alloc::Global;
 
 /// Writes the page that a database shows.

@@ -1,19 +1,19 @@
 //! Runs a session over a source of bytes.
 
 ghost use Rattle.std.specs.Prelude.{◌≡◌, ◌+◌, ℕ, List, IfErr, IsErrOf, OnOk, Some};
-ghost use Rattle.live_input.specs.Event.{event};
+ghost use Rattle.live_page.specs.Event.{event};
 ghost use Rattle.live.specs.Fault.{fault_of, line_statuses, run_statuses, status_of};
 ghost use Rattle.live.specs.Run.{Completes, EndsFrom, Finishes, HasCause, IsFaultless, TakesAtMost};
 ghost use Rattle.live.specs.Session.{State, session, turn_of};
 ghost use Rattle.live.specs.Turn.{EndsLine, HasEnded, Holds, KeepsNames, TakesTurn};
 ghost use Rattle.live.specs.Written.{HasWriteCause};
 ghost use Rattle.live.specs.declared.fault.LiveError.TheVariants.{OutOfMemory};
-ghost use Rattle.live_input.specs.declared.lines.LineError.TheVariants.{Ended};
+ghost use Rattle.live_page.specs.declared.lines.LineError.TheVariants.{Ended};
 
 use crate::fault::LiveError;
 use crate::session::Live;
 use base_text::{ByteSink, ByteSource, Limit};
-use live_input::{Event, EventError, LineError, Lines};
+use live_page::{Event, EventError, LineError, Lines};
 use std::alloc::Global;
 
 /// Reads a script to its end and takes each line as soon as it is whole. It takes at most one byte more

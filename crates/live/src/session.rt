@@ -1,6 +1,6 @@
 //! A session that takes events one by one.
 
-ghost use Rattle.live_input.specs.Config.{Fits};
+ghost use Rattle.live_config.specs.Config.{Fits};
 
 mod build;
 mod flush;
@@ -10,8 +10,10 @@ use crate::fault::{LiveError, StepError};
 use crate::last_flush::LastFlush;
 use crate::live_texts::LiveTexts;
 use base_text::{ByteSink, Counter, Ledger, Limit, Numbers, Shared, Steps, Text, TryClone};
-use input_db::{InputDb, Nonce};
-use live_input::{Event, LiveConfig};
+use input_db::InputDb;
+use input_db_files::Nonce;
+use live_config::LiveConfig;
+use live_page::Event;
 use live_project::{LiveAnswers, Project, SharedConfig};
 use pm_lower::ProjectWorkspace;
 use std::alloc::{AllocError, Global};
@@ -38,16 +40,16 @@ impl Live {
     ghost use Rattle.input_db.specs.Database.{empty_database};
     ghost use Rattle.vfs_core.specs.Files.{IsFullFor, kind_of};
     ghost use Rattle.vfs_core.specs.declared.marks.MarkKind.TheVariants.{Out};
-    ghost use Rattle.live_input.specs.Config.{Fits, config_of};
+    ghost use Rattle.live_config.specs.Config.{Fits, config_of};
     ghost use Rattle.live.specs.Fault.{turn_statuses};
     ghost use Rattle.live.specs.Marked.{AddsMarkTo};
     ghost use Rattle.live.specs.Session.{State, state_after_failure, turn};
     ghost use Rattle.live.specs.Turn.{EndsTurn, FailsStep, HasEnded, HasStepCause, Holds, LeavesAsWas, ShowsShape, TakesTurn, first_state};
     ghost use Rattle.live.specs.Written.{HasWriteCause};
-    ghost use Rattle.live_input.specs.declared.event.Event.TheVariants.{Flush};
+    ghost use Rattle.live_page.specs.declared.event.Event.TheVariants.{Flush};
     ghost use Rattle.live.specs.declared.fault.LiveError.TheVariants.{OutOfMemory, TooMany};
     ghost use Rattle.live.specs.declared.fault.StepError.TheVariants.{Ended, Refused};
-    ghost use Rattle.outside.specs.declared.limits.Limit.TheVariants.{Paths};
+    ghost use Rattle.base_text_outside.specs.declared.limits.Limit.TheVariants.{Paths};
 
     /// A session to which nothing was said, with the configuration of no words and an empty database.
     pub fn new(alloc: Global) -> Result<Live, AllocError>

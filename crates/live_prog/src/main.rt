@@ -4,11 +4,14 @@
 ghost use Rattle.std.specs.IoError.{error_kind};
 ghost use Rattle.std.specs.Prelude.{◌≡◌};
 
-use live::{LiveError, live_top, tell};
+mod top;
+
+use base_text_outside::{ReaderSource, WriterSink};
+use live::{LiveError, tell};
 use std::env;
 use std::io::{self, ErrorKind};
 use std::process::ExitCode;
-use streams::{ReaderSource, WriterSink};
+pub use top::live_top;
 
 fn main(rt: HostRuntime) -> ExitCode {
     let mut err = WriterSink::new(rt.stderr());

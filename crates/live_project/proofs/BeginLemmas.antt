@@ -9,33 +9,33 @@ use Rattle.std.proofs.lemmas.Bool.Decides.{nat_tests}
 use Rattle.std.proofs.lemmas.List.Elements.{All-append, All-cons, All-head, All-map, All-nil, All-tail, All-weaker}
 use Rattle.std.proofs.lemmas.Map.Entries.{All-lookup}
 use Rattle.indexmap.specs.IndexMap.{insert_entry}
-use Rattle.base_text.specs.Arena.{number_of}
-use Rattle.base_text.specs.declared.arena.Idx.{Idx}
-use Rattle.base_text.specs.PathOrder.{path_eq}
+use Rattle.base_text_paths.specs.Arena.{number_of}
+use Rattle.base_text_paths.specs.declared.arena.Idx.{Idx}
+use Rattle.base_text_paths.specs.PathOrder.{path_eq}
 use Rattle.crate_graph.specs.Graph.{Graph}
-use Rattle.crate_values.specs.declared.builder.CrateBuilder.{CrateBuilder}
-use Rattle.crate_values.specs.declared.workspace_data.CrateWorkspaceData.{CrateWorkspaceData}
+use Rattle.crate_graph_values.specs.declared.builder.CrateBuilder.{CrateBuilder}
+use Rattle.crate_graph_values.specs.declared.workspace_data.CrateWorkspaceData.{CrateWorkspaceData}
 use Rattle.pm_cargo.specs.Workspace.{Workspace}
-use Rattle.pm_detached.specs.Lowering as detached
+use Rattle.pm_lower_crates.specs.DetachedLowering as detached
 use Rattle.pm_json.specs.Queries.{crates_in}
 use Rattle.pm_json.specs.declared.krate.Crate as document
 use Rattle.pm_json.specs.declared.project_json.ProjectJson.{ProjectJson}
-use Rattle.pm_json_rows.specs.Lowering as json
-use Rattle.pm_json_rows.specs.Rows as json_rows
-use Rattle.pm_json_rows.specs.WantedEdges as json_edges
-use Rattle.pm_loader.specs.Loader as by_path
+use Rattle.pm_lower_crates.specs.JsonLowering as json
+use Rattle.pm_lower_crates.specs.JsonRows as json_rows
+use Rattle.pm_lower_crates.specs.JsonWantedEdges as json_edges
+use Rattle.pm_lower_crates.specs.Loader as by_path
 use Rattle.pm_lower.specs.ProjectWorkspace.{script_workspace}
 use Rattle.pm_lower.specs.ToCrateGraph.{kind_lowering, shared_of}
 use Rattle.pm_lower.specs.declared.project_workspace.ProjectWorkspaceKind.{ProjectWorkspaceKind}
 use Rattle.pm_lower.specs.declared.project_workspace.ProjectWorkspaceKind.TheVariants.{Cargo, Json, DetachedFile}
-use Rattle.pm_packages.specs.declared.package.PackageData.{PackageData}
-use Rattle.pm_packages.specs.declared.target.TargetData.{TargetData}
-use Rattle.pm_packages.specs.declared.target.TargetTag.{TargetTag}
-use Rattle.pm_rows.specs.KeptEdges.{kept_edges}
-use Rattle.pm_rows.specs.Lowering.{Crate, IsLowered, crate_of, crate_seen, crates_of, lowering, named_crates}
-use Rattle.pm_rows.specs.Rows.{Row, live_target, live_targets, may_be_row, owner, owners_from, parts, root_file, row_at, rows_from, rows_of, rows_of_parts}
-use Rattle.pm_rows.specs.WantedEdges.{bad_names, wanted_edges}
-use Rattle.pm_rows.specs.declared.lower_error.LowerError.{LowerError}
+use Rattle.pm_cargo_packages.specs.declared.package.PackageData.{PackageData}
+use Rattle.pm_cargo_packages.specs.declared.target.TargetData.{TargetData}
+use Rattle.pm_cargo_packages.specs.declared.target.TargetTag.{TargetTag}
+use Rattle.pm_lower_crates.specs.KeptEdges.{kept_edges}
+use Rattle.pm_lower_crates.specs.Lowering.{Crate, IsLowered, crate_of, crate_seen, crates_of, lowering, named_crates}
+use Rattle.pm_lower_crates.specs.Rows.{Row, live_target, live_targets, may_be_row, owner, owners_from, parts, root_file, row_at, rows_from, rows_of, rows_of_parts}
+use Rattle.pm_lower_crates.specs.WantedEdges.{bad_names, wanted_edges}
+use Rattle.pm_lower_crates.specs.declared.lower_error.LowerError.{LowerError}
 use Rattle.vfs_core.specs.declared.file_state.FileState.{FileState}
 use Rattle.vfs_core.specs.FileState.{is_existing}
 use Rattle.vfs_core.specs.Files.{Files, existing_files, existing_files_from}
@@ -140,7 +140,7 @@ module _ (P : ℕ → Type 0) where
 
   module _ (files : by_path.FileNumbers) (all : AllFiles files) where
     json-row : (n : ℕ) (krate : document.Crate) → All (λ (row : json_rows.Row). P row.file) (option_to_list (json_rows.row_of files n krate))
-    unfolding Rattle.pm_json_rows.specs.Rows.row_of
+    unfolding Rattle.pm_lower_crates.specs.JsonRows.row_of
     json-row n krate = by (by_path.file_of files krate.root_module) (All-lookup P (path_eq (by_path.path_key krate.root_module)) files all)
       where
         by : (file : Option ℕ) → IfSome file P → All (λ (row : json_rows.Row). P row.file) (option_to_list (option_map (json_rows.row_in n krate) file))
@@ -155,7 +155,7 @@ module _ (P : ℕ → Type 0) where
         All-append (λ (row : json_rows.Row). P row.file) (option_to_list row) (json_rows.rows_among (json_rows.rows_from files next crates)) (json-row n krate) (json-rows next crates)
 
     json-begins : (project : ProjectJson) (shared : CrateWorkspaceData) (limit : ℕ) → IfOk (json.lowering files project shared limit) (λ crates. All (λ krate. P krate.root) crates)
-    unfolding Rattle.pm_json_rows.specs.Lowering.lowering Rattle.pm_json_rows.specs.Lowering.crates_of
+    unfolding Rattle.pm_lower_crates.specs.JsonLowering.lowering Rattle.pm_lower_crates.specs.JsonLowering.crates_of
     json-begins project shared limit =
         let rows = json_rows.rows_among (json_rows.rows_by_place files project) in
         let kept = kept_edges (json_edges.wanted_edges (json_rows.rows_by_place files project)) in
@@ -163,13 +163,13 @@ module _ (P : ℕ → Type 0) where
         (λ more. tt) (λ few. All-map (λ (krate : Crate). P krate.root) (json.crate_of project shared kept) rows (json-rows 0 (crates_in project)))
 
     alone-begins : (file : List ℕ) (shared : CrateWorkspaceData) (number : Option ℕ) → IfSome number P → All (λ (krate : Crate). P krate.root) (detached.crates_of file shared number)
-    unfolding Rattle.pm_detached.specs.Lowering.crates_of
+    unfolding Rattle.pm_lower_crates.specs.DetachedLowering.crates_of
     alone-begins file shared None none = All-nil (λ (krate : Crate). P krate.root)
     alone-begins file shared (Some number) p = All-cons (λ (krate : Crate). P krate.root) (detached.crate_of file shared number) [] p (All-nil (λ (krate : Crate). P krate.root))
 
     detached-begins : (file : List ℕ) (cargo : Option Workspace) (shared : CrateWorkspaceData) (limit : ℕ)
         → IfOk (detached.lowering files file cargo shared limit) (λ crates. All (λ krate. P krate.root) crates)
-    unfolding Rattle.pm_detached.specs.Lowering.within_limit
+    unfolding Rattle.pm_lower_crates.specs.DetachedLowering.within_limit
     detached-begins file None shared limit =
         let crates = detached.crates_of file shared (by_path.file_of files file) in
         cond_both (nat_lt limit (length crates)) _ (Ok crates) (λ (r : Result (List Crate) LowerError). IfOk r (λ crates. All (λ (krate : Crate). P krate.root) crates))

@@ -1,8 +1,8 @@
 -- A build replaces the one before it.
 use Rattle.std.proofs.Common.{◌≡◌, Some, None, Ok, Err, inl, inr, refl, sym, ap, subst, ◌∙◌}
-use Rattle.outside.specs.declared.command.Output.{Output}
-use Rattle.pm_build.specs.Outputs.{BuildScripts}
-use Rattle.pm_build.specs.Reading.{Reading, ◌>>=◌}
+use Rattle.base_text_outside.specs.declared.command.Output.{Output}
+use Rattle.pm_tools.specs.Outputs.{BuildScripts}
+use Rattle.pm_tools.specs.Reading.{Reading, ◌>>=◌}
 use Rattle.pm_lower.specs.Builds.{TakesBuild, built_workspace, kind_with_build_scripts, no_scripts, outputs_for, project_outputs}
 use Rattle.pm_lower.specs.declared.project_workspace.ProjectWorkspaceKind.{ProjectWorkspaceKind}
 use Rattle.pm_lower.specs.declared.project_workspace.ProjectWorkspaceKind.TheVariants.{Cargo, Json, DetachedFile}

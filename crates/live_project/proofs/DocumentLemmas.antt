@@ -1,32 +1,32 @@
 -- What the reading of a document says of limits: which of them it names, and how many packages it leaves.
 use Rattle.std.proofs.Common.{◌≡◌, ℕ, ◌≤◌, Bool, true, false, cond, List, [], ◌∷◌, ◌++◌, Option, Some, None, Ok, Err, length, refl, ap, subst, arith}
 use Rattle.std.specs.Prelude.{bytes_eq, codes, nat_lt}
-use Rattle.outside.specs.declared.limits.Limit.{Limit}
-use Rattle.outside.specs.declared.limits.Limit.TheVariants.{Packages, Targets}
-use Rattle.outside.specs.declared.limits.Limits.{Limits}
-use Rattle.base_text.specs.Paths.{components, is_absolute, path_text}
+use Rattle.base_text_outside.specs.declared.limits.Limit.{Limit}
+use Rattle.base_text_outside.specs.declared.limits.Limit.TheVariants.{Packages, Targets}
+use Rattle.base_text_outside.specs.declared.limits.Limits.{Limits}
+use Rattle.base_text_paths.specs.Paths.{components, is_absolute, path_text}
 use Rattle.base_values.specs.Sorted.{sorted}
 use Rattle.cargo_meta.specs.declared.metadata.Metadata.{Metadata}
 use Rattle.cargo_meta.specs.declared.package.Package.{Package}
-use Rattle.cargo_values.specs.declared.names.PackageId.{PackageId}
-use Rattle.cargo_values.specs.declared.resolve.Node.{Node}
-use Rattle.cargo_values.specs.declared.resolve.NodeDep.{NodeDep}
-use Rattle.cargo_values.specs.declared.target.Target.{Target}
-use Rattle.pm_packages.specs.declared.package.DepKind.{DepKind}
-use Rattle.pm_packages.specs.declared.package.PackageData.{PackageData}
-use Rattle.pm_packages.specs.declared.package.PackageDependency.{PackageDependency}
-use Rattle.pm_packages.specs.declared.target.TargetData.{TargetData}
-use Rattle.pm_packages.proofs.UpdateLemmas.{length-changed}
-use Rattle.pm_reading.specs.Links.{linked_contents, linked_packages, with_links}
-use Rattle.pm_reading.specs.Nodes.{by_package, dependencies_of_kinds, kinds_of, known_place, link_of, links_of, nodes_of, place_of_package, place_or_refusal, take_dependency, take_node, with_kinds}
-use Rattle.pm_reading.specs.Packages.{absolute_path, contents_of, by_id, is_script, manifest_path, optional_path, root_of, take_package, take_target, target_with_root, with_package}
-use Rattle.pm_reading.specs.Reading.{Reading, ◌>>=◌, take_each}
-use Rattle.pm_reading.specs.declared.contents.Contents.{Contents}
-use Rattle.pm_reading.specs.declared.nodes.Link.{Link}
-use Rattle.pm_reading.specs.declared.workspace_error.WorkspaceError.TheVariants.{NotAbsolute, NoParent, UnknownPackage, TooMany}
-use Rattle.pm_reading.proofs.ContentsLemmas.{contents-within}
-use Rattle.pm_reading.proofs.HoldsLemmas.{length-with_links}
-use Rattle.pm_members.specs.Members.{member_graph, with_all_member_deps, with_member_deps}
+use Rattle.cargo_meta_values.specs.declared.names.PackageId.{PackageId}
+use Rattle.cargo_meta_values.specs.declared.resolve.Node.{Node}
+use Rattle.cargo_meta_values.specs.declared.resolve.NodeDep.{NodeDep}
+use Rattle.cargo_meta_values.specs.declared.target.Target.{Target}
+use Rattle.pm_cargo_packages.specs.declared.package.DepKind.{DepKind}
+use Rattle.pm_cargo_packages.specs.declared.package.PackageData.{PackageData}
+use Rattle.pm_cargo_packages.specs.declared.package.PackageDependency.{PackageDependency}
+use Rattle.pm_cargo_packages.specs.declared.target.TargetData.{TargetData}
+use Rattle.pm_cargo_packages.proofs.UpdateLemmas.{length-changed}
+use Rattle.pm_cargo_reading.specs.Links.{linked_contents, linked_packages, with_links}
+use Rattle.pm_cargo_reading.specs.Nodes.{by_package, dependencies_of_kinds, kinds_of, known_place, link_of, links_of, nodes_of, place_of_package, place_or_refusal, take_dependency, take_node, with_kinds}
+use Rattle.pm_cargo_reading.specs.Packages.{absolute_path, contents_of, by_id, is_script, manifest_path, optional_path, root_of, take_package, take_target, target_with_root, with_package}
+use Rattle.pm_cargo_reading.specs.Reading.{Reading, ◌>>=◌, take_each}
+use Rattle.pm_cargo_reading.specs.declared.contents.Contents.{Contents}
+use Rattle.pm_cargo_reading.specs.declared.nodes.Link.{Link}
+use Rattle.pm_cargo_reading.specs.declared.workspace_error.WorkspaceError.TheVariants.{NotAbsolute, NoParent, UnknownPackage, TooMany}
+use Rattle.pm_cargo_reading.proofs.ContentsLemmas.{contents-within}
+use Rattle.pm_cargo_reading.proofs.HoldsLemmas.{length-with_links}
+use Rattle.pm_cargo_members.specs.Members.{member_graph, with_all_member_deps, with_member_deps}
 use Rattle.pm_cargo.specs.ReadWorkspace.{read_workspace}
 use Rattle.pm_cargo.specs.Workspace.{Workspace}
 use Rattle.live_project.specs.Project.{IsDocumentLimit}

@@ -1,9 +1,9 @@
 -- What every project keeps, after a build too.
 use Rattle.std.proofs.Common.{◌≡◌, ℕ, suc, ◌≤◌, ◌^◌, ◌∙◌, List, None, Some, Ok, ap, length, length-append, refl, sym, arith}
 use Rattle.std.proofs.lemmas.List.{length-map}
-use Rattle.live_input.specs.Config.{Fits}
+use Rattle.live_config.specs.Config.{Fits}
 use Rattle.pm_lower.specs.ReadProject.{read_project}
-use Rattle.pm_build.specs.Outputs.{BuildScripts}
+use Rattle.pm_tools.specs.Outputs.{BuildScripts}
 use Rattle.pm_lower.specs.Builds.{with_build_scripts, kind_with_build_scripts}
 use Rattle.pm_lower.specs.ToRoots.{KindHasNoRustc, kind_roots, out_dir_at, project_roots, sysroot_roots}
 use Rattle.pm_lower.specs.declared.project_workspace.ProjectWorkspace.{ProjectWorkspace}
@@ -14,7 +14,7 @@ use Rattle.live_project.specs.Project.{IsLoaded, ProjectContent}
 use Rattle.live_project.specs.Roots.{file_root, roots_of_project}
 use Rattle.live_project.specs.Sources.{means_of_sources}
 use Rattle.live_project.specs.declared.sources.Sources.{Sources}
-use Rattle.pm_tools.specs.declared.project_manifest.ProjectManifest.{ProjectManifest}
+use Rattle.pm_tools_ask.specs.declared.project_manifest.ProjectManifest.{ProjectManifest}
 use Rattle.live_project.proofs.ReadLemmas.{as_many, is_small}
 
 pub is_loaded : (s : Sources) (manifest : ProjectManifest) (workspace : ProjectWorkspace) → Fits s.config

@@ -7,9 +7,9 @@ use Rattle.std.specs.Prelude.{nat_lt}
 use Rattle.std.proofs.lemmas.Bool.{cond_both}
 use Rattle.std.proofs.lemmas.Bool.Decides.{nat_tests}
 use Rattle.std.proofs.lemmas.List.{length-map}
-use Rattle.base_text.specs.Paths.{parent_text}
-use Rattle.outside.specs.declared.limits.Limit.{Limit}
-use Rattle.outside.specs.declared.limits.Limit.TheVariants.{Crates}
+use Rattle.base_text_paths.specs.Paths.{parent_text}
+use Rattle.base_text_outside.specs.declared.limits.Limit.{Limit}
+use Rattle.base_text_outside.specs.declared.limits.Limit.TheVariants.{Crates}
 use Rattle.pm_json.specs.Crates.{Groups, absolute_from, crate_of, crates_of, folder_of_parent, folders_of, head_from}
 use Rattle.pm_json.specs.Project.{OnBase, level_read, project_level, project_of, sysroot_project_of}
 use Rattle.pm_json.specs.Queries.{crates_in}
@@ -19,13 +19,13 @@ use Rattle.pm_json.specs.declared.project_json.ProjectJson.{ProjectJson}
 use Rattle.pm_json.specs.declared.project_json.ProjectJson.TheOpen.{ProjectJson-F}
 use Rattle.pm_json.specs.declared.project_json.ProjectJson.TheViews.{out-roll-ProjectJson, roll-ProjectJson}
 use Rattle.pm_json.specs.declared.workspace_json_error.WorkspaceJsonError.TheVariants.{TooMany, NoParent}
-use Rattle.pm_json_data.specs.declared.crate_data.CrateData.{CrateData}
-use Rattle.pm_json_data.specs.declared.parts.CrateSource.{CrateSource}
-use Rattle.pm_json_data.specs.declared.project_json_data.ProjectJsonData.{ProjectJsonData}
-use Rattle.pm_json_data.specs.declared.project_json_data.ProjectJsonData.TheFolds.{fold_out-ProjectJsonData, fold-roll-ProjectJsonData, ind-ProjectJsonData, map-ProjectJsonData}
-use Rattle.pm_json_data.specs.declared.project_json_data.ProjectJsonData.TheOpen.{ProjectJsonData-F}
-use Rattle.pm_json_rows.specs.Roots.{root_eq, root_of, roots_of, with_root}
-use Rattle.pm_roots.specs.declared.package_root.PackageRoot.{PackageRoot}
+use Rattle.pm_json.specs.declared.crate_data.CrateData.{CrateData}
+use Rattle.pm_json.specs.declared.parts.CrateSource.{CrateSource}
+use Rattle.pm_json.specs.declared.project_json_data.ProjectJsonData.{ProjectJsonData}
+use Rattle.pm_json.specs.declared.project_json_data.ProjectJsonData.TheFolds.{fold_out-ProjectJsonData, fold-roll-ProjectJsonData, ind-ProjectJsonData, map-ProjectJsonData}
+use Rattle.pm_json.specs.declared.project_json_data.ProjectJsonData.TheOpen.{ProjectJsonData-F}
+use Rattle.pm_lower_load.specs.JsonRoots.{root_eq, root_of, roots_of, with_root}
+use Rattle.pm_lower_load.specs.declared.package_root.PackageRoot.{PackageRoot}
 
 -- ---- which limit a refusal names
 

@@ -1,9 +1,9 @@
-pub mod DocumentLemmas
-pub mod JsonLemmas
-pub mod ReadLemmas
-pub mod FewRoots
-pub mod LoadLemmas
-pub mod LiveFileLemmas
 pub mod BeginLemmas
-pub mod Limited
 pub mod BuildLemmas
+pub mod DocumentLemmas
+pub mod FewRoots
+pub mod JsonLemmas
+pub mod Limited
+pub mod LiveFileLemmas
+pub mod LoadLemmas
+pub mod ReadLemmas

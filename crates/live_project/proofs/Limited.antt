@@ -1,23 +1,23 @@
 -- The limit that refuses the crates of a project is that of crates.
 use Rattle.std.proofs.Common.{◌≡◌, ℕ, Bool, true, false, cond, List, Option, Some, None, Ok, Err, length}
 use Rattle.std.specs.Prelude.{nat_lt, slice_get}
-use Rattle.outside.specs.declared.limits.Limit.{Limit}
-use Rattle.outside.specs.declared.limits.Limit.TheVariants.{Crates}
-use Rattle.crate_values.specs.declared.workspace_data.CrateWorkspaceData.{CrateWorkspaceData}
+use Rattle.base_text_outside.specs.declared.limits.Limit.{Limit}
+use Rattle.base_text_outside.specs.declared.limits.Limit.TheVariants.{Crates}
+use Rattle.crate_graph_values.specs.declared.workspace_data.CrateWorkspaceData.{CrateWorkspaceData}
 use Rattle.pm_cargo.specs.Workspace.{Workspace}
-use Rattle.pm_detached.specs.Lowering as detached
+use Rattle.pm_lower_crates.specs.DetachedLowering as detached
 use Rattle.pm_json.specs.declared.project_json.ProjectJson.{ProjectJson}
-use Rattle.pm_json_rows.specs.Lowering as json
-use Rattle.pm_json_rows.specs.Rows.{rows_among, rows_by_place}
-use Rattle.pm_loader.specs.Loader as by_path
+use Rattle.pm_lower_crates.specs.JsonLowering as json
+use Rattle.pm_lower_crates.specs.JsonRows.{rows_among, rows_by_place}
+use Rattle.pm_lower_crates.specs.Loader as by_path
 use Rattle.pm_lower.specs.ProjectWorkspace.{script_workspace}
 use Rattle.pm_lower.specs.ToCrateGraph.{kind_lowering, shared_of}
 use Rattle.pm_lower.specs.declared.project_workspace.ProjectWorkspaceKind.{ProjectWorkspaceKind}
 use Rattle.pm_lower.specs.declared.project_workspace.ProjectWorkspaceKind.TheVariants.{Cargo, Json, DetachedFile}
-use Rattle.pm_rows.specs.Lowering.{Crate, lowering, named_crates}
-use Rattle.pm_rows.specs.Rows.{Part, parts, rows_of_parts}
-use Rattle.pm_rows.specs.WantedEdges.{bad_names}
-use Rattle.pm_rows.specs.declared.lower_error.LowerError.TheVariants.{TooMany}
+use Rattle.pm_lower_crates.specs.Lowering.{Crate, lowering, named_crates}
+use Rattle.pm_lower_crates.specs.Rows.{Part, parts, rows_of_parts}
+use Rattle.pm_lower_crates.specs.WantedEdges.{bad_names}
+use Rattle.pm_lower_crates.specs.declared.lower_error.LowerError.TheVariants.{TooMany}
 use Rattle.vfs_core.specs.VfsPath.{PathContent}
 use Rattle.live_project.specs.Crates.{files_by_path, project_crates}
 use Rattle.live_project.specs.Project.{ProjectContent}
@@ -43,13 +43,13 @@ counted-limit true crates limit is = cc
 counted-limit false crates limit is = cc
 
 json-limit : (files : by_path.FileNumbers) (project : ProjectJson) (shared : CrateWorkspaceData) (most : ℕ) (limit : Limit) → json.lowering files project shared most ≡ Err (TooMany limit) → limit ≡ Crates
-unfolding Rattle.pm_json_rows.specs.Lowering.lowering
+unfolding Rattle.pm_lower_crates.specs.JsonLowering.lowering
 json-limit files project shared most limit is =
     counted-limit (nat_lt most (length (rows_among (rows_by_place files project)))) (json.crates_of files project shared) limit is
 
 detached-limit : (files : by_path.FileNumbers) (file : List ℕ) (cargo : Option Workspace) (shared : CrateWorkspaceData) (most : ℕ) (limit : Limit)
     → detached.lowering files file cargo shared most ≡ Err (TooMany limit) → limit ≡ Crates
-unfolding Rattle.pm_detached.specs.Lowering.within_limit
+unfolding Rattle.pm_lower_crates.specs.DetachedLowering.within_limit
 detached-limit files file None shared most limit is =
     let crates = detached.crates_of file shared (by_path.file_of files file) in
     counted-limit (nat_lt most (length crates)) crates limit is

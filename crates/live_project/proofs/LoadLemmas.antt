@@ -1,14 +1,14 @@
 -- A load step by step: which manifest a path names, what is read of it, and which limit a refusal names.
 use Rattle.std.proofs.Common.{◌≡◌, ℕ, Bool, true, false, cond, List, Some, None, Err, refl, sym, ap, ◌∙◌, true≢false}
 use Rattle.std.specs.Option.{option_and_then}
-use Rattle.base_text.specs.Paths.{components, is_absolute, path_text}
-use Rattle.pm_load.specs.Loading as loading
+use Rattle.base_text_paths.specs.Paths.{components, is_absolute, path_text}
+use Rattle.pm_lower_load.specs.Loading as loading
 use Rattle.pm_lower.specs.ReadProject.{read_project}
-use Rattle.pm_load.specs.declared.load_error.LoadError.{LoadError}
-use Rattle.pm_load.specs.declared.load_error.LoadError.TheVariants as load
+use Rattle.pm_lower_load.specs.declared.load_error.LoadError.{LoadError}
+use Rattle.pm_lower_load.specs.declared.load_error.LoadError.TheVariants as load
 use Rattle.pm_lower.specs.declared.project_workspace.ProjectWorkspace.{ProjectWorkspace}
-use Rattle.pm_tools.specs.Manifest.{manifest_of}
-use Rattle.pm_tools.specs.declared.project_manifest.ProjectManifest.{ProjectManifest}
+use Rattle.pm_tools_ask.specs.Manifest.{manifest_of}
+use Rattle.pm_tools_ask.specs.declared.project_manifest.ProjectManifest.{ProjectManifest}
 use Rattle.live_project.specs.Project.{NamesLoadLimit, manifest_named, of_load_error, read_named, read_sources}
 use Rattle.live_project.specs.Sources.{means_of_sources}
 use Rattle.live_project.specs.declared.project_error.ProjectError.TheVariants.{BadManifest}

@@ -3,19 +3,19 @@ use Rattle.std.proofs.Common.{◌≡◌, ℕ, ◌+◌, ◌≤◌, false, List, [
 use Rattle.std.specs.List.{enumerate_from}
 use Rattle.std.proofs.lemmas.List.{length-map}
 use Rattle.std.proofs.lemmas.List.FromFn.{length-enumerate_from}
-use Rattle.outside.specs.declared.limits.Limit.{Limit}
-use Rattle.outside.specs.declared.limits.Limits.{Limits}
+use Rattle.base_text_outside.specs.declared.limits.Limit.{Limit}
+use Rattle.base_text_outside.specs.declared.limits.Limits.{Limits}
 use Rattle.cargo_meta.specs.declared.metadata.Metadata.{Metadata}
-use Rattle.cargo_values.specs.declared.errors.Error.{Error}
-use Rattle.cargo_values.specs.declared.errors.Error.TheVariants as unread
+use Rattle.cargo_meta_values.specs.declared.errors.Error.{Error}
+use Rattle.cargo_meta_values.specs.declared.errors.Error.TheVariants as unread
 use Rattle.pm_cargo.specs.ReadWorkspace.{read_workspace}
 use Rattle.pm_cargo.specs.Workspace.{Workspace}
-use Rattle.pm_config.specs.declared.config.CargoConfig.{CargoConfig}
-use Rattle.pm_load.specs.Compiler.{compiler_answers}
-use Rattle.pm_load.specs.Loading.{Loading, ◌>>=◌, of_document, of_fetch, of_json_reading, of_reading}
-use Rattle.pm_load.specs.Located.{located_manifest, located_root, manifest_or_located}
-use Rattle.pm_load.specs.Metadata.{environment, metadata_answer}
-use Rattle.pm_load.specs.ToolAnswers.{tool_answers}
+use Rattle.pm_cargo_config.specs.declared.config.CargoConfig.{CargoConfig}
+use Rattle.pm_lower_load.specs.Compiler.{compiler_answers}
+use Rattle.pm_lower_load.specs.Loading.{Loading, ◌>>=◌, of_document, of_fetch, of_json_reading, of_reading}
+use Rattle.pm_lower_load.specs.Located.{located_manifest, located_root, manifest_or_located}
+use Rattle.pm_lower_load.specs.Metadata.{environment, metadata_answer}
+use Rattle.pm_lower_load.specs.ToolAnswers.{tool_answers}
 use Rattle.pm_lower.specs.Project.{cargo_project, kind_of, kind_with, located_project, project_of, project_with}
 use Rattle.pm_lower.specs.ReadProject.{read_project}
 use Rattle.json_fields.specs.Document.{document}
@@ -25,33 +25,33 @@ use Rattle.pm_json.specs.Queries as queries
 use Rattle.pm_json.specs.Refusals as refusals
 use Rattle.pm_json.specs.declared.project_json.ProjectJson.{ProjectJson}
 use Rattle.pm_json.specs.declared.workspace_json_error.WorkspaceJsonError.TheVariants as json_refused
-use Rattle.pm_json_data.specs.ProjectJsonData.{project_at}
+use Rattle.pm_json.specs.ProjectJsonData.{project_at}
 use Rattle.pm_lower.specs.Builds.{no_scripts}
 use Rattle.pm_lower.specs.DetachedProject.{detached_project, detached_with, metadata_or_none, script_of, script_with}
-use Rattle.pm_load.specs.JsonDocument.{document_at, document_text, json_content, project_of_document, stated_sysroot, text_or_missing, toolchain_member, without_toolchain}
+use Rattle.pm_lower_load.specs.JsonDocument.{document_at, document_text, json_content, project_of_document, stated_sysroot, text_or_missing, toolchain_member, without_toolchain}
 use Rattle.pm_lower.specs.JsonProject.{inline_project, json_project}
 use Rattle.pm_lower.specs.ProjectWorkspace.{ScriptPart, script_workspace}
 use Rattle.pm_lower.specs.ToRoots.{HasNoRustc, KindHasNoRustc, kind_roots, library_roots, out_dir_at, project_roots, source_root, sysroot_roots}
-use Rattle.pm_load.specs.declared.load_error.LoadError.TheVariants.{TooMany}
+use Rattle.pm_lower_load.specs.declared.load_error.LoadError.TheVariants.{TooMany}
 use Rattle.pm_lower.specs.declared.project_workspace.ProjectWorkspace.{ProjectWorkspace}
 use Rattle.pm_lower.specs.declared.project_workspace.ProjectWorkspaceKind.{ProjectWorkspaceKind}
 use Rattle.pm_lower.specs.declared.project_workspace.ProjectWorkspaceKind.TheVariants.{Json, DetachedFile}
-use Rattle.pm_load.specs.declared.tool_answers.PlatformAsked.TheVariants.{FirstTarget, NoTarget}
-use Rattle.pm_load.specs.declared.tool_answers.ToolAnswers.{ToolAnswers}
-use Rattle.pm_reading.specs.Packages.{manifest_path}
-use Rattle.pm_reading.specs.Reading.{Reading}
-use Rattle.pm_reading.specs.declared.workspace_error.WorkspaceError.TheVariants as refused
-use Rattle.pm_packages.specs.ManifestPath.{directory_of}
-use Rattle.pm_roots.specs.Roots.{root_of, roots_of}
-use Rattle.pm_sysroot.specs.Ask.{Means}
-use Rattle.pm_sysroot.specs.Sysroot.{empty_sysroot}
-use Rattle.pm_sysroot.specs.Toolchain.{Toolchain}
-use Rattle.pm_sysroot.specs.declared.rust_lib_src.RustLibSrcWorkspace.{RustLibSrcWorkspace}
-use Rattle.pm_sysroot.specs.declared.rust_lib_src.RustLibSrcWorkspace.TheVariants.{Empty}
-use Rattle.pm_tools.specs.ConfigEnv.{config_env}
-use Rattle.pm_tools.specs.declared.project_manifest.ProjectManifest.{ProjectManifest}
-use Rattle.pm_tools.specs.declared.project_manifest.ProjectManifest.TheVariants as given
-use Rattle.trees.specs.Tree.{file_text}
+use Rattle.pm_lower_load.specs.declared.tool_answers.PlatformAsked.TheVariants.{FirstTarget, NoTarget}
+use Rattle.pm_lower_load.specs.declared.tool_answers.ToolAnswers.{ToolAnswers}
+use Rattle.pm_cargo_reading.specs.Packages.{manifest_path}
+use Rattle.pm_cargo_reading.specs.Reading.{Reading}
+use Rattle.pm_cargo_reading.specs.declared.workspace_error.WorkspaceError.TheVariants as refused
+use Rattle.base_text_paths.specs.ManifestPath.{directory_of}
+use Rattle.pm_lower_load.specs.Roots.{root_of, roots_of}
+use Rattle.pm_tools_ask.specs.Ask.{Means}
+use Rattle.pm_tools_ask.specs.Sysroot.{empty_sysroot}
+use Rattle.pm_tools_ask.specs.Toolchain.{Toolchain}
+use Rattle.pm_tools_ask.specs.declared.rust_lib_src.RustLibSrcWorkspace.{RustLibSrcWorkspace}
+use Rattle.pm_tools_ask.specs.declared.rust_lib_src.RustLibSrcWorkspace.TheVariants.{Empty}
+use Rattle.pm_tools_ask.specs.ConfigEnv.{config_env}
+use Rattle.pm_tools_ask.specs.declared.project_manifest.ProjectManifest.{ProjectManifest}
+use Rattle.pm_tools_ask.specs.declared.project_manifest.ProjectManifest.TheVariants as given
+use Rattle.base_text.specs.Tree.{file_text}
 use Rattle.live_project.specs.Project.{IsDocumentLimit}
 use Rattle.live_project.proofs.DocumentLemmas.{Keeps as KeepsRead, Names as NamesRead, document_few, names_document, names_manifest}
 use Rattle.live_project.proofs.JsonLemmas.{NamesCrates, few_distinct, few_in_project, names_crates}

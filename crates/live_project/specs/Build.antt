@@ -1,9 +1,9 @@
 -- A build of a session's project: what it gives replaces what an earlier build gave, and nothing else changes. From the rule that the
 -- outputs of a project are those of its last build alone.
 use Rattle.std.specs.Prelude.{◌≡◌, Ok}
-use Rattle.outside.specs.declared.command.Output.{Output}
-use Rattle.pm_build.specs.Outputs.{BuildScripts}
-use Rattle.pm_build.specs.Reading.{Reading, ◌>>=◌}
+use Rattle.base_text_outside.specs.declared.command.Output.{Output}
+use Rattle.pm_tools.specs.Outputs.{BuildScripts}
+use Rattle.pm_tools.specs.Reading.{Reading, ◌>>=◌}
 use Rattle.pm_lower.specs.Builds.{project_outputs, with_build_scripts}
 use Rattle.live_project.specs.Project.{ProjectContent}
 

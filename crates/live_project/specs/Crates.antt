@@ -3,12 +3,12 @@
 use Rattle.std.specs.Prelude.{◌≡◌, ℕ, List, [], fold, nat_eq, Some, Result, if◌then◌else◌}
 use Rattle.std.specs.List.{All}
 use Rattle.std.specs.Map.{lookup}
-use Rattle.crate_values.specs.declared.builder.CrateBuilder.{CrateBuilder}
-use Rattle.pm_loader.specs.Loader.{FileNumbers, with_file}
+use Rattle.crate_graph_values.specs.declared.builder.CrateBuilder.{CrateBuilder}
+use Rattle.pm_lower_crates.specs.Loader.{FileNumbers, with_file}
 use Rattle.pm_lower.specs.ToCrateGraph.{kind_wants, project_lowering}
-use Rattle.pm_rows.specs.Lowering.{Crate}
-use Rattle.pm_rows.specs.WantedEdges.{Edge}
-use Rattle.pm_rows.specs.declared.lower_error.LowerError.{LowerError}
+use Rattle.pm_lower_crates.specs.Lowering.{Crate}
+use Rattle.pm_lower_crates.specs.WantedEdges.{Edge}
+use Rattle.pm_lower_crates.specs.declared.lower_error.LowerError.{LowerError}
 use Rattle.vfs_core.specs.VfsPath.{PathContent}
 use Rattle.live_project.specs.Project.{ProjectContent}
 

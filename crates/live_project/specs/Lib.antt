@@ -1,6 +1,6 @@
-pub mod Sources
-pub mod SharedConfig
-pub mod Project
 pub mod Build
 pub mod Crates
+pub mod Project
 pub mod Roots
+pub mod SharedConfig
+pub mod Sources

@@ -3,18 +3,18 @@
 use Rattle.std.specs.Prelude.{◌≡◌, refl, ℕ, ◌+◌, ◌<◌, ◌^◌, List, length, codes, Option, Some, None, Result, Ok, Err, if◌then◌else◌}
 use Rattle.std.specs.Coded.{Coded, code_by, coded×}
 use Rattle.std.specs.Option.{option_and_then}
-use Rattle.base_text.specs.Paths.{components, is_absolute, path_text}
-use Rattle.outside.specs.declared.limits.Limit.{Limit}
-use Rattle.outside.specs.declared.limits.Limit.TheVariants.{Bytes, Paths, Packages, Targets, Crates}
-use Rattle.pm_load.specs.Loading.{Loading}
+use Rattle.base_text_paths.specs.Paths.{components, is_absolute, path_text}
+use Rattle.base_text_outside.specs.declared.limits.Limit.{Limit}
+use Rattle.base_text_outside.specs.declared.limits.Limit.TheVariants.{Bytes, Paths, Packages, Targets, Crates}
+use Rattle.pm_lower_load.specs.Loading.{Loading}
 use Rattle.pm_lower.specs.ReadProject.{read_project}
 use Rattle.pm_lower.specs.ToRoots.{HasNoRustc}
 use Rattle.pm_lower.specs.contracts.project_workspace.ProjectWorkspace as read
-use Rattle.pm_load.specs.declared.load_error.LoadError.{LoadError}
-use Rattle.pm_load.specs.declared.load_error.LoadError.TheVariants as load
+use Rattle.pm_lower_load.specs.declared.load_error.LoadError.{LoadError}
+use Rattle.pm_lower_load.specs.declared.load_error.LoadError.TheVariants as load
 use Rattle.pm_lower.specs.declared.project_workspace.ProjectWorkspace.{ProjectWorkspace}
-use Rattle.pm_tools.specs.Manifest.{manifest_of}
-use Rattle.pm_tools.specs.declared.project_manifest.ProjectManifest.{ProjectManifest}
+use Rattle.pm_tools_ask.specs.Manifest.{manifest_of}
+use Rattle.pm_tools_ask.specs.declared.project_manifest.ProjectManifest.{ProjectManifest}
 use Rattle.live_project.specs.Roots.{roots_of_project}
 use Rattle.live_project.specs.Sources.{means_of_sources}
 use Rattle.live_project.specs.contracts.sources.Sources as kept

@@ -1,11 +1,11 @@
 -- The roots that place the files of a project: its own, by their directories with each `..` resolved. Which directories are left out of
 -- them plays no part, as in rust-analyzer's `ProjectFolders` once files are partitioned.
 use Rattle.std.specs.Prelude.{ℕ, List, map}
-use Rattle.base_text.specs.Paths.{normal, path_text}
-use Rattle.live_flush.specs.declared.file_root.FileRoot.{FileRoot}
+use Rattle.base_text_paths.specs.Paths.{normal, path_text}
+use Rattle.vfs_sets.specs.declared.file_root.FileRoot.{FileRoot}
 use Rattle.pm_lower.specs.ToRoots.{project_roots}
 use Rattle.pm_lower.specs.declared.project_workspace.ProjectWorkspace.{ProjectWorkspace}
-use Rattle.pm_roots.specs.declared.package_root.PackageRoot.{PackageRoot}
+use Rattle.pm_lower_load.specs.declared.package_root.PackageRoot.{PackageRoot}
 use Rattle.vfs_core.specs.VfsPath.{PathContent, real}
 
 -- a directory as a path that places files, with each `..` resolved

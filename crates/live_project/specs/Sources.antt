@@ -1,9 +1,9 @@
 -- What a load is made with and keeps: the configuration, the recorded answers, the files that live, and the path of the manifest. What
 -- comes after the load never reaches them. From the rule that a load keeps its files, answers and configuration.
 use Rattle.std.specs.Prelude.{List, ℕ, [], fold, if◌then◌else◌}
-use Rattle.pm_sysroot.specs.Ask.{Means}
-use Rattle.trees.specs.MemoryTree.{with_file}
-use Rattle.trees.specs.Tree.{TreeFiles}
+use Rattle.pm_tools_ask.specs.Ask.{Means}
+use Rattle.base_text.specs.MemoryTree.{with_file}
+use Rattle.base_text.specs.Tree.{TreeFiles}
 use Rattle.vfs_core.specs.VfsPath.{PathContent}
 use Rattle.live_project.specs.declared.sources.Sources.{Sources}
 

@@ -1,8 +1,8 @@
 //! The recorded answers of a session, shared with each load that keeps them.
 
 ghost use Rattle.std.specs.Prelude.{◌≡◌, [], IfOk, OnErr, OnOk};
-ghost use Rattle.outside.specs.Command.{question_of};
-ghost use Rattle.outside.specs.Runner.{with_answer};
+ghost use Rattle.base_text_outside.specs.Command.{question_of};
+ghost use Rattle.base_text_outside.specs.Runner.{with_answer};
 
 use base_text::{CommandLine, Output, RecordedRunner, TryClone};
 use std::alloc::{AllocError, Global};
@@ -18,8 +18,8 @@ struct Answers {
 
 impl Model for Answers {
     ghost use Rattle.std.specs.Prelude.{List};
-    ghost use Rattle.outside.specs.declared.command.Output.{Output};
-    ghost use Rattle.outside.specs.declared.command.Question.{Question};
+    ghost use Rattle.base_text_outside.specs.declared.command.Output.{Output};
+    ghost use Rattle.base_text_outside.specs.declared.command.Question.{Question};
 
     ghost Value = { List (Question × Output) };
 
@@ -59,8 +59,8 @@ pub struct LiveAnswers {
 
 impl Model for LiveAnswers {
     ghost use Rattle.std.specs.Prelude.{List};
-    ghost use Rattle.outside.specs.declared.command.Output.{Output};
-    ghost use Rattle.outside.specs.declared.command.Question.{Question};
+    ghost use Rattle.base_text_outside.specs.declared.command.Output.{Output};
+    ghost use Rattle.base_text_outside.specs.declared.command.Question.{Question};
 
     ghost Value = { List (Question × Output) };
 

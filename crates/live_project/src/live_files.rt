@@ -5,7 +5,7 @@ ghost use Rattle.vfs_core.specs.Files.{existing_files};
 ghost use Rattle.live_project.specs.Crates.{files_by_path, with_live_file};
 
 use base_text::FileId;
-use pm_loader::MapLoader;
+use pm_lower_crates::MapLoader;
 use std::alloc::{AllocError, Global};
 use vfs_core::{Vfs, VfsPath};
 

@@ -2,13 +2,13 @@
 
 ghost use Rattle.std.specs.Prelude.{◌≡◌, ◌+◌, ◌<◌, ◌^◌, IfErr, IfOk, Some, length};
 ghost use Rattle.vfs_core.specs.Files.{existing_files};
-ghost use Rattle.live_input.specs.Config.{Fits};
-ghost use Rattle.pm_build.specs.Reading as build;
+ghost use Rattle.live_config.specs.Config.{Fits};
+ghost use Rattle.pm_tools.specs.Reading as build;
 ghost use Rattle.pm_lower.specs.Builds.{TakesBuild};
-ghost use Rattle.pm_load.specs.Loading.{Gives};
+ghost use Rattle.pm_lower_load.specs.Loading.{Gives};
 ghost use Rattle.pm_lower.specs.ProjectWorkspace.{has_cargo_workspace};
 ghost use Rattle.pm_lower.specs.ReadProject.{read_project};
-ghost use Rattle.pm_rows.specs.Lowering.{IsLowered, LacksCyclesAlone};
+ghost use Rattle.pm_lower_crates.specs.Lowering.{IsLowered, LacksCyclesAlone};
 ghost use Rattle.live_project.specs.Build.{built_project, with_build};
 ghost use Rattle.live_project.specs.Crates.{BeginIn, project_crates, lowered_by, project_edges, wanted_by};
 ghost use Rattle.live_project.specs.Project.{Loads, NamesLoadLimit, manifest_named, read_named, read_sources};
@@ -19,18 +19,17 @@ use crate::live_files::files_by_path;
 use crate::project_error::ProjectError;
 use crate::project_roots::file_roots;
 use crate::sources::Sources;
-use base_text::{AbsPathBuf, Items, Output, PathError, TryClone};
+use base_text::{AbsPathBuf, Items, Output, PathError, Quiet, TryClone};
 use crate_graph::CrateGraphBuilder;
-use live_flush::FileRoot;
-use pm_build::{BuildError, WorkspaceBuildScripts};
-use pm_config::Quiet;
-use pm_loader::Loader;
-use pm_lower::{LoadError, ProjectWorkspace};
-use pm_rows::LowerError;
-use pm_tools::ProjectManifest;
+use pm_lower::ProjectWorkspace;
+use pm_lower_crates::{Loader, LowerError};
+use pm_lower_load::LoadError;
+use pm_tools::{BuildError, WorkspaceBuildScripts};
+use pm_tools_ask::ProjectManifest;
 use std::alloc::{AllocError, Global};
 use std::marker::Model;
 use vfs_core::Vfs;
+use vfs_sets::FileRoot;
 
 /// A project, with the configuration, the answers, the files and the path that its load was made with. What is asked of it later asks
 /// these alone.

@@ -1,7 +1,7 @@
 //! Why a session loads no project.
 
 use base_text::{Text, TryClone};
-use pm_lower::LoadError;
+use pm_lower_load::LoadError;
 use std::alloc::{AllocError, Global};
 use std::error::Error;
 use std::fmt;

@@ -4,10 +4,10 @@ ghost use Rattle.std.specs.Prelude.{◌≡◌, IfOk, map};
 ghost use Rattle.live_project.specs.Roots.{directory_root, file_root, file_roots};
 
 use base_text::{Items, TryClone};
-use live_flush::FileRoot;
-use pm_roots::PackageRoot;
+use pm_lower_load::PackageRoot;
 use std::alloc::{AllocError, Global};
 use vfs_core::VfsPath;
+use vfs_sets::FileRoot;
 
 // The directories of a root, as paths that place files.
 fn directories(alloc: Global, root: &PackageRoot) -> Result<Items<VfsPath>, AllocError>

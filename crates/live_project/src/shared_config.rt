@@ -3,7 +3,7 @@
 ghost use Rattle.std.specs.Prelude.{◌≡◌, IfOk};
 
 use base_text::{Shared, TryClone};
-use live_input::LiveConfig;
+use live_config::LiveConfig;
 use std::alloc::{AllocError, Global};
 use std::marker::Model;
 use std::rc::Rc;
@@ -16,7 +16,7 @@ pub struct SharedConfig {
 }
 
 impl Model for SharedConfig {
-    ghost use Rattle.live_input.specs.declared.config.LiveConfig.{LiveConfig};
+    ghost use Rattle.live_config.specs.declared.config.LiveConfig.{LiveConfig};
     ghost use Rattle.live_project.specs.SharedConfig.{IsCopy};
 
     ghost Value = { LiveConfig };

@@ -1,15 +1,14 @@
 //! What a load is made with and keeps.
 
 ghost use Rattle.std.specs.Prelude.{◌≡◌};
-ghost use Rattle.pm_sysroot.specs.Ask.{means_of};
+ghost use Rattle.pm_tools_ask.specs.Ask.{means_of};
 ghost use Rattle.live_project.specs.Sources.{means_of_sources};
 
 use crate::live_answers::LiveAnswers;
-use base_text::{RecordedRunner, Shared, Text, TryClone};
-use live_input::LiveConfig;
-use pm_sysroot::Ask;
+use base_text::{MemoryTree, RecordedRunner, Shared, Text, TryClone};
+use live_config::LiveConfig;
+use pm_tools_ask::Ask;
 use std::alloc::{AllocError, Global};
-use trees::MemoryTree;
 
 /// What a load is made with and keeps. A later change of a session never reaches it.
 #[derive(Drop)]

@@ -6,14 +6,14 @@ use Rattle.std.specs.Cmp.{booleans_Decides}
 use Rattle.std.specs.Cmp.Lexicographic.{pointwise}
 use Rattle.std.specs.Option.{option_eq}
 use Rattle.base_values.specs.Equality.{IsContentEquality}
-use Rattle.base_text.specs.PathOrder.{path_eq}
-use Rattle.base_text.specs.Paths.{IsClean}
-use Rattle.base_text.proofs.Equalities.{paths}
-use Rattle.crate_values.specs.Laws.{IsContentEqualityOn}
-use Rattle.pm_packages.specs.Laws.{HasCleanManifest, HasCleanRoot}
-use Rattle.pm_packages.specs.declared.package.PackageData.{PackageData}
-use Rattle.pm_packages.specs.declared.target.TargetData.{TargetData}
-use Rattle.pm_packages.proofs.Equalities.{lists_on, options_on}
+use Rattle.base_text_paths.specs.PathOrder.{path_eq}
+use Rattle.base_text_paths.specs.Paths.{IsClean}
+use Rattle.base_text_paths.proofs.Equalities.{paths}
+use Rattle.crate_graph_values.specs.Laws.{IsContentEqualityOn}
+use Rattle.pm_cargo_packages.specs.Laws.{HasCleanManifest, HasCleanRoot}
+use Rattle.pm_cargo_packages.specs.declared.package.PackageData.{PackageData}
+use Rattle.pm_cargo_packages.specs.declared.target.TargetData.{TargetData}
+use Rattle.crate_graph_values.proofs.ContentsOn.{lists_on, options_on}
 use Rattle.pm_cargo.specs.Laws.{HasCleanPaths}
 use Rattle.pm_cargo.specs.Workspace.{Workspace}
 

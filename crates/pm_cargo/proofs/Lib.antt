@@ -1,6 +1,6 @@
 pub mod Equalities
-pub mod WithinLemmas
+pub mod NodeOrderLemmas
 pub mod QueryLemmas
 pub mod ReadLemmas
-pub mod NodeOrderLemmas
 pub mod ShuffleLemmas
+pub mod WithinLemmas

@@ -14,18 +14,18 @@ use Rattle.std.proofs.lemmas.Grind.{flat_map-append}
 use Rattle.std.proofs.lemmas.List.{append-nil}
 use Rattle.base_values.specs.ByText.{text_cmp}
 use Rattle.base_values.specs.Sorted.{sorted}
-use Rattle.base_text.specs.Arena.{number_of}
+use Rattle.base_text_paths.specs.Arena.{number_of}
 use Rattle.base_values.proofs.InOrder.{sorted-IsSorted, sorted-IsStable, sorted-of_sorted}
-use Rattle.cargo_values.specs.declared.resolve.Node.{Node}
-use Rattle.cargo_values.specs.declared.resolve.NodeDep.{NodeDep}
-use Rattle.pm_packages.specs.declared.package.PackageData.{PackageData}
-use Rattle.pm_packages.specs.Ids.{package_id}
-use Rattle.pm_reading.specs.Links.{dependencies_at, features_at, package_with_links, with_links}
-use Rattle.pm_reading.specs.Nodes.{by_package, known_place, last_place, link_of, links_of, place_of_package, place_or_refusal, take_dependency, take_node}
-use Rattle.pm_reading.specs.Reading.{Reading, ◌>>=◌, take_each}
-use Rattle.pm_reading.specs.declared.nodes.Link.{Link}
-use Rattle.pm_reading.proofs.ReadingLemmas.{ok_from_bind, one_value}
-use Rattle.pm_packages.proofs.UpdateLemmas.{changed-same}
+use Rattle.cargo_meta_values.specs.declared.resolve.Node.{Node}
+use Rattle.cargo_meta_values.specs.declared.resolve.NodeDep.{NodeDep}
+use Rattle.pm_cargo_packages.specs.declared.package.PackageData.{PackageData}
+use Rattle.pm_cargo_packages.specs.Ids.{package_id}
+use Rattle.pm_cargo_reading.specs.Links.{dependencies_at, features_at, package_with_links, with_links}
+use Rattle.pm_cargo_reading.specs.Nodes.{by_package, known_place, last_place, link_of, links_of, place_of_package, place_or_refusal, take_dependency, take_node}
+use Rattle.pm_cargo_reading.specs.Reading.{Reading, ◌>>=◌, take_each}
+use Rattle.pm_cargo_reading.specs.declared.nodes.Link.{Link}
+use Rattle.pm_cargo_reading.proofs.ReadingLemmas.{ok_from_bind, one_value}
+use Rattle.pm_cargo_packages.proofs.UpdateLemmas.{changed-same}
 use Rattle.pm_cargo.specs.Shuffle.{by_node, with_sorted_entries}
 
 by_node_total : IsTotalOrder by_node

@@ -11,8 +11,8 @@ use Rattle.std.proofs.lemmas.Bool.{true≢false}
 use Rattle.std.proofs.lemmas.Grind.{flat_map-append}
 use Rattle.std.proofs.lemmas.List.{take_more}
 use Rattle.std.proofs.lemmas.List.FromFn.{get_or-range_with_len, length-range_with_len}
-use Rattle.base_text.specs.Paths.{components, components_with_tail}
-use Rattle.base_text.proofs.Parents.{root_components}
+use Rattle.base_text_paths.specs.Paths.{components, components_with_tail}
+use Rattle.base_text_paths.proofs.Parents.{root_components}
 use Rattle.pm_cargo.specs.Queries.{manifests_or_root}
 
 -- ---- numbers

@@ -1,15 +1,15 @@
 -- A document is read step by step: the first step that is refused refuses the workspace, and else the workspace holds what each step gave.
 use Rattle.std.proofs.Common.{◌≡◌, ℕ, List, Bool, Option, Ok, Err, ap, refl, ◌∙◌}
-use Rattle.outside.specs.declared.limits.Limits.{Limits}
+use Rattle.base_text_outside.specs.declared.limits.Limits.{Limits}
 use Rattle.cargo_meta.specs.declared.metadata.Metadata.{Metadata}
-use Rattle.pm_reading.specs.Links.{linked_contents}
-use Rattle.pm_reading.specs.Nodes.{nodes_of}
-use Rattle.pm_reading.specs.Packages.{absolute_path, optional_path}
-use Rattle.pm_reading.specs.Reading.{Reading, Refuses, ◌>>=◌}
-use Rattle.pm_reading.specs.declared.contents.Contents.{Contents}
-use Rattle.pm_reading.specs.declared.workspace_error.WorkspaceError.{WorkspaceError}
-use Rattle.pm_reading.proofs.ReadingLemmas.{refuses_on}
-use Rattle.pm_members.specs.Members.{with_all_member_deps}
+use Rattle.pm_cargo_reading.specs.Links.{linked_contents}
+use Rattle.pm_cargo_reading.specs.Nodes.{nodes_of}
+use Rattle.pm_cargo_reading.specs.Packages.{absolute_path, optional_path}
+use Rattle.pm_cargo_reading.specs.Reading.{Reading, Refuses, ◌>>=◌}
+use Rattle.pm_cargo_reading.specs.declared.contents.Contents.{Contents}
+use Rattle.pm_cargo_reading.specs.declared.workspace_error.WorkspaceError.{WorkspaceError}
+use Rattle.pm_cargo_reading.proofs.ReadingLemmas.{refuses_on}
+use Rattle.pm_cargo_members.specs.Members.{with_all_member_deps}
 use Rattle.pm_cargo.specs.ReadWorkspace.{directories_of, read_workspace}
 use Rattle.pm_cargo.specs.Workspace.{Workspace}
 use Rattle.pm_cargo.specs.declared.cargo_workspace.Directories.{Directories}

@@ -2,20 +2,20 @@
 use Rattle.std.proofs.Common.{◌≡◌, ℕ, List, [], Bool, true, false, Option, Ok, Err, map, refl, sym, ap, ◌∙◌}
 use Rattle.std.specs.Prelude.{bytes_eq}
 use Rattle.std.specs.List.{Contains}
-use Rattle.outside.specs.declared.limits.Limits.{Limits}
+use Rattle.base_text_outside.specs.declared.limits.Limits.{Limits}
 use Rattle.base_values.specs.Sorted.{sorted}
 use Rattle.cargo_meta.specs.declared.metadata.Metadata.{Metadata}
-use Rattle.cargo_values.specs.declared.names.PackageId.{PackageId}
-use Rattle.cargo_values.specs.declared.resolve.Node.{Node}
-use Rattle.pm_packages.specs.declared.package.PackageData.{PackageData}
-use Rattle.pm_reading.specs.Links.{linked_contents, linked_packages, with_links}
-use Rattle.pm_reading.specs.Nodes.{links_of, nodes_of}
-use Rattle.pm_reading.specs.Packages.{absolute_path, contents_of, is_listed, optional_path, take_package}
-use Rattle.pm_reading.specs.Reading.{Reading, ◌>>=◌, take_each}
-use Rattle.pm_reading.specs.declared.contents.Contents.{Contents}
-use Rattle.pm_reading.proofs.ContentsLemmas.{contents-members}
-use Rattle.pm_reading.proofs.ReadingLemmas.{ok_from_bind, one_value}
-use Rattle.pm_members.proofs.ListLemmas.{any_in, any_of}
+use Rattle.cargo_meta_values.specs.declared.names.PackageId.{PackageId}
+use Rattle.cargo_meta_values.specs.declared.resolve.Node.{Node}
+use Rattle.pm_cargo_packages.specs.declared.package.PackageData.{PackageData}
+use Rattle.pm_cargo_reading.specs.Links.{linked_contents, linked_packages, with_links}
+use Rattle.pm_cargo_reading.specs.Nodes.{links_of, nodes_of}
+use Rattle.pm_cargo_reading.specs.Packages.{absolute_path, contents_of, is_listed, optional_path, take_package}
+use Rattle.pm_cargo_reading.specs.Reading.{Reading, ◌>>=◌, take_each}
+use Rattle.pm_cargo_reading.specs.declared.contents.Contents.{Contents}
+use Rattle.pm_cargo_reading.proofs.ContentsLemmas.{contents-members}
+use Rattle.pm_cargo_reading.proofs.ReadingLemmas.{ok_from_bind, one_value}
+use Rattle.pm_cargo_members.proofs.ListLemmas.{any_in, any_of}
 use Rattle.pm_cargo.specs.ReadWorkspace.{read_workspace}
 use Rattle.pm_cargo.specs.Shuffle.{IsShuffle, by_node, with_sorted_entries}
 use Rattle.pm_cargo.specs.Workspace.{Workspace}

@@ -3,17 +3,17 @@ use Rattle.std.proofs.Common.{◌≡◌, ℕ, ◌<◌, List, length, get_or, Boo
 use Rattle.std.specs.List.{All}
 use Rattle.std.proofs.lemmas.List.{length-map}
 use Rattle.std.proofs.lemmas.List.Elements.{All-map, Contains-get_or}
-use Rattle.base_text.specs.Arena.{number_of}
-use Rattle.base_text.specs.declared.arena.Idx.{Idx}
-use Rattle.pm_packages.specs.Ids.{package_id}
-use Rattle.pm_packages.specs.declared.package.PackageData.{PackageData}
-use Rattle.pm_packages.specs.declared.package.PackageTag.{PackageTag}
-use Rattle.pm_packages.specs.declared.target.TargetData.{TargetData}
-use Rattle.pm_reading.specs.Presence.{HoldsIds, HoldsItsIds}
-use Rattle.pm_members.specs.Closure.{closure}
-use Rattle.pm_members.specs.Members.{member_graph, member_row, package_ids, with_all_member_deps, with_member_deps}
-use Rattle.pm_members.proofs.ClosureLemmas.{closure_below}
-use Rattle.pm_packages.proofs.UpdateLemmas.{changed-each, length-changed}
+use Rattle.base_text_paths.specs.Arena.{number_of}
+use Rattle.base_text_paths.specs.declared.arena.Idx.{Idx}
+use Rattle.pm_cargo_packages.specs.Ids.{package_id}
+use Rattle.pm_cargo_packages.specs.declared.package.PackageData.{PackageData}
+use Rattle.pm_cargo_packages.specs.declared.package.PackageTag.{PackageTag}
+use Rattle.pm_cargo_packages.specs.declared.target.TargetData.{TargetData}
+use Rattle.pm_cargo_reading.specs.Presence.{HoldsIds, HoldsItsIds}
+use Rattle.pm_cargo_members.specs.Closure.{closure}
+use Rattle.pm_cargo_members.specs.Members.{member_graph, member_row, package_ids, with_all_member_deps, with_member_deps}
+use Rattle.pm_cargo_members.proofs.ClosureLemmas.{closure_below}
+use Rattle.pm_cargo_packages.proofs.UpdateLemmas.{changed-each, length-changed}
 
 module _ (packages : List PackageData) (targets : List TargetData) where
   length-members : length (with_all_member_deps packages) ≡ length packages

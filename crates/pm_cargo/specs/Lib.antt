@@ -1,5 +1,5 @@
-pub mod Workspace
-pub mod ReadWorkspace
-pub mod Queries
-pub mod Shuffle
 pub mod Laws
+pub mod Queries
+pub mod ReadWorkspace
+pub mod Shuffle
+pub mod Workspace

@@ -4,13 +4,13 @@ use Rattle.std.specs.List.{count_by, find, list_any}
 use Rattle.std.specs.Map.{keys_of}
 use Rattle.std.specs.Option.{option_map_or}
 use Rattle.semver.specs.Identifiers.{parts_text}
-use Rattle.base_text.specs.Arena.{number_of}
-use Rattle.base_text.specs.PathOrder.{path_eq}
-use Rattle.base_text.specs.Paths.{components_with_tail, path_text}
-use Rattle.base_text.specs.declared.arena.Idx.{Idx}
-use Rattle.pm_packages.specs.declared.package.PackageData.{PackageData}
-use Rattle.pm_packages.specs.declared.package.PackageDependency.{PackageDependency}
-use Rattle.pm_packages.specs.declared.target.TargetTag.{TargetTag}
+use Rattle.base_text_paths.specs.Arena.{number_of}
+use Rattle.base_text_paths.specs.PathOrder.{path_eq}
+use Rattle.base_text_paths.specs.Paths.{components_with_tail, path_text}
+use Rattle.base_text_paths.specs.declared.arena.Idx.{Idx}
+use Rattle.pm_cargo_packages.specs.declared.package.PackageData.{PackageData}
+use Rattle.pm_cargo_packages.specs.declared.package.PackageDependency.{PackageDependency}
+use Rattle.pm_cargo_packages.specs.declared.target.TargetTag.{TargetTag}
 use Rattle.pm_cargo.specs.Workspace.{Workspace}
 
 -- ---- paths

@@ -1,12 +1,12 @@
 -- How a document of `cargo metadata` is read as a workspace. The checks come in the order of the lines, and the first refusal counts. The rule is that of rust-analyzer's `CargoWorkspace::new`.
 use Rattle.std.specs.Prelude.{ℕ, Bool, List, Ok}
-use Rattle.outside.specs.declared.limits.Limits.{Limits}
+use Rattle.base_text_outside.specs.declared.limits.Limits.{Limits}
 use Rattle.cargo_meta.specs.declared.metadata.Metadata.{Metadata}
-use Rattle.pm_reading.specs.Links.{linked_contents}
-use Rattle.pm_reading.specs.Nodes.{nodes_of}
-use Rattle.pm_reading.specs.Packages.{absolute_path, optional_path}
-use Rattle.pm_reading.specs.Reading.{Reading, ◌>>=◌}
-use Rattle.pm_members.specs.Members.{with_all_member_deps}
+use Rattle.pm_cargo_reading.specs.Links.{linked_contents}
+use Rattle.pm_cargo_reading.specs.Nodes.{nodes_of}
+use Rattle.pm_cargo_reading.specs.Packages.{absolute_path, optional_path}
+use Rattle.pm_cargo_reading.specs.Reading.{Reading, ◌>>=◌}
+use Rattle.pm_cargo_members.specs.Members.{with_all_member_deps}
 use Rattle.pm_cargo.specs.Workspace.{Workspace}
 use Rattle.pm_cargo.specs.declared.cargo_workspace.Directories.{Directories}
 

@@ -4,12 +4,12 @@ use Rattle.std.specs.List.{Contains}
 use Rattle.std.specs.declared.cmp.Ordering.{Ordering}
 use Rattle.base_values.specs.ByText.{text_cmp}
 use Rattle.base_values.specs.Sorted.{sorted}
-use Rattle.outside.specs.declared.limits.Limits.{Limits}
+use Rattle.base_text_outside.specs.declared.limits.Limits.{Limits}
 use Rattle.cargo_meta.specs.declared.metadata.Metadata.{Metadata}
-use Rattle.cargo_values.specs.declared.names.PackageId.{PackageId}
-use Rattle.cargo_values.specs.declared.resolve.Node.{Node}
-use Rattle.pm_reading.specs.Nodes.{by_package, nodes_of}
-use Rattle.pm_reading.specs.Packages.{by_id}
+use Rattle.cargo_meta_values.specs.declared.names.PackageId.{PackageId}
+use Rattle.cargo_meta_values.specs.declared.resolve.Node.{Node}
+use Rattle.pm_cargo_reading.specs.Nodes.{by_package, nodes_of}
+use Rattle.pm_cargo_reading.specs.Packages.{by_id}
 use Rattle.pm_cargo.specs.ReadWorkspace.{read_workspace}
 use Rattle.pm_cargo.specs.Workspace.{Workspace}
 

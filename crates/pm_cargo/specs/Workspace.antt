@@ -1,8 +1,8 @@
 -- A Cargo workspace as plain data: packages in the order of their ids and targets in the order of their packages, each known by its place.
 use Rattle.std.specs.Prelude.{ℕ, Bool, List, Option}
-use Rattle.pm_packages.specs.declared.package.PackageData.{PackageData}
-use Rattle.pm_packages.specs.declared.target.TargetData.{TargetData}
-use Rattle.pm_reading.specs.Presence.{HoldsItsIds}
+use Rattle.pm_cargo_packages.specs.declared.package.PackageData.{PackageData}
+use Rattle.pm_cargo_packages.specs.declared.target.TargetData.{TargetData}
+use Rattle.pm_cargo_reading.specs.Presence.{HoldsItsIds}
 
 -- a workspace: its packages and targets, its directories, and what it was read with
 pub record Workspace : Type 0 where

@@ -3,22 +3,22 @@
 
 ghost use Rattle.std.specs.Prelude.{◌≡◌, ◌↔◌, ◌<◌, IfOk, IsTrue, length, option_map, slice_get, Some};
 ghost use Rattle.std.specs.List.{range_with_len};
-ghost use Rattle.base_text.specs.AbsPath.{abs_text};
-ghost use Rattle.base_text.specs.Arena.{number_of};
+ghost use Rattle.base_text_paths.specs.AbsPath.{abs_text};
+ghost use Rattle.base_text_paths.specs.Arena.{number_of};
 ghost use Rattle.pm_cargo.specs.ReadWorkspace.{directories_of, read_workspace};
-ghost use Rattle.pm_reading.specs.Links.{linked_contents};
-ghost use Rattle.pm_reading.specs.Nodes.{nodes_of};
-ghost use Rattle.pm_reading.specs.Presence.{HoldsItsIds};
-ghost use Rattle.pm_reading.specs.Reading.{Gives};
+ghost use Rattle.pm_cargo_reading.specs.Links.{linked_contents};
+ghost use Rattle.pm_cargo_reading.specs.Nodes.{nodes_of};
+ghost use Rattle.pm_cargo_reading.specs.Presence.{HoldsItsIds};
+ghost use Rattle.pm_cargo_reading.specs.Reading.{Gives};
 ghost use Rattle.pm_cargo.specs.Workspace.{IsWithin};
 
 use crate::package_iter::PackageIter;
-use base_text::{AbsPath, AbsPathBuf, Items, Limits, TryClone};
+use base_text_paths::{AbsPath, AbsPathBuf, Items, Limits, ManifestPath, TryClone};
 use cargo_meta::Metadata;
-use crate_graph::Env;
-use pm_members::with_all_member_deps;
-use pm_packages::{ManifestPath, Package, PackageData, Target, TargetData};
-use pm_reading::{Contents, WorkspaceError, absolute_path, linked_contents, optional_path};
+use crate_graph_values::Env;
+use pm_cargo_members::with_all_member_deps;
+use pm_cargo_packages::{Package, PackageData, Target, TargetData};
+use pm_cargo_reading::{Contents, WorkspaceError, absolute_path, linked_contents, optional_path};
 use std::alloc::{AllocError, Global};
 use std::marker::Model;
 use std::ops::Index;

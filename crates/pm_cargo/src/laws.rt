@@ -2,7 +2,7 @@
 
 ghost use Rattle.std.specs.Prelude.{◌≡◌};
 ghost use Rattle.cargo_meta.specs.declared.metadata.Metadata.{Metadata};
-ghost use Rattle.crate_values.specs.Laws.{IsContentEqualityOn};
+ghost use Rattle.crate_graph_values.specs.Laws.{IsContentEqualityOn};
 ghost use Rattle.pm_cargo.specs.Laws.{HasCleanPaths};
 ghost use Rattle.pm_cargo.specs.Shuffle.{IsReadAlike, IsShuffle};
 
@@ -20,7 +20,7 @@ pub fn shuffled_documents_give_one_workspace()
 pub fn equality_of_workspaces_is_content()
     ensures { IsContentEqualityOn HasCleanPaths ⟦<CargoWorkspace as PartialEq>⟧.eq }
 {
-    pm_packages::laws::equality_of_packages_is_content();
-    pm_packages::laws::equality_of_targets_is_content();
-    crate_graph::laws::equality_of_environments_is_content();
+    pm_cargo_packages::laws::equality_of_packages_is_content();
+    pm_cargo_packages::laws::equality_of_targets_is_content();
+    crate_graph_values::laws::equality_of_environments_is_content();
 }

@@ -6,11 +6,16 @@ pub mod laws;
 pub mod package_iter;
 pub mod queries;
 
+pub use base_text_paths::{ManifestPath, manifest_path};
 pub use cargo_workspace::CargoWorkspace;
 pub use package_iter::PackageIter;
-pub use pm_packages::{
-    DepKind, ManifestPath, Package, PackageData, PackageDependency, PackageTag,
-    RustAnalyzerPackageMetaData, Target, TargetData, TargetTag, manifest_path, package, target,
-    target_kind_new,
+pub use pm_cargo_config::{
+    CargoConfig, CargoFeatures, CargoMetadataConfig, CfgOverrides, InvocationStrategy,
+    LockfileUsage, RustLibSource, TargetDirectoryConfig, lockfile_usage,
 };
-pub use pm_reading::{WorkspaceError, workspace_error};
+pub use pm_cargo_fetch::FetchMetadata;
+pub use pm_cargo_packages::{
+    DepKind, Package, PackageData, PackageDependency, PackageTag, RustAnalyzerPackageMetaData,
+    Target, TargetData, TargetTag, package, target, target_kind_new,
+};
+pub use pm_cargo_reading::{WorkspaceError, workspace_error};

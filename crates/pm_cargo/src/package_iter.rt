@@ -3,9 +3,9 @@
 ghost use Rattle.std.specs.Prelude.{◌≡◌, ◌<◌, ◌^◌, length};
 ghost use Rattle.std.specs.List.{range_with_len};
 ghost use Rattle.std.specs.Iterator.{YieldsFirstBy, item_count};
-ghost use Rattle.base_text.specs.Arena.{number_of};
+ghost use Rattle.base_text_paths.specs.Arena.{number_of};
 
-use pm_packages::{Package, PackageData};
+use pm_cargo_packages::{Package, PackageData};
 use std::marker::Model;
 
 /// The numbers of packages that are left, from the first on.

@@ -5,12 +5,12 @@ ghost use Rattle.std.specs.BTreeSet.{contains_text};
 ghost use Rattle.std.specs.List.{find, list_any};
 ghost use Rattle.std.specs.Option.{option_map};
 ghost use Rattle.std.specs.String.{string_bytes};
-ghost use Rattle.base_text.specs.AbsPath.{abs_text};
+ghost use Rattle.base_text_paths.specs.AbsPath.{abs_text};
 ghost use Rattle.pm_cargo.specs.Queries.{dependent_manifests, has_manifest, has_root, is_feature, is_feature_of, is_on, is_unique, is_virtual, member_targets, name_count, names_feature, package_flag, parent_manifests, requires_rustc_private, root_manifest, target_by_root};
 
 use crate::cargo_workspace::CargoWorkspace;
-use base_text::{AbsPath, Items, TryClone};
-use pm_packages::{ManifestPath, PackageData, PackageDependency, Target};
+use base_text_paths::{AbsPath, Items, ManifestPath, TryClone};
+use pm_cargo_packages::{PackageData, PackageDependency, Target};
 use std::alloc::{AllocError, Global};
 use std::collections::BTreeSet;
 

@@ -9,19 +9,19 @@ use Rattle.std.specs.Option.{option_eq, option_map}
 use Rattle.base_values.specs.Equality.{IsContentEquality}
 use Rattle.base_values.proofs.Basics.{and_first, and_second}
 use Rattle.base_values.proofs.Equalities.{lists, pairs, texts}
-use Rattle.base_text.specs.PathOrder.{path_eq}
-use Rattle.base_text.specs.Paths.{IsClean}
-use Rattle.base_text.specs.declared.cfg.CfgAtom.{CfgAtom}
-use Rattle.base_text.specs.declared.edition.Edition.{Edition}
-use Rattle.base_text.proofs.Equalities.{paths}
-use Rattle.crate_values.specs.Names.{DisplayName}
-use Rattle.crate_values.specs.Laws.{IsContentEqualityOn}
-use Rattle.pm_json_data.specs.declared.dep.Dep.{Dep}
-use Rattle.pm_json_data.specs.declared.kinds.RunnableKind.{RunnableKind}
-use Rattle.pm_json_data.specs.declared.parts.Runnable.{Runnable}
-use Rattle.pm_packages.proofs.Equalities.{lists_on, options, options_on}
-use Rattle.pm_json.specs.Laws.{HasCleanLevel, HasCleanPaths, HaveCleanPaths}
-use Rattle.pm_json_data.specs.contracts.parts.RunnablePartialEq.TheImpl as commands
+use Rattle.base_text_paths.specs.PathOrder.{path_eq}
+use Rattle.base_text_paths.specs.Paths.{IsClean}
+use Rattle.base_text_outside.specs.declared.cfg.CfgAtom.{CfgAtom}
+use Rattle.base_text_paths.specs.declared.edition.Edition.{Edition}
+use Rattle.base_text_paths.proofs.Equalities.{paths}
+use Rattle.crate_graph_values.specs.Names.{DisplayName}
+use Rattle.crate_graph_values.specs.Laws.{IsContentEqualityOn}
+use Rattle.pm_json.specs.declared.dep.Dep.{Dep}
+use Rattle.pm_json.specs.declared.kinds.RunnableKind.{RunnableKind}
+use Rattle.pm_json.specs.declared.parts.Runnable.{Runnable}
+use Rattle.crate_graph_values.proofs.ContentsOn.{lists_on, options, options_on}
+use Rattle.pm_json.specs.ProjectLaws.{HasCleanLevel, HasCleanPaths, HaveCleanPaths}
+use Rattle.pm_json.specs.contracts.parts.RunnablePartialEq.TheImpl as commands
 use Rattle.pm_json.specs.contracts.krate.CratePartialEq.TheImpl as krates
 use Rattle.pm_json.specs.contracts.project_json.ProjectJsonEq.TheImpl.Laws as equivalent
 use Rattle.pm_json.specs.contracts.project_json.ProjectJsonPartialEq.TheImpl as documents

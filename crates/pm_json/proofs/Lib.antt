@@ -1,2 +1,3 @@
 pub mod Equalities
 mod ReadingLemmas
+pub mod Steps

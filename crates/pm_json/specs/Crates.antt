@@ -5,14 +5,14 @@ use Rattle.std.specs.List.{dedup}
 use Rattle.std.specs.Option.{option_map, unwrap_or}
 use Rattle.base_values.specs.ByText.{text_cmp, value_at}
 use Rattle.base_values.specs.Sorted.{sorted}
-use Rattle.base_text.specs.Paths.{components, components_with_tail, is_prefix, parent_text, path_text, resolved_components}
-use Rattle.base_text.specs.declared.cfg.CfgAtom.{CfgAtom}
-use Rattle.crate_values.specs.Names.{shown_as}
+use Rattle.base_text_paths.specs.Paths.{components, components_with_tail, is_prefix, parent_text, path_text, resolved_components}
+use Rattle.base_text_outside.specs.declared.cfg.CfgAtom.{CfgAtom}
+use Rattle.crate_graph_values.specs.Names.{shown_as}
 use Rattle.json_fields.specs.Versions.{version_text}
-use Rattle.pm_json_data.specs.Kinds.{edition_from, target_kind_from}
-use Rattle.pm_json_data.specs.declared.crate_data.CrateData.{CrateData}
-use Rattle.pm_json_data.specs.declared.parts.BuildData.{BuildData}
-use Rattle.pm_json_data.specs.declared.parts.CrateSource.{CrateSource}
+use Rattle.pm_json.specs.Kinds.{edition_from, target_kind_from}
+use Rattle.pm_json.specs.declared.crate_data.CrateData.{CrateData}
+use Rattle.pm_json.specs.declared.parts.BuildData.{BuildData}
+use Rattle.pm_json.specs.declared.parts.CrateSource.{CrateSource}
 use Rattle.pm_json.specs.Refusals.{Reading, ◌>>=◌, under}
 use Rattle.pm_json.specs.declared.krate.Build.{Build}
 use Rattle.pm_json.specs.declared.crate_parts.CrateHead.{CrateHead}

@@ -1,5 +1,11 @@
-pub mod Refusals
+pub mod CrateData
 pub mod Crates
+pub mod Dep
+pub mod Kinds
+pub mod Parts
 pub mod Project
+pub mod ProjectJsonData
+pub mod ProjectLaws
 pub mod Queries
-pub mod Laws
+pub mod Refusals
+pub mod laws

@@ -1,10 +1,10 @@
 -- a project, as rust-analyzer reads a `rust-project.json` on a base directory; its standard library may be a project of its own
 use Rattle.std.specs.Prelude.{ℕ, if◌then◌else◌, nat_lt, List, length, Option, Some, None, Ok, Err}
 use Rattle.std.specs.Option.{option_map}
-use Rattle.outside.specs.declared.limits.Limit.TheVariants.{Crates}
-use Rattle.pm_json_data.specs.declared.project_json_data.ProjectJsonData.{ProjectJsonData}
-use Rattle.pm_json_data.specs.declared.project_json_data.ProjectJsonData.TheFolds.{fold-ProjectJsonData}
-use Rattle.pm_json_data.specs.declared.project_json_data.ProjectJsonData.TheOpen.{ProjectJsonData-F}
+use Rattle.base_text_outside.specs.declared.limits.Limit.TheVariants.{Crates}
+use Rattle.pm_json.specs.declared.project_json_data.ProjectJsonData.{ProjectJsonData}
+use Rattle.pm_json.specs.declared.project_json_data.ProjectJsonData.TheFolds.{fold-ProjectJsonData}
+use Rattle.pm_json.specs.declared.project_json_data.ProjectJsonData.TheOpen.{ProjectJsonData-F}
 use Rattle.pm_json.specs.Crates.{absolute_from, crates_of}
 use Rattle.pm_json.specs.Refusals.{Reading, under, ◌>>=◌}
 use Rattle.pm_json.specs.declared.project_json.ProjectJson.{ProjectJson}

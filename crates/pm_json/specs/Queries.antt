@@ -1,8 +1,8 @@
 -- what a project is asked: the first of its members, or of its runnables, that is meant
 use Rattle.std.specs.Prelude.{ℕ, Bool, ◌&&◌, false, bytes_eq, List, find, Option}
 use Rattle.std.specs.Option.{option_map_or}
-use Rattle.base_text.specs.PathOrder.{path_eq}
-use Rattle.pm_json_data.specs.declared.parts.Runnable.{Runnable}
+use Rattle.base_text_paths.specs.PathOrder.{path_eq}
+use Rattle.pm_json.specs.declared.parts.Runnable.{Runnable}
 use Rattle.pm_json.specs.declared.krate.Build.{Build}
 use Rattle.pm_json.specs.declared.krate.Crate.{Crate}
 use Rattle.pm_json.specs.declared.project_json.ProjectJson.{ProjectJson, out-ProjectJson}

@@ -4,10 +4,11 @@
 ghost use Rattle.std.specs.Prelude.{◌≡◌, IfOk};
 ghost use Rattle.pm_json.specs.Crates.{crate_with, head_of, tail_of, tail_with};
 
+use crate::crate_data::CrateData;
+use crate::dep::Dep;
 use crate::krate::{Build, Crate};
-use base_text::{AbsPathBuf, ByText, CfgAtom, Edition, Items, Text, TryClone};
-use crate_graph::CrateDisplayName;
-use pm_json_data::{CrateData, Dep};
+use base_text_paths::{AbsPathBuf, ByText, CfgAtom, Edition, Items, Text, TryClone};
+use crate_graph_values::CrateDisplayName;
 use std::alloc::{AllocError, Global};
 
 /// What of a crate is read on the base.

@@ -5,9 +5,10 @@ ghost use Rattle.std.specs.Iterator.{YieldsFirstBy, item_count};
 ghost use Rattle.pm_json.specs.Crates.{build_of};
 
 use crate::crate_parts::{copy_head, copy_tail, crate_of};
-use base_text::{AbsPathBuf, ByText, CfgAtom, Edition, Items, Text, TryClone};
-use crate_graph::{CrateDisplayName, TargetKind};
-use pm_json_data::{BuildData, CrateArrayIdx, Dep};
+use crate::dep::{CrateArrayIdx, Dep};
+use crate::parts::BuildData;
+use base_text_paths::{AbsPathBuf, ByText, CfgAtom, Edition, Items, Text, TryClone};
+use crate_graph_values::{CrateDisplayName, TargetKind};
 use std::alloc::{AllocError, Global};
 use std::marker::Model;
 
@@ -98,7 +99,7 @@ pub struct DepIter<'a> {
 
 impl<'a> Model for DepIter<'a> {
     ghost use Rattle.std.specs.Prelude.{List, map};
-    ghost use Rattle.pm_json_data.specs.declared.dep.CrateArrayIdx.{CrateArrayIdx};
+    ghost use Rattle.pm_json.specs.declared.dep.CrateArrayIdx.{CrateArrayIdx};
 
     ghost Value = { List CrateArrayIdx };
 

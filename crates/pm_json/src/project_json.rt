@@ -1,18 +1,20 @@
 //! A project as a document and a base directory make it.
 
 ghost use Rattle.std.specs.Prelude.{◌≡◌, IfOk, None, option_map};
-ghost use Rattle.base_text.specs.AbsPath.{abs_text};
+ghost use Rattle.base_text_paths.specs.AbsPath.{abs_text};
 ghost use Rattle.pm_json.specs.Crates.{absolute_from};
 ghost use Rattle.pm_json.specs.Project as project;
 ghost use Rattle.pm_json.specs.Project.{project_of};
 ghost use Rattle.pm_json.specs.Refusals.{Gives};
 
 use crate::krate::Crate;
+use crate::parts::Runnable;
+use crate::project_json_data::ProjectJsonData;
 use crate::reading::{absolute, read_crates};
 use crate::workspace_json_error::WorkspaceJsonError;
-use base_text::{AbsPath, AbsPathBuf, Boxed, Items, Limit, Limits, Text, TryClone};
-use pm_json_data::{ProjectJsonData, Runnable};
-use pm_packages::ManifestPath;
+use base_text_paths::{
+    AbsPath, AbsPathBuf, Boxed, Items, Limit, Limits, ManifestPath, Text, TryClone,
+};
 use std::alloc::{AllocError, Global};
 
 /// A project that a build system describes.

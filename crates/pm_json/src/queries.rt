@@ -4,16 +4,17 @@ ghost use Rattle.std.specs.Prelude.{◌≡◌, ◌<◌, None, Some, find, length
 ghost use Rattle.std.specs.Iterator.{YieldsFirstBy, item_count};
 ghost use Rattle.std.specs.List.{enumerate_from};
 ghost use Rattle.std.specs.Option.{option_and_then, option_copied, unwrap_or};
-ghost use Rattle.base_text.specs.AbsPath.{abs_text};
+ghost use Rattle.base_text_paths.specs.AbsPath.{abs_text};
 ghost use Rattle.pm_json.specs.Queries.{begins_in, crates_in, first_member, has_build, has_label};
 ghost use Rattle.pm_json.specs.Queries.{is_described_in, manifest_of, root_of, runnables_in};
 ghost use Rattle.pm_json.specs.declared.project_json.ProjectJson.{out-ProjectJson};
 
+use crate::dep::CrateArrayIdx;
+use crate::kinds::RunnableKind;
 use crate::krate::{Build, Crate};
+use crate::parts::Runnable;
 use crate::project_json::ProjectJson;
-use base_text::{AbsPath, Boxed};
-use pm_json_data::{CrateArrayIdx, Runnable, RunnableKind};
-use pm_packages::ManifestPath;
+use base_text_paths::{AbsPath, Boxed, ManifestPath};
 use std::marker::Model;
 use std::ops::Index;
 

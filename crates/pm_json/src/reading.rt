@@ -1,20 +1,23 @@
 //! Crates of a document, read on a base directory.
 
 ghost use Rattle.std.specs.Prelude.{◌≡◌, ◌++◌, [], IfOk, OnOk, flat_map, map, option_map};
-ghost use Rattle.base_text.specs.AbsPath.{abs_text};
-ghost use Rattle.base_text.specs.Paths.{parent_text};
-ghost use Rattle.crate_values.specs.Names.{shown_as};
+ghost use Rattle.base_text_paths.specs.AbsPath.{abs_text};
+ghost use Rattle.base_text_paths.specs.Paths.{parent_text};
+ghost use Rattle.crate_graph_values.specs.Names.{shown_as};
 ghost use Rattle.json_fields.specs.Versions.{version_text};
 ghost use Rattle.pm_json.specs.Crates as crates;
 ghost use Rattle.pm_json.specs.Crates.{absolute_from, cfgs_of, crates_of, folder_of_parent, group_names, head_from, is_member, parts_from};
 ghost use Rattle.pm_json.specs.Refusals.{Gives};
 
+use crate::crate_data::CrateData;
 use crate::crate_parts::{CrateHead, CrateTail, crate_of};
 use crate::krate::Crate;
+use crate::parts::CrateSource;
 use crate::workspace_json_error::WorkspaceJsonError;
-use base_text::{AbsPath, AbsPathBuf, ByText, CfgAtom, Items, Text, TryClone, Version, sort_all};
-use crate_graph::CrateDisplayName;
-use pm_json_data::{CrateData, CrateSource};
+use base_text_paths::{
+    AbsPath, AbsPathBuf, ByText, CfgAtom, Items, Text, TryClone, Version, sort_all,
+};
+use crate_graph_values::CrateDisplayName;
 use std::alloc::{AllocError, Global};
 use std::mem;
 

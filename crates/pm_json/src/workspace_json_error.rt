@@ -1,6 +1,6 @@
 //! Why a document is read as no project.
 
-use base_text::{Limit, Text, TryClone};
+use base_text_paths::{Limit, Text, TryClone};
 use std::alloc::{AllocError, AllocFailed, Global};
 use std::error::Error;
 use std::fmt;

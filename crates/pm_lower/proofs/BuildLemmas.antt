@@ -1,11 +1,11 @@
 -- What builds give projects, one after another.
 use Rattle.std.proofs.Common.{◌≡◌, ℕ, ◌+◌, ◌<◌, List, [], ◌∷◌, ◌++◌, IfOk, Result, Ok, Err, refl, ap, get_or, length, map, subst, sym, take, ◌∙◌}
 use Rattle.std.proofs.lemmas.List.{map-append, take_more}
-use Rattle.pm_build.specs.Outputs.{BuildScripts}
-use Rattle.pm_build.specs.Reading.{Gives, Reading}
-use Rattle.pm_build.specs.SharedBuild.{SharedBuild}
-use Rattle.pm_build.specs.declared.build_error.BuildError.{BuildError}
-use Rattle.pm_build.specs.declared.build_error.BuildError.TheVariants.{Io, NotAbsolute, OutOfMemory}
+use Rattle.pm_tools.specs.Outputs.{BuildScripts}
+use Rattle.pm_tools.specs.Reading.{Gives, Reading}
+use Rattle.pm_tools.specs.SharedBuild.{SharedBuild}
+use Rattle.pm_tools.specs.declared.build_error.BuildError.{BuildError}
+use Rattle.pm_tools.specs.declared.build_error.BuildError.TheVariants.{Io, NotAbsolute, OutOfMemory}
 use Rattle.pm_lower.specs.Builds.{GivesEach, kind_share}
 use Rattle.pm_lower.specs.declared.project_workspace.ProjectWorkspace.{ProjectWorkspace}
 use Rattle.pm_lower.specs.declared.project_workspace.ProjectWorkspaceKind.{ProjectWorkspaceKind}

@@ -1,21 +1,21 @@
 -- A detached file is loaded step by step: each step is that of the definition, where the code's values are those of the definition.
 use Rattle.std.proofs.Common.{◌≡◌, ℕ, false, List, Option, Some, None, Result, Ok, Err, refl, sym, ap, subst, ◌∙◌}
-use Rattle.outside.specs.declared.limits.Limits.{Limits}
+use Rattle.base_text_outside.specs.declared.limits.Limits.{Limits}
 use Rattle.cargo_meta.specs.declared.metadata.Metadata.{Metadata}
-use Rattle.cargo_values.specs.declared.errors.Error.{Error}
+use Rattle.cargo_meta_values.specs.declared.errors.Error.{Error}
 use Rattle.pm_cargo.specs.ReadWorkspace.{read_workspace}
 use Rattle.pm_cargo.specs.Shuffle.{IsShuffle}
 use Rattle.pm_cargo.specs.Workspace.{Workspace}
 use Rattle.pm_cargo.proofs.ShuffleLemmas.{shuffle-read}
-use Rattle.pm_config.specs.declared.config.CargoConfig.{CargoConfig}
-use Rattle.pm_fetch.specs.Fetch.{FetchAnswer}
-use Rattle.pm_load.specs.Loading.{Gives, Loading, Refuses, ◌>>=◌, of_fetch, of_reading, of_workspace_error}
-use Rattle.pm_load.specs.Metadata.{metadata_answer}
-use Rattle.pm_load.specs.ToolAnswers.{tool_answers}
-use Rattle.pm_load.specs.declared.load_error.LoadError.{LoadError}
-use Rattle.pm_load.specs.declared.tool_answers.PlatformAsked.TheVariants.{NoTarget}
-use Rattle.pm_load.specs.declared.tool_answers.ToolAnswers.{ToolAnswers}
-use Rattle.pm_load.proofs.LoadingLemmas.{refuses_first, refuses_reading}
+use Rattle.pm_cargo_config.specs.declared.config.CargoConfig.{CargoConfig}
+use Rattle.pm_cargo_fetch.specs.Fetch.{FetchAnswer}
+use Rattle.pm_lower_load.specs.Loading.{Gives, Loading, Refuses, ◌>>=◌, of_fetch, of_reading, of_workspace_error}
+use Rattle.pm_lower_load.specs.Metadata.{metadata_answer}
+use Rattle.pm_lower_load.specs.ToolAnswers.{tool_answers}
+use Rattle.pm_lower_load.specs.declared.load_error.LoadError.{LoadError}
+use Rattle.pm_lower_load.specs.declared.tool_answers.PlatformAsked.TheVariants.{NoTarget}
+use Rattle.pm_lower_load.specs.declared.tool_answers.ToolAnswers.{ToolAnswers}
+use Rattle.pm_lower_load.proofs.LoadingLemmas.{refuses_first, refuses_reading}
 use Rattle.pm_lower.specs.DetachedProject.{detached_kind, detached_project, detached_with, metadata_or_none, script_of, script_with}
 use Rattle.pm_lower.specs.Order.{IsDetachedAlike}
 use Rattle.pm_lower.specs.Project.{project_of}
@@ -25,11 +25,11 @@ use Rattle.pm_lower.specs.declared.project_workspace.ProjectWorkspace.{ProjectWo
 use Rattle.pm_lower.specs.declared.project_workspace.ProjectWorkspaceKind.{ProjectWorkspaceKind}
 use Rattle.pm_lower.specs.declared.project_workspace.ProjectWorkspaceKind.TheVariants.{DetachedFile}
 use Rattle.pm_lower.proofs.ProjectLemmas.{made-is, made_of, read_before, settings_kept}
-use Rattle.pm_reading.specs.Reading as reading
-use Rattle.pm_reading.specs.declared.workspace_error.WorkspaceError.{WorkspaceError}
-use Rattle.pm_sysroot.specs.Ask.{Means}
-use Rattle.pm_sysroot.specs.Toolchain.{Toolchain}
-use Rattle.pm_tools.specs.ConfigEnv.{config_env}
+use Rattle.pm_cargo_reading.specs.Reading as reading
+use Rattle.pm_cargo_reading.specs.declared.workspace_error.WorkspaceError.{WorkspaceError}
+use Rattle.pm_tools_ask.specs.Ask.{Means}
+use Rattle.pm_tools_ask.specs.Toolchain.{Toolchain}
+use Rattle.pm_tools_ask.specs.ConfigEnv.{config_env}
 
 -- ---- metadata
 

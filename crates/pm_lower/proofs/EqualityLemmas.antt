@@ -3,19 +3,19 @@ use Rattle.std.proofs.Common.{◌≡◌, ℕ, List, Bool, true, false, ◌&&◌,
 use Rattle.std.specs.Cmp.Lexicographic.{bytes_decides, lists_equiv}
 use Rattle.std.specs.Option.{option_eq}
 use Rattle.std.specs.Prelude.{bytes_eq}
-use Rattle.base_text.specs.PathOrder.{path_eq_equiv}
-use Rattle.base_text.specs.contracts.cfg.CfgAtomEq.TheImpl.Laws as atoms
+use Rattle.base_text_paths.specs.PathOrder.{path_eq_equiv}
+use Rattle.base_text_outside.specs.contracts.cfg.CfgAtomEq.TheImpl.Laws as atoms
 use Rattle.base_values.specs.Version.{Parts}
 use Rattle.base_values.specs.contracts.version.VersionEq.TheImpl.Laws as versions
 use Rattle.base_values.specs.contracts.version.VersionPartialEq.TheImpl as version
-use Rattle.crate_values.specs.contracts.target.TargetDataEq.TheImpl.Laws as machines
-use Rattle.crate_values.specs.contracts.target.TargetLoadErrorEq.TheImpl.Laws as errors
-use Rattle.crate_values.specs.declared.target.TargetData.{TargetData}
-use Rattle.crate_values.specs.declared.target.TargetLoadError.{TargetLoadError}
-use Rattle.pm_build.specs.Outputs.{BuildScripts}
-use Rattle.pm_build.specs.contracts.build_scripts.WorkspaceBuildScriptsEq.TheImpl.Laws as scripts
+use Rattle.crate_graph_values.specs.contracts.target.TargetDataEq.TheImpl.Laws as machines
+use Rattle.crate_graph_values.specs.contracts.target.TargetLoadErrorEq.TheImpl.Laws as errors
+use Rattle.crate_graph_values.specs.declared.target.TargetData.{TargetData}
+use Rattle.crate_graph_values.specs.declared.target.TargetLoadError.{TargetLoadError}
+use Rattle.pm_tools.specs.Outputs.{BuildScripts}
+use Rattle.pm_tools.specs.contracts.build_scripts.WorkspaceBuildScriptsEq.TheImpl.Laws as scripts
 use Rattle.pm_cargo.specs.contracts.cargo_workspace.CargoWorkspaceEq.TheImpl.Laws as workspaces
-use Rattle.pm_config.specs.contracts.overrides.CfgOverridesEq.TheImpl.Laws as overrides
+use Rattle.pm_cargo_config.specs.contracts.overrides.CfgOverridesEq.TheImpl.Laws as overrides
 use Rattle.pm_lower.specs.Builds.{kind_with_build_scripts, with_build_scripts}
 use Rattle.pm_json.specs.contracts.project_json.ProjectJsonEq.TheImpl.Laws as documents
 use Rattle.pm_lower.specs.Equality.{equal_except_builds, equal_kinds, equal_rustc, equal_targets, is_equal_to_itself}
@@ -23,7 +23,7 @@ use Rattle.pm_lower.specs.ProjectWorkspace.{RustcPart}
 use Rattle.pm_lower.specs.declared.project_workspace.ProjectWorkspace.{ProjectWorkspace}
 use Rattle.pm_lower.specs.declared.project_workspace.ProjectWorkspaceKind.{ProjectWorkspaceKind}
 use Rattle.pm_lower.specs.declared.project_workspace.ProjectWorkspaceKind.TheVariants.{Cargo, Json, DetachedFile}
-use Rattle.pm_sysroot.specs.contracts.sysroot.SysrootEq.TheImpl.Laws as toolchains
+use Rattle.pm_tools_ask.specs.contracts.sysroot.SysrootEq.TheImpl.Laws as toolchains
 use Rattle.base_values.proofs.Basics.{and_both}
 
 text_itself : (text : Option (List ℕ)) → option_eq bytes_eq text text ≡ true

@@ -1,23 +1,23 @@
 -- A JSON project is loaded step by step: each step is that of the definition, where the code's values are those of the definition.
 use Rattle.std.proofs.Common.{◌≡◌, ℕ, List, Option, Ok, sym, ap, ◌∙◌}
-use Rattle.outside.specs.declared.limits.Limits.{Limits}
-use Rattle.pm_config.specs.declared.config.CargoConfig.{CargoConfig}
+use Rattle.base_text_outside.specs.declared.limits.Limits.{Limits}
+use Rattle.pm_cargo_config.specs.declared.config.CargoConfig.{CargoConfig}
 use Rattle.pm_json.specs.Queries.{root_of}
 use Rattle.pm_json.specs.declared.project_json.ProjectJson.{ProjectJson}
-use Rattle.pm_load.specs.Compiler.{compiler_answers}
-use Rattle.pm_load.specs.JsonDocument.{json_content, stated_sysroot}
-use Rattle.pm_load.specs.Loading.{Loading, Refuses, ◌>>=◌}
-use Rattle.pm_load.specs.declared.load_error.LoadError.{LoadError}
-use Rattle.pm_load.specs.declared.tool_answers.ToolAnswers.{ToolAnswers}
-use Rattle.pm_load.proofs.LoadingLemmas.{refuses_first}
+use Rattle.pm_lower_load.specs.Compiler.{compiler_answers}
+use Rattle.pm_lower_load.specs.JsonDocument.{json_content, stated_sysroot}
+use Rattle.pm_lower_load.specs.Loading.{Loading, Refuses, ◌>>=◌}
+use Rattle.pm_lower_load.specs.declared.load_error.LoadError.{LoadError}
+use Rattle.pm_lower_load.specs.declared.tool_answers.ToolAnswers.{ToolAnswers}
+use Rattle.pm_lower_load.proofs.LoadingLemmas.{refuses_first}
 use Rattle.pm_lower.specs.JsonProject.{inline_project, json_project}
 use Rattle.pm_lower.specs.Project.{project_of}
 use Rattle.pm_lower.specs.declared.cargo_project.Settings.{Settings}
 use Rattle.pm_lower.specs.declared.project_workspace.ProjectWorkspace.{ProjectWorkspace}
 use Rattle.pm_lower.specs.declared.project_workspace.ProjectWorkspaceKind.TheVariants.{Json}
 use Rattle.pm_lower.proofs.ProjectLemmas.{made-is, made_of, settings_kept}
-use Rattle.pm_sysroot.specs.Ask.{Means}
-use Rattle.pm_sysroot.specs.Toolchain.{Toolchain}
+use Rattle.pm_tools_ask.specs.Ask.{Means}
+use Rattle.pm_tools_ask.specs.Toolchain.{Toolchain}
 
 -- what a compiler says in the directory of a project
 pub answers-are : (sysroot stated : Toolchain) (dir root : List ℕ) (target : Option (List ℕ)) (means : Means) (answers : ToolAnswers) → sysroot ≡ stated → dir ≡ root

@@ -4,21 +4,21 @@ use Rattle.std.proofs.lemmas.List.{drop_more, take-append-drop, take_more}
 use Rattle.std.proofs.lemmas.List.Concat.{flat_map-append}
 use Rattle.std.specs.List.{flat_map}
 use Rattle.std.specs.Prelude.{IsErrOf}
-use Rattle.pm_config.specs.Progress.{TakesFront-more, TakesFront-none, TakesFront-whole, with_lines, with_lines-next, with_lines-none}
-use Rattle.pm_config.specs.declared.config.CargoConfig.{CargoConfig}
-use Rattle.pm_fetch.specs.Lines.{TakesLines}
-use Rattle.pm_fetch.proofs.Lines.{TakesLines-after, TakesLines-cut, TakesLines-same, TakesLines-stopped}
+use Rattle.base_text.specs.Progress.{TakesFront-more, TakesFront-none, TakesFront-whole, with_lines, with_lines-next, with_lines-none}
+use Rattle.pm_cargo_config.specs.declared.config.CargoConfig.{CargoConfig}
+use Rattle.pm_cargo_fetch.specs.Lines.{TakesLines}
+use Rattle.pm_cargo_fetch.proofs.Lines.{TakesLines-after, TakesLines-cut, TakesLines-same, TakesLines-stopped}
 use Rattle.pm_json.specs.declared.project_json.ProjectJson.{ProjectJson}
-use Rattle.pm_load.specs.Loading.{Loading, Refuses}
-use Rattle.pm_load.specs.Metadata.{metadata_lines}
-use Rattle.pm_load.specs.ToolAnswers.{tool_answers}
-use Rattle.pm_load.specs.declared.load_error.LoadError.{LoadError}
-use Rattle.pm_load.specs.declared.load_error.LoadError.TheVariants.{OutOfMemory}
-use Rattle.pm_load.specs.declared.tool_answers.PlatformAsked.TheVariants.{FirstTarget}
-use Rattle.pm_load.proofs.LoadingLemmas.{refused_is}
+use Rattle.pm_lower_load.specs.Loading.{Loading, Refuses}
+use Rattle.pm_lower_load.specs.Metadata.{metadata_lines}
+use Rattle.pm_lower_load.specs.ToolAnswers.{tool_answers}
+use Rattle.pm_lower_load.specs.declared.load_error.LoadError.{LoadError}
+use Rattle.pm_lower_load.specs.declared.load_error.LoadError.TheVariants.{OutOfMemory}
+use Rattle.pm_lower_load.specs.declared.tool_answers.PlatformAsked.TheVariants.{FirstTarget}
+use Rattle.pm_lower_load.proofs.LoadingLemmas.{refused_is}
 use Rattle.pm_lower.specs.Lines.{lines_of_document, lines_of_root, metadata_line, sysroot_line}
-use Rattle.pm_sysroot.specs.Ask.{Means}
-use Rattle.pm_sysroot.specs.Toolchain.{Toolchain}
+use Rattle.pm_tools_ask.specs.Ask.{Means}
+use Rattle.pm_tools_ask.specs.Toolchain.{Toolchain}
 
 -- ---- the two parts of a load
 

@@ -1,31 +1,31 @@
 -- A project is loaded step by step: each step is that of the definition, where the code's values are those of the definition.
 use Rattle.std.proofs.Common.{◌≡◌, ℕ, false, List, Option, Result, Ok, Err, refl, sym, ap, subst, ◌∙◌}
-use Rattle.outside.specs.declared.limits.Limits.{Limits}
+use Rattle.base_text_outside.specs.declared.limits.Limits.{Limits}
 use Rattle.cargo_meta.specs.declared.metadata.Metadata.{Metadata}
-use Rattle.cargo_values.specs.declared.errors.Error.{Error}
+use Rattle.cargo_meta_values.specs.declared.errors.Error.{Error}
 use Rattle.pm_cargo.specs.ReadWorkspace.{read_workspace}
 use Rattle.pm_cargo.specs.Shuffle.{IsShuffle}
 use Rattle.pm_cargo.specs.Workspace.{Workspace}
 use Rattle.pm_cargo.proofs.ShuffleLemmas.{shuffle-read}
-use Rattle.pm_config.specs.declared.config.CargoConfig.{CargoConfig}
-use Rattle.pm_load.specs.Located.{located_manifest}
-use Rattle.pm_load.specs.Loading.{Gives, Loading, Refuses, ◌>>=◌, of_fetch, of_reading, of_workspace_error}
-use Rattle.pm_load.specs.Metadata.{environment, metadata_answer}
-use Rattle.pm_load.specs.ToolAnswers.{tool_answers}
-use Rattle.pm_load.specs.declared.load_error.LoadError.{LoadError}
-use Rattle.pm_load.specs.declared.tool_answers.PlatformAsked.TheVariants.{FirstTarget}
-use Rattle.pm_load.specs.declared.tool_answers.ToolAnswers.{ToolAnswers}
-use Rattle.pm_load.proofs.LoadingLemmas.{gives_next, refuses_first, refuses_reading}
+use Rattle.pm_cargo_config.specs.declared.config.CargoConfig.{CargoConfig}
+use Rattle.pm_lower_load.specs.Located.{located_manifest}
+use Rattle.pm_lower_load.specs.Loading.{Gives, Loading, Refuses, ◌>>=◌, of_fetch, of_reading, of_workspace_error}
+use Rattle.pm_lower_load.specs.Metadata.{environment, metadata_answer}
+use Rattle.pm_lower_load.specs.ToolAnswers.{tool_answers}
+use Rattle.pm_lower_load.specs.declared.load_error.LoadError.{LoadError}
+use Rattle.pm_lower_load.specs.declared.tool_answers.PlatformAsked.TheVariants.{FirstTarget}
+use Rattle.pm_lower_load.specs.declared.tool_answers.ToolAnswers.{ToolAnswers}
+use Rattle.pm_lower_load.proofs.LoadingLemmas.{gives_next, refuses_first, refuses_reading}
 use Rattle.pm_lower.specs.Order.{IsLoadedAlike}
 use Rattle.pm_lower.specs.Project.{cargo_project, kind_of, kind_with, located_project, project_of, project_with}
 use Rattle.pm_lower.specs.declared.cargo_project.Settings.{Settings}
 use Rattle.pm_lower.specs.declared.project_workspace.ProjectWorkspace.{ProjectWorkspace}
 use Rattle.pm_lower.specs.declared.project_workspace.ProjectWorkspaceKind.{ProjectWorkspaceKind}
-use Rattle.pm_reading.specs.Reading as reading
-use Rattle.pm_reading.specs.Reading.{Reading}
-use Rattle.pm_reading.specs.declared.workspace_error.WorkspaceError.{WorkspaceError}
-use Rattle.pm_sysroot.specs.Ask.{Means}
-use Rattle.pm_sysroot.specs.Toolchain.{Toolchain}
+use Rattle.pm_cargo_reading.specs.Reading as reading
+use Rattle.pm_cargo_reading.specs.Reading.{Reading}
+use Rattle.pm_cargo_reading.specs.declared.workspace_error.WorkspaceError.{WorkspaceError}
+use Rattle.pm_tools_ask.specs.Ask.{Means}
+use Rattle.pm_tools_ask.specs.Toolchain.{Toolchain}
 
 -- ---- what is kept of the configuration
 

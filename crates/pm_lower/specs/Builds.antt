@@ -4,24 +4,24 @@ use Rattle.std.specs.FinMap.{empty}
 use Rattle.std.specs.List.{flat_map}
 use Rattle.std.specs.Option.{option_map}
 use Rattle.base_values.specs.Version.{Parts}
-use Rattle.outside.specs.declared.command.CommandLine.{CommandLine}
-use Rattle.outside.specs.declared.command.Output.{Output}
-use Rattle.pm_build.specs.Build.{build_of}
-use Rattle.pm_build.specs.Outputs.{BuildScripts, outputs_of}
-use Rattle.pm_build.specs.Reading.{Gives, Reading, ◌>>=◌}
-use Rattle.pm_build.specs.SharedBuild.{SharedBuild, scripts_for, shared_build}
-use Rattle.pm_build.specs.declared.build_error.BuildError.{BuildError}
-use Rattle.pm_build_question.specs.Question.{configured_question}
+use Rattle.base_text_outside.specs.declared.command.CommandLine.{CommandLine}
+use Rattle.base_text_outside.specs.declared.command.Output.{Output}
+use Rattle.pm_tools.specs.Build.{build_of}
+use Rattle.pm_tools.specs.Outputs.{BuildScripts, outputs_of}
+use Rattle.pm_tools.specs.Reading.{Gives, Reading, ◌>>=◌}
+use Rattle.pm_tools.specs.SharedBuild.{SharedBuild, scripts_for, shared_build}
+use Rattle.pm_tools.specs.declared.build_error.BuildError.{BuildError}
+use Rattle.pm_tools.specs.Question.{configured_question}
 use Rattle.pm_cargo.specs.Workspace.{Workspace}
-use Rattle.pm_config.specs.declared.config.CargoConfig.{CargoConfig}
-use Rattle.pm_config.specs.declared.config.InvocationStrategy.{InvocationStrategy}
-use Rattle.pm_config.specs.declared.config.InvocationStrategy.TheVariants.{Once, PerWorkspace}
+use Rattle.pm_cargo_config.specs.declared.config.CargoConfig.{CargoConfig}
+use Rattle.pm_cargo_config.specs.declared.config.InvocationStrategy.{InvocationStrategy}
+use Rattle.pm_cargo_config.specs.declared.config.InvocationStrategy.TheVariants.{Once, PerWorkspace}
 use Rattle.pm_lower.specs.ProjectWorkspace.{ScriptPart, has_cargo_workspace}
 use Rattle.pm_lower.specs.declared.project_workspace.ProjectWorkspace.{ProjectWorkspace}
 use Rattle.pm_lower.specs.declared.project_workspace.ProjectWorkspaceKind.{ProjectWorkspaceKind}
 use Rattle.pm_lower.specs.declared.project_workspace.ProjectWorkspaceKind.TheVariants.{Cargo, Json, DetachedFile}
-use Rattle.pm_sysroot.specs.Ask.{Means}
-use Rattle.pm_sysroot.specs.Toolchain.{Toolchain}
+use Rattle.pm_tools_ask.specs.Ask.{Means}
+use Rattle.pm_tools_ask.specs.Toolchain.{Toolchain}
 
 -- no outputs and no error
 abbrev pub no_scripts : BuildScripts

@@ -1,28 +1,28 @@
 -- A detached file as a load reads it, which is a Rust file that may hold its own manifest: what the tools say of it, and the project that cargo reads it as, where there is metadata. The order is that of rust-analyzer's `ProjectWorkspace::load_detached_file`.
 use Rattle.std.specs.Prelude.{ℕ, false, List, Option, Some, None, Ok, Err}
 use Rattle.std.specs.Option.{option_map}
-use Rattle.outside.specs.declared.limits.Limits.{Limits}
+use Rattle.base_text_outside.specs.declared.limits.Limits.{Limits}
 use Rattle.cargo_meta.specs.declared.metadata.Metadata.{Metadata}
-use Rattle.cargo_values.specs.Errors.{error_text}
-use Rattle.cargo_values.specs.declared.errors.Error.{Error}
+use Rattle.cargo_meta_values.specs.Errors.{error_text}
+use Rattle.cargo_meta_values.specs.declared.errors.Error.{Error}
 use Rattle.pm_cargo.specs.ReadWorkspace.{read_workspace}
 use Rattle.pm_cargo.specs.Workspace.{Workspace}
-use Rattle.pm_config.specs.declared.config.CargoConfig.{CargoConfig}
-use Rattle.pm_fetch.specs.Fetch.{FetchAnswer}
-use Rattle.pm_load.specs.Loading.{Loading, ◌>>=◌, of_reading}
-use Rattle.pm_load.specs.Metadata.{metadata_answer}
-use Rattle.pm_load.specs.ToolAnswers.{tool_answers}
-use Rattle.pm_load.specs.declared.tool_answers.PlatformAsked.TheVariants.{NoTarget}
-use Rattle.pm_load.specs.declared.tool_answers.ToolAnswers.{ToolAnswers}
+use Rattle.pm_cargo_config.specs.declared.config.CargoConfig.{CargoConfig}
+use Rattle.pm_cargo_fetch.specs.Fetch.{FetchAnswer}
+use Rattle.pm_lower_load.specs.Loading.{Loading, ◌>>=◌, of_reading}
+use Rattle.pm_lower_load.specs.Metadata.{metadata_answer}
+use Rattle.pm_lower_load.specs.ToolAnswers.{tool_answers}
+use Rattle.pm_lower_load.specs.declared.tool_answers.PlatformAsked.TheVariants.{NoTarget}
+use Rattle.pm_lower_load.specs.declared.tool_answers.ToolAnswers.{ToolAnswers}
 use Rattle.pm_lower.specs.Builds.{no_scripts}
 use Rattle.pm_lower.specs.Project.{project_of}
 use Rattle.pm_lower.specs.ProjectWorkspace.{ScriptPart}
 use Rattle.pm_lower.specs.declared.project_workspace.ProjectWorkspace.{ProjectWorkspace}
 use Rattle.pm_lower.specs.declared.project_workspace.ProjectWorkspaceKind.{ProjectWorkspaceKind}
 use Rattle.pm_lower.specs.declared.project_workspace.ProjectWorkspaceKind.TheVariants as of
-use Rattle.pm_sysroot.specs.Ask.{Means}
-use Rattle.pm_sysroot.specs.Toolchain.{Toolchain}
-use Rattle.pm_tools.specs.ConfigEnv.{config_env}
+use Rattle.pm_tools_ask.specs.Ask.{Means}
+use Rattle.pm_tools_ask.specs.Toolchain.{Toolchain}
+use Rattle.pm_tools_ask.specs.ConfigEnv.{config_env}
 
 -- the metadata that is fetched; a failed answer means that there is none
 abbrev pub metadata_or_none : FetchAnswer → Option (Metadata × Option Error)

@@ -3,22 +3,22 @@ use Rattle.std.specs.Prelude.{ℕ, Bool, ◌&&◌, false, true, List, bytes_eq, 
 use Rattle.std.specs.Cmp.Lexicographic.{pointwise}
 use Rattle.std.specs.Option.{option_eq}
 use Rattle.std.specs.Result.{result_eq}
-use Rattle.base_text.specs.PathOrder.{path_eq}
-use Rattle.base_text.specs.contracts.cfg.CfgAtomPartialEq.TheImpl as atoms
+use Rattle.base_text_paths.specs.PathOrder.{path_eq}
+use Rattle.base_text_outside.specs.contracts.cfg.CfgAtomPartialEq.TheImpl as atoms
 use Rattle.base_values.specs.contracts.version.VersionPartialEq.TheImpl as versions
-use Rattle.crate_values.specs.contracts.target.TargetDataPartialEq.TheImpl as machines
-use Rattle.crate_values.specs.contracts.target.TargetLoadErrorPartialEq.TheImpl as errors
-use Rattle.crate_values.specs.declared.target.TargetData.{TargetData}
-use Rattle.crate_values.specs.declared.target.TargetLoadError.{TargetLoadError}
-use Rattle.pm_build.specs.contracts.build_scripts.WorkspaceBuildScriptsPartialEq.TheImpl as scripts
+use Rattle.crate_graph_values.specs.contracts.target.TargetDataPartialEq.TheImpl as machines
+use Rattle.crate_graph_values.specs.contracts.target.TargetLoadErrorPartialEq.TheImpl as errors
+use Rattle.crate_graph_values.specs.declared.target.TargetData.{TargetData}
+use Rattle.crate_graph_values.specs.declared.target.TargetLoadError.{TargetLoadError}
+use Rattle.pm_tools.specs.contracts.build_scripts.WorkspaceBuildScriptsPartialEq.TheImpl as scripts
 use Rattle.pm_cargo.specs.contracts.cargo_workspace.CargoWorkspacePartialEq.TheImpl as workspaces
-use Rattle.pm_config.specs.contracts.overrides.CfgOverridesPartialEq.TheImpl as overrides
+use Rattle.pm_cargo_config.specs.contracts.overrides.CfgOverridesPartialEq.TheImpl as overrides
 use Rattle.pm_json.specs.contracts.project_json.ProjectJsonPartialEq.TheImpl as documents
 use Rattle.pm_lower.specs.ProjectWorkspace.{RustcPart, ScriptPart}
 use Rattle.pm_lower.specs.declared.project_workspace.ProjectWorkspace.{ProjectWorkspace}
 use Rattle.pm_lower.specs.declared.project_workspace.ProjectWorkspaceKind.{ProjectWorkspaceKind}
 use Rattle.pm_lower.specs.declared.project_workspace.ProjectWorkspaceKind.TheVariants.{Cargo, Json, DetachedFile}
-use Rattle.pm_sysroot.specs.contracts.sysroot.SysrootPartialEq.TheImpl as toolchains
+use Rattle.pm_tools_ask.specs.contracts.sysroot.SysrootPartialEq.TheImpl as toolchains
 
 -- whether the crates of the compiler are equal with what their builds gave, or the reasons why there are none
 abbrev pub equal_rustc : RustcPart → RustcPart → Bool

@@ -1,16 +1,16 @@
 -- A JSON project as a load reads it: the project of the document, and what the compiler of its toolchain says in its directory. The order is that of rust-analyzer's `ProjectWorkspace::load`.
 use Rattle.std.specs.Prelude.{ℕ, List, Ok}
-use Rattle.outside.specs.declared.limits.Limits.{Limits}
-use Rattle.pm_config.specs.declared.config.CargoConfig.{CargoConfig}
+use Rattle.base_text_outside.specs.declared.limits.Limits.{Limits}
+use Rattle.pm_cargo_config.specs.declared.config.CargoConfig.{CargoConfig}
 use Rattle.pm_json.specs.Queries.{root_of}
 use Rattle.pm_json.specs.declared.project_json.ProjectJson.{ProjectJson}
-use Rattle.pm_load.specs.Compiler.{compiler_answers}
-use Rattle.pm_load.specs.JsonDocument.{json_content, stated_sysroot}
-use Rattle.pm_load.specs.Loading.{Loading, ◌>>=◌}
+use Rattle.pm_lower_load.specs.Compiler.{compiler_answers}
+use Rattle.pm_lower_load.specs.JsonDocument.{json_content, stated_sysroot}
+use Rattle.pm_lower_load.specs.Loading.{Loading, ◌>>=◌}
 use Rattle.pm_lower.specs.Project.{project_of}
 use Rattle.pm_lower.specs.declared.project_workspace.ProjectWorkspace.{ProjectWorkspace}
 use Rattle.pm_lower.specs.declared.project_workspace.ProjectWorkspaceKind.TheVariants as of
-use Rattle.pm_sysroot.specs.Ask.{Means}
+use Rattle.pm_tools_ask.specs.Ask.{Means}
 
 -- a project with what the compiler of its toolchain says in its directory
 unfoldable pub inline_project : ProjectJson → CargoConfig → Means → ProjectWorkspace

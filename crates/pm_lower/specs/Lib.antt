@@ -3,8 +3,8 @@ pub mod DetachedProject
 pub mod Equality
 pub mod JsonProject
 pub mod Lines
-pub mod Project
 pub mod Order
+pub mod Project
 pub mod ProjectWorkspace
 pub mod ReadProject
 pub mod ToCrateGraph

@@ -2,26 +2,26 @@
 use Rattle.std.specs.Prelude.{ℕ, List, [], ◌∷◌, ◌++◌, codes, Option, Some, None, Ok, Err}
 use Rattle.std.specs.List.{flat_map}
 use Rattle.base_values.specs.Version.{Parts}
-use Rattle.outside.specs.declared.command.CommandLine.{CommandLine}
-use Rattle.outside.specs.declared.command.Output.{Output}
-use Rattle.outside.specs.declared.limits.Limits.{Limits}
-use Rattle.pm_build.specs.Lines.{build_lines, lines_of, shared_lines}
+use Rattle.base_text_outside.specs.declared.command.CommandLine.{CommandLine}
+use Rattle.base_text_outside.specs.declared.command.Output.{Output}
+use Rattle.base_text_outside.specs.declared.limits.Limits.{Limits}
+use Rattle.pm_tools.specs.Lines.{build_lines, lines_of, shared_lines}
 use Rattle.pm_cargo.specs.Workspace.{Workspace}
-use Rattle.pm_config.specs.declared.config.CargoConfig.{CargoConfig}
+use Rattle.pm_cargo_config.specs.declared.config.CargoConfig.{CargoConfig}
 use Rattle.pm_json.specs.declared.project_json.ProjectJson.{ProjectJson}
-use Rattle.pm_load.specs.JsonDocument.{json_content}
-use Rattle.pm_load.specs.Loading.{Loading}
-use Rattle.pm_load.specs.Located.{located_manifest}
-use Rattle.pm_load.specs.Metadata.{metadata_lines}
-use Rattle.pm_load.specs.ToolAnswers.{tool_answers}
-use Rattle.pm_load.specs.declared.tool_answers.PlatformAsked.TheVariants.{FirstTarget}
+use Rattle.pm_lower_load.specs.JsonDocument.{json_content}
+use Rattle.pm_lower_load.specs.Loading.{Loading}
+use Rattle.pm_lower_load.specs.Located.{located_manifest}
+use Rattle.pm_lower_load.specs.Metadata.{metadata_lines}
+use Rattle.pm_lower_load.specs.ToolAnswers.{tool_answers}
+use Rattle.pm_lower_load.specs.declared.tool_answers.PlatformAsked.TheVariants.{FirstTarget}
 use Rattle.pm_lower.specs.Builds.{built_workspace, command_for_all, workspaces_of}
 use Rattle.pm_lower.specs.declared.project_workspace.ProjectWorkspace.{ProjectWorkspace}
-use Rattle.pm_sysroot.specs.Ask.{Means}
-use Rattle.pm_sysroot.specs.Sysroot.{empty_sysroot}
-use Rattle.pm_sysroot.specs.Toolchain.{Toolchain}
-use Rattle.pm_tools.specs.declared.project_manifest.ProjectManifest.{ProjectManifest}
-use Rattle.pm_tools.specs.declared.project_manifest.ProjectManifest.TheVariants.{ProjectJson as Json, CargoToml, CargoScript}
+use Rattle.pm_tools_ask.specs.Ask.{Means}
+use Rattle.pm_tools_ask.specs.Sysroot.{empty_sysroot}
+use Rattle.pm_tools_ask.specs.Toolchain.{Toolchain}
+use Rattle.pm_tools_ask.specs.declared.project_manifest.ProjectManifest.{ProjectManifest}
+use Rattle.pm_tools_ask.specs.declared.project_manifest.ProjectManifest.TheVariants.{ProjectJson as Json, CargoToml, CargoScript}
 
 -- ---- loads
 

@@ -1,25 +1,25 @@
 -- A Cargo project as a load reads it: which question is asked of what, and which refusal comes first. Each step is the definition of its own call in a lower crate. The order is that of rust-analyzer's `ProjectWorkspace::load`.
 use Rattle.std.specs.Prelude.{ℕ, false, List, Option, None, Ok, Err}
 use Rattle.std.specs.Option.{option_map}
-use Rattle.outside.specs.declared.limits.Limits.{Limits}
+use Rattle.base_text_outside.specs.declared.limits.Limits.{Limits}
 use Rattle.cargo_meta.specs.declared.metadata.Metadata.{Metadata}
-use Rattle.cargo_values.specs.Errors.{error_text}
-use Rattle.cargo_values.specs.declared.errors.Error.{Error}
+use Rattle.cargo_meta_values.specs.Errors.{error_text}
+use Rattle.cargo_meta_values.specs.declared.errors.Error.{Error}
 use Rattle.pm_cargo.specs.ReadWorkspace.{read_workspace}
 use Rattle.pm_cargo.specs.Workspace.{Workspace}
-use Rattle.pm_config.specs.declared.config.CargoConfig.{CargoConfig}
-use Rattle.pm_load.specs.Located.{located_manifest}
-use Rattle.pm_load.specs.Loading.{Loading, ◌>>=◌, of_fetch, of_reading}
-use Rattle.pm_load.specs.Metadata.{environment, metadata_answer}
-use Rattle.pm_load.specs.ToolAnswers.{tool_answers}
-use Rattle.pm_load.specs.declared.tool_answers.PlatformAsked.TheVariants.{FirstTarget}
-use Rattle.pm_load.specs.declared.tool_answers.ToolAnswers.{ToolAnswers}
+use Rattle.pm_cargo_config.specs.declared.config.CargoConfig.{CargoConfig}
+use Rattle.pm_lower_load.specs.Located.{located_manifest}
+use Rattle.pm_lower_load.specs.Loading.{Loading, ◌>>=◌, of_fetch, of_reading}
+use Rattle.pm_lower_load.specs.Metadata.{environment, metadata_answer}
+use Rattle.pm_lower_load.specs.ToolAnswers.{tool_answers}
+use Rattle.pm_lower_load.specs.declared.tool_answers.PlatformAsked.TheVariants.{FirstTarget}
+use Rattle.pm_lower_load.specs.declared.tool_answers.ToolAnswers.{ToolAnswers}
 use Rattle.pm_lower.specs.Builds.{no_scripts}
 use Rattle.pm_lower.specs.declared.project_workspace.ProjectWorkspace.{ProjectWorkspace}
 use Rattle.pm_lower.specs.declared.project_workspace.ProjectWorkspaceKind.{ProjectWorkspaceKind}
 use Rattle.pm_lower.specs.declared.project_workspace.ProjectWorkspaceKind.TheVariants as of
-use Rattle.pm_sysroot.specs.Ask.{Means}
-use Rattle.pm_sysroot.specs.Toolchain.{Toolchain}
+use Rattle.pm_tools_ask.specs.Ask.{Means}
+use Rattle.pm_tools_ask.specs.Toolchain.{Toolchain}
 
 -- a workspace as a kind of project, with why the light metadata stood in, where it did; nothing is built yet
 abbrev pub kind_of : Option Error → Workspace → ProjectWorkspaceKind

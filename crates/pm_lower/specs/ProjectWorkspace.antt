@@ -1,8 +1,8 @@
 -- What is asked of a project: its manifest, its root, how many packages it has, and which files other build systems build it by. The rules are those of rust-analyzer's `ProjectWorkspace`.
 use Rattle.std.specs.Prelude.{ℕ, ◌+◌, ◌-◌, ◌^◌, min, Bool, false, true, List, [], length, flat_map, Option, Some, None, Result, Ok, Err, unwrap_or}
 use Rattle.std.specs.Option.{option_map, option_to_list}
-use Rattle.base_text.specs.Paths.{components_with_tail, path_text}
-use Rattle.pm_build.specs.Outputs.{BuildScripts}
+use Rattle.base_text_paths.specs.Paths.{components_with_tail, path_text}
+use Rattle.pm_tools.specs.Outputs.{BuildScripts}
 use Rattle.pm_cargo.specs.Workspace.{Workspace}
 use Rattle.pm_json.specs.Queries.{crates_in, manifest_of, root_of}
 use Rattle.pm_json.specs.declared.krate.Crate.{Crate}
@@ -10,9 +10,9 @@ use Rattle.pm_json.specs.declared.project_json.ProjectJson.{ProjectJson}
 use Rattle.pm_lower.specs.declared.project_workspace.ProjectWorkspace.{ProjectWorkspace}
 use Rattle.pm_lower.specs.declared.project_workspace.ProjectWorkspaceKind.{ProjectWorkspaceKind}
 use Rattle.pm_lower.specs.declared.project_workspace.ProjectWorkspaceKind.TheVariants.{Cargo, Json, DetachedFile}
-use Rattle.pm_packages.specs.ManifestPath.{directory_of}
-use Rattle.pm_sysroot.specs.declared.rust_lib_src.RustLibSrcWorkspace.{RustLibSrcWorkspace}
-use Rattle.pm_sysroot.specs.declared.rust_lib_src.RustLibSrcWorkspace.TheVariants.{Empty}
+use Rattle.base_text_paths.specs.ManifestPath.{directory_of}
+use Rattle.pm_tools_ask.specs.declared.rust_lib_src.RustLibSrcWorkspace.{RustLibSrcWorkspace}
+use Rattle.pm_tools_ask.specs.declared.rust_lib_src.RustLibSrcWorkspace.TheVariants.{Empty}
 
 -- the crates of the compiler with what their builds gave, or why there are none
 abbrev pub RustcPart : Type 0

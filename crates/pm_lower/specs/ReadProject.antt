@@ -1,16 +1,16 @@
 -- The project that a load reads of a manifest, by the kind of the manifest. The rules are those of rust-analyzer's `ProjectWorkspace::load`.
 use Rattle.std.specs.Prelude.{◌≡◌, None}
-use Rattle.outside.specs.declared.limits.Limits.{Limits}
-use Rattle.pm_config.specs.declared.config.CargoConfig.{CargoConfig}
+use Rattle.base_text_outside.specs.declared.limits.Limits.{Limits}
+use Rattle.pm_cargo_config.specs.declared.config.CargoConfig.{CargoConfig}
 use Rattle.pm_lower.specs.DetachedProject.{detached_project}
 use Rattle.pm_lower.specs.JsonProject.{json_project}
-use Rattle.pm_load.specs.Loading.{Loading}
+use Rattle.pm_lower_load.specs.Loading.{Loading}
 use Rattle.pm_lower.specs.Project.{cargo_project}
 use Rattle.pm_lower.specs.declared.project_workspace.ProjectWorkspace.{ProjectWorkspace}
-use Rattle.pm_sysroot.specs.Ask.{Means}
-use Rattle.pm_sysroot.specs.Sysroot.{empty_sysroot}
-use Rattle.pm_tools.specs.declared.project_manifest.ProjectManifest.{ProjectManifest}
-use Rattle.pm_tools.specs.declared.project_manifest.ProjectManifest.TheVariants.{ProjectJson, CargoToml, CargoScript}
+use Rattle.pm_tools_ask.specs.Ask.{Means}
+use Rattle.pm_tools_ask.specs.Sysroot.{empty_sysroot}
+use Rattle.pm_tools_ask.specs.declared.project_manifest.ProjectManifest.{ProjectManifest}
+use Rattle.pm_tools_ask.specs.declared.project_manifest.ProjectManifest.TheVariants.{ProjectJson, CargoToml, CargoScript}
 
 -- the project of a manifest, with no toolchain configured, or the first refusal
 abbrev pub read_project : ProjectManifest → CargoConfig → Limits → Means → Loading ProjectWorkspace

@@ -1,21 +1,21 @@
 -- The graph of a project's crates: the rule is the one of its kind. Sources of the standard library and of the compiler add no crates yet.
 use Rattle.std.specs.Prelude.{ℕ, List, Result, Ok, Err}
 use Rattle.crate_graph.specs.Graph.{Graph}
-use Rattle.crate_values.specs.declared.workspace_data.CrateWorkspaceData.{CrateWorkspaceData}
-use Rattle.pm_detached.specs.Lowering as detached
-use Rattle.pm_json_rows.specs.Lowering as json
-use Rattle.pm_json_rows.specs.Rows.{rows_by_place}
-use Rattle.pm_json_rows.specs.WantedEdges as json_edges
-use Rattle.pm_loader.specs.Loader.{FileNumbers}
+use Rattle.crate_graph_values.specs.declared.workspace_data.CrateWorkspaceData.{CrateWorkspaceData}
+use Rattle.pm_lower_crates.specs.DetachedLowering as detached
+use Rattle.pm_lower_crates.specs.JsonLowering as json
+use Rattle.pm_lower_crates.specs.JsonRows.{rows_by_place}
+use Rattle.pm_lower_crates.specs.JsonWantedEdges as json_edges
+use Rattle.pm_lower_crates.specs.Loader.{FileNumbers}
 use Rattle.pm_lower.specs.ProjectWorkspace.{script_workspace}
 use Rattle.pm_lower.specs.declared.project_workspace.ProjectWorkspace.{ProjectWorkspace}
 use Rattle.pm_lower.specs.declared.project_workspace.ProjectWorkspaceKind.{ProjectWorkspaceKind}
 use Rattle.pm_lower.specs.declared.project_workspace.ProjectWorkspaceKind.TheVariants.{Cargo, Json, DetachedFile}
-use Rattle.pm_rows.specs.Lowering.{Crate, HasCrates, lowering}
-use Rattle.pm_rows.specs.Refusal.{Refuses}
-use Rattle.pm_rows.specs.Rows.{parts}
-use Rattle.pm_rows.specs.WantedEdges.{Edge, wanted_edges}
-use Rattle.pm_rows.specs.declared.lower_error.LowerError.{LowerError}
+use Rattle.pm_lower_crates.specs.Lowering.{Crate, HasCrates, lowering}
+use Rattle.pm_lower_crates.specs.Refusal.{Refuses}
+use Rattle.pm_lower_crates.specs.Rows.{parts}
+use Rattle.pm_lower_crates.specs.WantedEdges.{Edge, wanted_edges}
+use Rattle.pm_lower_crates.specs.declared.lower_error.LowerError.{LowerError}
 
 -- what all crates of a project share
 abbrev pub shared_of : ProjectWorkspace → CrateWorkspaceData

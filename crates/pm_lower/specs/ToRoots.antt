@@ -2,19 +2,19 @@
 use Rattle.std.specs.Prelude.{ℕ, false, IsErr, List, [], ◌∷◌, ◌++◌, Option, Some, None}
 use Rattle.std.specs.FinMap.{get}
 use Rattle.std.specs.Option.{option_and_then, option_to_list}
-use Rattle.pm_build.specs.Outputs.{BuildScripts}
-use Rattle.pm_detached.specs.Roots as detached
-use Rattle.pm_json_rows.specs.Roots as json
+use Rattle.pm_tools.specs.Outputs.{BuildScripts}
+use Rattle.pm_lower_load.specs.DetachedRoots as detached
+use Rattle.pm_lower_load.specs.JsonRoots as json
 use Rattle.pm_lower.specs.Builds.{no_scripts}
 use Rattle.pm_lower.specs.ProjectWorkspace.{ScriptPart}
 use Rattle.pm_lower.specs.declared.project_workspace.ProjectWorkspace.{ProjectWorkspace}
 use Rattle.pm_lower.specs.declared.project_workspace.ProjectWorkspaceKind.{ProjectWorkspaceKind}
 use Rattle.pm_lower.specs.declared.project_workspace.ProjectWorkspaceKind.TheVariants.{Cargo, Json, DetachedFile}
-use Rattle.pm_roots.specs.Roots.{roots_of}
-use Rattle.pm_roots.specs.declared.package_root.PackageRoot.{PackageRoot}
-use Rattle.pm_sysroot.specs.Toolchain.{Toolchain}
-use Rattle.pm_sysroot.specs.declared.rust_lib_src.RustLibSrcWorkspace.{RustLibSrcWorkspace}
-use Rattle.pm_sysroot.specs.declared.rust_lib_src.RustLibSrcWorkspace.TheVariants.{Empty}
+use Rattle.pm_lower_load.specs.Roots.{roots_of}
+use Rattle.pm_lower_load.specs.declared.package_root.PackageRoot.{PackageRoot}
+use Rattle.pm_tools_ask.specs.Toolchain.{Toolchain}
+use Rattle.pm_tools_ask.specs.declared.rust_lib_src.RustLibSrcWorkspace.{RustLibSrcWorkspace}
+use Rattle.pm_tools_ask.specs.declared.rust_lib_src.RustLibSrcWorkspace.TheVariants.{Empty}
 
 -- the directory that the build of the package with a number wrote into, if it did
 abbrev pub out_dir_at : BuildScripts → ℕ → Option (List ℕ)

@@ -1,25 +1,23 @@
 //! Builds of projects: what they give, and a project with the outputs of one.
 
 ghost use Rattle.std.specs.Prelude.{◌≡◌, flat_map, map, IfOk, IsErr, IsErrOf, option_copied};
-ghost use Rattle.pm_build.specs.Lines.{shared_lines};
-ghost use Rattle.pm_build.specs.Packages.{lent_workspaces};
-ghost use Rattle.pm_build.specs.Reading.{Gives};
-ghost use Rattle.pm_build.specs.SharedBuild.{shared_build};
+ghost use Rattle.pm_tools.specs.Lines.{shared_lines};
+ghost use Rattle.pm_tools.specs.Packages.{lent_workspaces};
+ghost use Rattle.pm_tools.specs.Reading.{Gives};
+ghost use Rattle.pm_tools.specs.SharedBuild.{shared_build};
 ghost use Rattle.pm_lower.specs.Builds.{GivesEach, TakesBuild, all_builds, built_script, built_workspace, command_for_all, kind_share};
 ghost use Rattle.pm_lower.specs.Builds.{project_build, project_outputs, unless_light, with_build_scripts, workspaces_of};
-ghost use Rattle.pm_fetch.specs.Lines.{TakesLines};
+ghost use Rattle.pm_cargo_fetch.specs.Lines.{TakesLines};
 ghost use Rattle.pm_lower.specs.Lines.{all_build_lines, project_build_lines, project_output_lines};
-ghost use Rattle.pm_sysroot.specs.Ask.{means_of};
+ghost use Rattle.pm_tools_ask.specs.Ask.{means_of};
 
 use crate::project_workspace::{ProjectWorkspace, ProjectWorkspaceKind, ScriptWorkspace};
-use base_text::{AbsPathBuf, CommandLine, Items, Output, Runner, Text, TryClone};
-use pm_build::{BuildError, SharedBuild, WorkspaceBuildScripts};
-use pm_build_question::configured_question;
+use base_text::{AbsPathBuf, CommandLine, Items, Output, Progress, Runner, Text, Tree, TryClone};
 use pm_cargo::CargoWorkspace;
-use pm_config::{CargoConfig, InvocationStrategy, Progress};
-use pm_sysroot::Ask;
+use pm_cargo_config::{CargoConfig, InvocationStrategy};
+use pm_tools::{BuildError, SharedBuild, WorkspaceBuildScripts, configured_question};
+use pm_tools_ask::Ask;
 use std::alloc::{AllocError, Global};
-use trees::Tree;
 
 /// What a build gives a project, or why it gives nothing.
 pub type BuildResult = Result<WorkspaceBuildScripts, BuildError>;

@@ -1,28 +1,28 @@
 //! Loading a project of cargo: what is asked, and in which order.
 
 ghost use Rattle.std.specs.Prelude.{◌≡◌, IfOk, IsErrOf};
-ghost use Rattle.pm_fetch.specs.Lines.{TakesLines};
-ghost use Rattle.pm_load.specs.Loading.{Gives};
-ghost use Rattle.pm_load.specs.Metadata.{metadata_lines};
-ghost use Rattle.pm_load.specs.ToolAnswers.{tool_answers};
-ghost use Rattle.pm_load.specs.declared.tool_answers.PlatformAsked.TheVariants.{FirstTarget};
+ghost use Rattle.pm_cargo_fetch.specs.Lines.{TakesLines};
+ghost use Rattle.pm_lower_load.specs.Loading.{Gives};
+ghost use Rattle.pm_lower_load.specs.Metadata.{metadata_lines};
+ghost use Rattle.pm_lower_load.specs.ToolAnswers.{tool_answers};
+ghost use Rattle.pm_lower_load.specs.declared.tool_answers.PlatformAsked.TheVariants.{FirstTarget};
 ghost use Rattle.pm_lower.specs.Lines.{cargo_lines};
 ghost use Rattle.pm_lower.specs.Project as spec;
-ghost use Rattle.pm_sysroot.specs.Ask.{means_of};
+ghost use Rattle.pm_tools_ask.specs.Ask.{means_of};
 
 use crate::project_workspace::{ProjectWorkspace, ProjectWorkspaceKind};
-use base_text::{AbsPathBuf, Items, Limits, Runner, TryClone};
-use cargo_meta::{Error as MetadataError, Metadata};
-use pm_build::WorkspaceBuildScripts;
-use pm_cargo::{CargoWorkspace, ManifestPath};
-use pm_config::{CargoConfig, CfgOverrides, Progress};
-use pm_load::LoadError;
-use pm_load::located::located_manifest;
-use pm_load::metadata::{beside_metadata, fetch};
-use pm_load::tool_answers::{PlatformAsked, ToolAnswers, ask_tools};
-use pm_sysroot::{Ask, Sysroot};
+use base_text::{AbsPathBuf, Items, Limits, ManifestPath, Progress, Runner, Tree, TryClone};
+use cargo_meta::Metadata;
+use cargo_meta_values::Error as MetadataError;
+use pm_cargo::CargoWorkspace;
+use pm_cargo_config::{CargoConfig, CfgOverrides};
+use pm_lower_load::LoadError;
+use pm_lower_load::located::located_manifest;
+use pm_lower_load::metadata::{beside_metadata, fetch};
+use pm_lower_load::tool_answers::{PlatformAsked, ToolAnswers, ask_tools};
+use pm_tools::WorkspaceBuildScripts;
+use pm_tools_ask::{Ask, Sysroot};
 use std::alloc::{AllocError, Global};
-use trees::Tree;
 
 /// What a project keeps of its configuration.
 #[derive(Drop)]

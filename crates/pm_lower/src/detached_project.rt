@@ -2,29 +2,28 @@
 
 ghost use Rattle.std.specs.Prelude.{◌≡◌, IfOk, option_copied};
 ghost use Rattle.std.specs.Option.{option_map};
-ghost use Rattle.cargo_values.specs.Errors.{error_text};
-ghost use Rattle.pm_load.specs.Loading.{Gives};
-ghost use Rattle.pm_load.specs.Metadata.{metadata_answer};
+ghost use Rattle.cargo_meta_values.specs.Errors.{error_text};
+ghost use Rattle.pm_lower_load.specs.Loading.{Gives};
+ghost use Rattle.pm_lower_load.specs.Metadata.{metadata_answer};
 ghost use Rattle.pm_lower.specs.DetachedProject as spec;
 ghost use Rattle.pm_lower.specs.DetachedProject.{metadata_or_none, script_with};
-ghost use Rattle.pm_sysroot.specs.Ask.{means_of};
-ghost use Rattle.pm_tools.specs.ConfigEnv.{config_env};
+ghost use Rattle.pm_tools_ask.specs.Ask.{means_of};
+ghost use Rattle.pm_tools_ask.specs.ConfigEnv.{config_env};
 
 use crate::cargo_project::{Settings, project_of, settings_of};
 use crate::project_workspace::{ProjectWorkspace, ProjectWorkspaceKind, ScriptWorkspace};
-use base_text::{Limits, Runner, Text, TryClone};
-use cargo_meta::{Error as MetadataError, Metadata};
-use crate_graph::Env;
-use pm_build::WorkspaceBuildScripts;
-use pm_cargo::{CargoWorkspace, ManifestPath};
-use pm_config::{CargoConfig, Quiet};
-use pm_load::LoadError;
-use pm_load::metadata::{error_text, fetch};
-use pm_load::tool_answers::{PlatformAsked, ToolAnswers, ask_tools};
-use pm_sysroot::{Ask, Sysroot};
-use pm_tools::{CargoConfigFile, cargo_config_env};
+use base_text::{Limits, ManifestPath, Quiet, Runner, Text, Tree, TryClone};
+use cargo_meta::Metadata;
+use cargo_meta_values::Error as MetadataError;
+use crate_graph_values::Env;
+use pm_cargo::CargoWorkspace;
+use pm_cargo_config::CargoConfig;
+use pm_lower_load::LoadError;
+use pm_lower_load::metadata::{error_text, fetch};
+use pm_lower_load::tool_answers::{PlatformAsked, ToolAnswers, ask_tools};
+use pm_tools::WorkspaceBuildScripts;
+use pm_tools_ask::{Ask, CargoConfigFile, Sysroot, cargo_config_env};
 use std::alloc::{AllocError, Global};
-use trees::Tree;
 
 // The metadata of a file, if there is any: most files hold no manifest.
 #[tactic(auto, using(crate::proofs::DetachedLemmas::none_fetched))]

@@ -1,27 +1,25 @@
 //! Loading a JSON project: the project of its document, and what the compiler of its toolchain says.
 
 ghost use Rattle.std.specs.Prelude.{◌≡◌, ◌∷◌, [], IfOk, IsErr, IsErrOf};
-ghost use Rattle.pm_fetch.specs.Lines.{TakesLines};
+ghost use Rattle.pm_cargo_fetch.specs.Lines.{TakesLines};
 ghost use Rattle.pm_json.specs.Queries.{root_of};
-ghost use Rattle.pm_load.specs.Compiler.{compiler_answers};
-ghost use Rattle.pm_load.specs.JsonDocument as stated;
-ghost use Rattle.pm_load.specs.Loading.{Gives};
+ghost use Rattle.pm_lower_load.specs.Compiler.{compiler_answers};
+ghost use Rattle.pm_lower_load.specs.JsonDocument as stated;
+ghost use Rattle.pm_lower_load.specs.Loading.{Gives};
 ghost use Rattle.pm_lower.specs.JsonProject as spec;
 ghost use Rattle.pm_lower.specs.Lines.{lines_of_document, metadata_line, sysroot_line};
-ghost use Rattle.pm_sysroot.specs.Ask.{means_of};
+ghost use Rattle.pm_tools_ask.specs.Ask.{means_of};
 
 use crate::cargo_project::{Settings, project_of, settings_of};
 use crate::project_workspace::{ProjectWorkspace, ProjectWorkspaceKind};
-use base_text::{Limits, Runner};
-use pm_cargo::ManifestPath;
-use pm_config::{CargoConfig, Progress};
+use base_text::{Limits, ManifestPath, Progress, Runner, Tree};
+use pm_cargo_config::CargoConfig;
 use pm_json::ProjectJson;
-use pm_load::LoadError;
-use pm_load::json_document::{json_content, stated_sysroot};
-use pm_load::tool_answers::{ToolAnswers, ask_compiler};
-use pm_sysroot::{Ask, Sysroot};
+use pm_lower_load::LoadError;
+use pm_lower_load::json_document::{json_content, stated_sysroot};
+use pm_lower_load::tool_answers::{ToolAnswers, ask_compiler};
+use pm_tools_ask::{Ask, Sysroot};
 use std::alloc::{AllocError, Global};
-use trees::Tree;
 
 // The toolchain that a project states, and what its compiler says in the project's directory.
 fn ask_stated<R: Runner, T: Tree, P: Progress>(

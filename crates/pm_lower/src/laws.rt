@@ -2,7 +2,7 @@
 
 ghost use Rattle.std.specs.Prelude.{◌≡◌};
 ghost use Rattle.cargo_meta.specs.declared.metadata.Metadata.{Metadata};
-ghost use Rattle.pm_build.specs.Outputs.{BuildScripts};
+ghost use Rattle.pm_tools.specs.Outputs.{BuildScripts};
 ghost use Rattle.pm_cargo.specs.Shuffle.{IsShuffle};
 ghost use Rattle.pm_lower.specs.Builds.{with_build_scripts};
 ghost use Rattle.pm_lower.specs.Equality.{equal_except_builds, is_equal_to_itself};

@@ -11,10 +11,8 @@ pub mod project_workspace;
 mod to_crate_graph;
 mod to_roots;
 
-pub use pm_load::LoadError;
-pub use pm_loader::{Loader, MapLoader};
-pub use pm_roots::PackageRoot;
-pub use pm_rows::LowerError;
+pub use pm_lower_crates::{Loader, LowerError, MapLoader};
+pub use pm_lower_load::{LoadError, PackageRoot};
 pub use project_workspace::{
     ProjectWorkspace, ProjectWorkspaceKind, RustcWorkspace, ScriptWorkspace,
 };

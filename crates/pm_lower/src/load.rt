@@ -1,23 +1,21 @@
 //! Loading a project by the kind of its manifest.
 
 ghost use Rattle.std.specs.Prelude.{IsErrOf};
-ghost use Rattle.pm_fetch.specs.Lines.{TakesLines};
-ghost use Rattle.pm_load.specs.Loading.{Gives};
+ghost use Rattle.pm_cargo_fetch.specs.Lines.{TakesLines};
+ghost use Rattle.pm_lower_load.specs.Loading.{Gives};
 ghost use Rattle.pm_lower.specs.Lines.{load_lines};
 ghost use Rattle.pm_lower.specs.ReadProject.{IsPlain, read_project};
-ghost use Rattle.pm_sysroot.specs.Ask.{means_of};
+ghost use Rattle.pm_tools_ask.specs.Ask.{means_of};
 
 use crate::cargo_project::cargo_project;
 use crate::detached_project::detached_project;
 use crate::json_project::json_project;
 use crate::project_workspace::ProjectWorkspace;
-use base_text::{Limits, Runner};
-use pm_config::{CargoConfig, Progress};
-use pm_load::LoadError;
-use pm_sysroot::{Ask, Sysroot};
-use pm_tools::ProjectManifest;
+use base_text::{Limits, Progress, Runner, Tree};
+use pm_cargo_config::CargoConfig;
+use pm_lower_load::LoadError;
+use pm_tools_ask::{Ask, ProjectManifest, Sysroot};
 use std::alloc::Global;
-use trees::Tree;
 
 impl ProjectWorkspace {
     /// Loads the project of a manifest. `progress` takes a line for each part of a project of cargo and of a JSON

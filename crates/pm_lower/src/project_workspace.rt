@@ -1,20 +1,22 @@
 //! A project as its load read it.
 
 ghost use Rattle.std.specs.Prelude.{◌≡◌, ◌-◌, ◌^◌, length, min, IfOk, option_copied};
-ghost use Rattle.base_text.specs.AbsPath.{abs_text};
+ghost use Rattle.base_text_paths.specs.AbsPath.{abs_text};
 ghost use Rattle.pm_lower.specs.Equality.{equal_except_builds, equal_kinds};
 ghost use Rattle.pm_lower.specs.ProjectWorkspace as spec;
 ghost use Rattle.pm_lower.specs.ProjectWorkspace.{is_json_kind, json_buildfiles, kind_buildfiles, kind_manifest, kind_manifest_or_root};
 ghost use Rattle.pm_lower.specs.ProjectWorkspace.{kind_root, package_count, rustc_packages, script_packages, script_workspace};
 
-use base_text::{AbsPath, AbsPathBuf, Boxed, CfgAtom, Items, Text, TryClone, Version};
-use crate_graph::target::TargetLoadResult;
-use pm_build::WorkspaceBuildScripts;
-use pm_cargo::{CargoWorkspace, ManifestPath};
-use pm_config::CfgOverrides;
+use base_text::{
+    AbsPath, AbsPathBuf, Boxed, CfgAtom, Items, ManifestPath, Text, TryClone, Version,
+};
+use crate_graph_values::target::TargetLoadResult;
+use pm_cargo::CargoWorkspace;
+use pm_cargo_config::CfgOverrides;
 use pm_json::ProjectJson;
-use pm_load::tool_answers::copy_target;
-use pm_sysroot::{RustLibSrcWorkspace, Sysroot};
+use pm_lower_load::tool_answers::copy_target;
+use pm_tools::WorkspaceBuildScripts;
+use pm_tools_ask::{RustLibSrcWorkspace, Sysroot};
 use std::alloc::{AllocError, Global};
 
 /// The crates of the compiler, with what their builds gave.

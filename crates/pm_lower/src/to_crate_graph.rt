@@ -4,21 +4,18 @@ ghost use Rattle.std.specs.Prelude.{◌≡◌, IfOk};
 ghost use Rattle.std.specs.BTreeMap as tree;
 ghost use Rattle.pm_lower.specs.ToCrateGraph.{IsGraphOf, kind_lowering, kind_wants, project_lowering, shared_of};
 ghost use Rattle.pm_lower.specs.ToRoots.{HasNoRustc};
-ghost use Rattle.pm_rows.specs.Lowering.{IsLowered, LacksCyclesAlone};
+ghost use Rattle.pm_lower_crates.specs.Lowering.{IsLowered, LacksCyclesAlone};
 
 use crate::project_workspace::{ProjectWorkspace, ProjectWorkspaceKind, script_workspace};
-use base_text::{Limits, Runner, TryClone};
-use crate_graph::{CrateGraphBuilder, CrateWorkspaceData, ProcMacroPaths};
-use pm_detached::lower_detached;
-use pm_json_rows::lower_json;
-use pm_load::tool_answers::copy_target;
-use pm_loader::Loader;
-use pm_rows::{LowerError, lower_cargo};
-use pm_sysroot::Ask;
+use base_text::{Limits, Runner, Tree, TryClone};
+use crate_graph::CrateGraphBuilder;
+use crate_graph_values::{CrateWorkspaceData, ProcMacroPaths};
+use pm_lower_crates::{Loader, LowerError, lower_cargo, lower_detached, lower_json};
+use pm_lower_load::tool_answers::copy_target;
+use pm_tools_ask::Ask;
 use std::alloc::{AllocError, Global};
 use std::collections::BTreeMap;
 use std::rc::Rc;
-use trees::Tree;
 
 // What all crates of a project share.
 fn shared_of(alloc: Global, project: &ProjectWorkspace) -> Result<CrateWorkspaceData, AllocError>

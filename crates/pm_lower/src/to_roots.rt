@@ -2,16 +2,15 @@
 
 ghost use Rattle.std.specs.Prelude.{◌≡◌, ◌++◌, IfErr, IfOk, OnOk};
 ghost use Rattle.pm_lower.specs.ToRoots.{HasNoRustc, kind_roots, project_roots, script_roots, source_root, sysroot_roots};
-ghost use Rattle.pm_reading.specs.declared.workspace_error.WorkspaceError.TheVariants.{OutOfMemory};
+ghost use Rattle.pm_cargo_reading.specs.declared.workspace_error.WorkspaceError.TheVariants.{OutOfMemory};
 
 use crate::project_workspace::{ProjectWorkspace, ProjectWorkspaceKind, ScriptWorkspace};
-use base_text::{AbsPath, AbsPathBuf, Items};
-use pm_build::WorkspaceBuildScripts;
-use pm_cargo::{ManifestPath, Package, WorkspaceError};
-use pm_detached::detached_roots;
-use pm_json_rows::json_roots;
-use pm_roots::{OutDirs, PackageRoot, cargo_roots};
-use pm_sysroot::{RustLibSrcWorkspace, Sysroot};
+use base_text::{AbsPath, AbsPathBuf, Items, ManifestPath};
+use pm_cargo_packages::Package;
+use pm_cargo_reading::WorkspaceError;
+use pm_lower_load::{OutDirs, PackageRoot, cargo_roots, detached_roots, json_roots};
+use pm_tools::WorkspaceBuildScripts;
+use pm_tools_ask::{RustLibSrcWorkspace, Sysroot};
 use std::alloc::{AllocError, Global};
 
 // The directories that build scripts wrote into.

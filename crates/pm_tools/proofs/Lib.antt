@@ -1,5 +1,10 @@
-pub mod ConfigEnv
+mod ArtifactLemmas
 pub mod Equalities
-pub mod Names
-pub mod Orders
-pub mod RelativeRoots
+mod FeatureLemmas
+mod LibraryLemmas
+mod LineLemmas
+mod OutputLemmas
+mod PackageLemmas
+mod ReadingLemmas
+mod ScriptLemmas
+mod SharedLemmas

@@ -1,21 +1,39 @@
-//! Laws for callers' proofs. Each is a function that changes nothing: its contract is the law.
+//! Laws for callers' proofs. Each is a function that does nothing: its contract is the law.
 
-ghost use Rattle.std.specs.Prelude.{◌≡◌, ◌↔◌, true};
-ghost use Rattle.base_text.specs.Paths.{IsClean};
-ghost use Rattle.pm_tools.specs.declared.project_manifest.ProjectManifest.{ProjectManifest};
-ghost use Rattle.pm_tools.specs.Manifest.{manifest_cmp, manifest_path};
+ghost use Rattle.std.specs.Prelude.{◌≡◌};
+ghost use Rattle.crate_graph_values.specs.Laws.{IsContentEqualityOn};
+ghost use Rattle.pm_tools.specs.Laws.{HasCleanLibrary, HasCleanPaths, HaveCleanPaths};
+ghost use Rattle.pm_tools.specs.declared.output.ProcMacroDylibPath.{ProcMacroDylibPath};
+ghost use Rattle.pm_tools.specs.declared.output.ProcMacroDylibPath.TheVariants.{NotBuilt};
 
-use crate::project_manifest::ProjectManifest;
+use crate::build_scripts::WorkspaceBuildScripts;
+use crate::output::{BuildScriptOutput, ProcMacroDylibPath};
 
-/// Manifests are equal exactly where their kinds and the texts of their paths are the same. Each
-/// path's text is clean.
-pub fn equality_of_manifests_is_content()
-    ensures { (x y : ProjectManifest) → IsClean (manifest_path x) → IsClean (manifest_path y)
-        → (⟦<ProjectManifest as PartialEq>⟧.eq x y ≡ true) ↔ (x ≡ y) }
+/// Of a package of which nothing is said, nothing was built.
+pub fn default_library_is_not_built()
+    ensures { (path : ProcMacroDylibPath)
+        → ⟦<ProcMacroDylibPath as Default>⟧.is_default path → path ≡ NotBuilt }
 {}
 
-/// Manifests are ordered by their kinds, as these are searched for: a JSON project, a `Cargo.toml`, a
-/// script. Those of one kind are ordered by the components of their paths.
-pub fn manifests_are_ordered_by_kind()
-    ensures { (x y : ProjectManifest) → ⟦<ProjectManifest as Ord>⟧.cmp x y ≡ manifest_cmp x y }
+/// What is known of two libraries is equal exactly where it is the same, with the same path. Each path's text
+/// is clean.
+pub fn equality_of_libraries_is_content()
+    ensures { IsContentEqualityOn HasCleanLibrary ⟦<ProcMacroDylibPath as PartialEq>⟧.eq }
 {}
+
+/// Two outputs are equal exactly where all that they hold is. Each path's text is clean.
+pub fn equality_of_outputs_is_content()
+    ensures { IsContentEqualityOn HasCleanPaths ⟦<BuildScriptOutput as PartialEq>⟧.eq }
+{
+    equality_of_libraries_is_content();
+    base_text_paths::laws::equality_is_content();
+    crate_graph_values::laws::equality_of_environments_is_content();
+}
+
+/// What two builds give is equal exactly where the same packages have the same outputs, and the errors are the
+/// same. Each path's text is clean.
+pub fn equality_of_build_scripts_is_content()
+    ensures { IsContentEqualityOn HaveCleanPaths ⟦<WorkspaceBuildScripts as PartialEq>⟧.eq }
+{
+    equality_of_outputs_is_content();
+}

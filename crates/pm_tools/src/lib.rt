@@ -1,17 +1,31 @@
-//! Manifests of projects, the configuration that cargo prints for one, and the environment that it
-//! gives.
+//! What is asked of tools and what they answer: builds of workspaces, and what their build scripts and procedural macros give. The
+//! questions about toolchains, manifests and configurations are found here too.
 #![tactic(auto)]
 
-pub mod cargo_config_file;
-pub mod config_env;
-pub mod config_question;
+mod artifact;
+pub mod build_command;
+pub mod build_error;
+pub mod build_scripts;
+mod features;
 pub mod laws;
+mod library;
+mod lines;
+pub mod output;
+mod outputs;
+mod packages;
 pub mod project_json_from_command;
-pub mod project_manifest;
-mod relative_roots;
+mod script;
+pub mod shared_build;
+mod words_of_build;
 
-pub use cargo_config_file::CargoConfigFile;
-pub use config_env::cargo_config_env;
-pub use pm_sysroot::{Ask, RustLibSrcWorkspace, Sysroot};
+pub use build_command::{build_question, configured_question};
+pub use build_error::BuildError;
+pub use build_scripts::WorkspaceBuildScripts;
+pub use output::{BuildScriptOutput, ProcMacroDylibPath};
+pub use pm_tools_ask::{
+    Ask, BadManifest, CargoConfigFile, ProjectManifest, RustLibSrcWorkspace, Sysroot,
+    cargo_config_env,
+};
+pub use pm_tools_info::{QueryConfig, QueryError, rustc_cfg, target_data, target_tuple, version};
 pub use project_json_from_command::ProjectJsonFromCommand;
-pub use project_manifest::{BadManifest, ProjectManifest};
+pub use shared_build::SharedBuild;

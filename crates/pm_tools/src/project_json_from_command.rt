@@ -1,7 +1,7 @@
 //! What a command of another build system gives in place of a manifest.
 
 use base_text::{AbsPathBuf, TryClone};
-use pm_json_data::ProjectJsonData;
+use pm_json::ProjectJsonData;
 use std::alloc::{AllocError, Global};
 
 /// A JSON project that a command printed, and the file of the build system that it was printed for.

@@ -3,8 +3,8 @@ use Rattle.std.proofs.Common.{◌≡◌, ℕ, Bool, true, false, List, [], ◌�
 use Rattle.std.proofs.lemmas.List.Elements.{All-from_recursion, recursion_from_All, All-take, All-push}
 use Rattle.std.specs.List.{All, AllByRecursion, fold}
 use Rattle.std.specs.Prelude.{codes, bytes_eq}
-use Rattle.base_text.specs.Paths.{components, path_text, resolve, resolved_components, without_last, IsClean}
-use Rattle.base_text.proofs.Resolving.{resolved_again}
+use Rattle.base_text_paths.specs.Paths.{components, path_text, resolve, resolved_components, without_last, IsClean}
+use Rattle.base_text_paths.proofs.Resolving.{resolved_again}
 use Rattle.vfs_core.specs.RealPath.{IsNormal}
 
 -- a component that is not `..`

@@ -7,10 +7,10 @@ use Rattle.std.proofs.lemmas.List.Sums.{suffix_len_is}
 use Rattle.std.proofs.Math.Seq.{drop-append-add, get_or-append_right, get_or-append_seam, take-append_seam}
 use Rattle.std.specs.List.{after_last, before_last, list_any, suffix_len}
 use Rattle.std.specs.Prelude.{codes, bytes_eq}
-use Rattle.base_text.specs.FileName.{extension_of, is_dot, stem_of}
-use Rattle.base_text.specs.Paths.{is_slash}
-use Rattle.base_text.specs.Rows.{IsCutAtLast, Lacks}
-use Rattle.base_text.proofs.Dots.{before_at_cut as before_dot, before_lacking, extension_none, stem_whole}
+use Rattle.base_text_paths.specs.FileName.{extension_of, is_dot, stem_of}
+use Rattle.base_text_paths.specs.Paths.{is_slash}
+use Rattle.base_text_paths.specs.Rows.{IsCutAtLast, Lacks}
+use Rattle.base_text_paths.proofs.Dots.{before_at_cut as before_dot, before_lacking, extension_none, stem_whole}
 use Rattle.vfs_core.specs.VirtualPath.{climb, last_name, virtual_parent, without_end_slash, without_dots}
 
 -- texts that differ are distinguished

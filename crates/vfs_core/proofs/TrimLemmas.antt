@@ -11,9 +11,9 @@ use Rattle.std.proofs.lemmas.List.Splits.{join_with_byte-slice_split, length-sli
 use Rattle.std.proofs.lemmas.Str.Pattern.{NoCharPasses-char}
 use Rattle.std.specs.List.{after_first, before_first, filter, join_with_byte, onto_first, position_or_len, slice_split}
 use Rattle.std.specs.Str.{NoCharPasses}
-use Rattle.base_text.specs.Paths.{components, is_component, is_prefix, is_slash}
-use Rattle.base_text.specs.Rows.{IsCutAtLast, Lacks}
-use Rattle.base_text.proofs.Cuts.{Lacks-from_reads}
+use Rattle.base_text_paths.specs.Paths.{components, is_component, is_prefix, is_slash}
+use Rattle.base_text_paths.specs.Rows.{IsCutAtLast, Lacks}
+use Rattle.base_text_paths.proofs.Cuts.{Lacks-from_reads}
 use Rattle.vfs_core.specs.RealPath.{is_text_prefix}
 use Rattle.vfs_core.specs.VirtualPath.{trim_back, from_component, trim_front, parts_behind, text_behind, virtual_rest, TakesComponent}
 

@@ -5,9 +5,9 @@ pub mod FileState
 pub mod Files
 pub mod Hash
 pub mod Marks
-pub mod VfsPathOrder
 pub mod RealPath
 pub mod Texts
 pub mod VfsError
 pub mod VfsPath
+pub mod VfsPathOrder
 pub mod VirtualPath

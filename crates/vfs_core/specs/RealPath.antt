@@ -2,8 +2,8 @@
 use Rattle.std.specs.Prelude.{◌≡◌, ℕ, Bool, List, Option}
 use Rattle.std.specs.Borrow.{Bor}
 use Rattle.std.specs.Option.{option_copied, option_map}
-use Rattle.base_text.specs.FileName.{extension_of, stem_of}
-use Rattle.base_text.specs.Paths.{components, components_with_tail, file_name, is_prefix, normal, path_text, resolved_components, text_below, IsClean}
+use Rattle.base_text_paths.specs.FileName.{extension_of, stem_of}
+use Rattle.base_text_paths.specs.Paths.{components, components_with_tail, file_name, is_prefix, normal, path_text, resolved_components, text_below, IsClean}
 
 -- the text is that of its components, and resolving them changes nothing
 pub record IsNormal (text : List ℕ) : Type 0 where

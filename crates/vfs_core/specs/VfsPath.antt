@@ -5,7 +5,7 @@ use Rattle.std.specs.Option.{option_map}
 use Rattle.std.specs.declared.cmp.Ordering.{Ordering}
 use Rattle.std.specs.Ordering.{bool_cmp, eq_of_both, nat_cmp, on, then_cmp}
 use Rattle.std.specs.Cmp.Lexicographic.{pointwise, slice_cmp}
-use Rattle.base_text.specs.Paths.{components, parent_text, without_last}
+use Rattle.base_text_paths.specs.Paths.{components, parent_text, without_last}
 use Rattle.vfs_core.specs.RealPath.{is_text_prefix, real_joined_text}
 use Rattle.vfs_core.specs.VirtualPath.{virtual_parent, virtual_joined}
 use Rattle.vfs_core.specs.declared.vfs_path.repr.VfsPathRepr.{VfsPathRepr}

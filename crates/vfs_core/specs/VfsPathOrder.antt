@@ -7,8 +7,8 @@ use Rattle.std.specs.Cmp.Lexicographic.{lists_total, nat_list_cmp_total, nat_lis
 use Rattle.std.specs.declared.cmp.Ordering.{Ordering}
 use Rattle.std.specs.declared.cmp.Ordering.TheVariants.{Less, Equal, Greater}
 use Rattle.std.specs.Ordering.{as_partial_cmp, bool_cmp, eq_by_cmp, is_eq, nat_cmp, ordering_then}
-use Rattle.base_text.specs.PathOrder.{path_cmp, path_ties}
-use Rattle.base_text.specs.Paths.{components, path_text, IsClean}
+use Rattle.base_text_paths.specs.PathOrder.{path_cmp, path_ties}
+use Rattle.base_text_paths.specs.Paths.{components, path_text, IsClean}
 use Rattle.vfs_core.specs.VfsPath.{PathContent, vfs_path_cmp, vfs_path_eq, real_parts}
 
 -- both of two tests that hold together

@@ -3,8 +3,8 @@ use Rattle.std.specs.Prelude.{◌≡◌, ℕ, zero, suc, ◌-◌, ◌<◌, ◌==
 use Rattle.std.specs.Borrow.{Bor}
 use Rattle.std.specs.List.{after_last, before_last, join_with_byte, list_any, slice_split}
 use Rattle.std.specs.Option.{option_and_then, option_map}
-use Rattle.base_text.specs.FileName.{extension_of, stem_of}
-use Rattle.base_text.specs.Paths.{components, is_component, is_slash}
+use Rattle.base_text_paths.specs.FileName.{extension_of, stem_of}
+use Rattle.base_text_paths.specs.Paths.{components, is_component, is_slash}
 use Rattle.vfs_core.specs.RealPath.{is_text_prefix}
 
 -- what stands before the last slash, if there is one

@@ -1,6 +1,6 @@
 //! Paths that are relative to a file, which says in which file system, and where in it, they start.
 
-use base_text::{FileId, Text, TryClone};
+use base_text_paths::{FileId, Text, TryClone};
 use std::alloc::{AllocError, Global};
 
 /// A path behind the directory of a file.

@@ -5,7 +5,7 @@ ghost use Rattle.vfs_core.specs.Batch.{exists_after, is_creation, is_creation_or
 ghost use Rattle.vfs_core.specs.FileState.{state_by};
 
 use crate::file_state::FileState;
-use base_text::{FileId, Items, TryClone};
+use base_text_paths::{FileId, Items, TryClone};
 use std::alloc::{AllocError, Global};
 
 /// What became of a file.

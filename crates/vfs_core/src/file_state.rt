@@ -7,7 +7,7 @@ ghost use Rattle.vfs_core.specs.declared.file_state.FileState.TheVariants.{Exist
 
 use crate::changed_file::Change;
 use crate::hash::content_hash;
-use base_text::Items;
+use base_text_paths::Items;
 
 /// The state of a file. Contents are known by their hash alone.
 #[derive(Clone, Copy, Debug, PartialEq, Eq)]

@@ -6,6 +6,7 @@ pub mod changed_file;
 pub mod file_state;
 pub mod hash;
 pub mod laws;
+pub mod loader;
 pub mod marks;
 mod real_path;
 pub mod vfs;
@@ -15,7 +16,7 @@ mod virtual_parts;
 mod virtual_path;
 
 pub use anchored_path::{AnchoredPath, AnchoredPathBuf};
-pub use base_text::{FileId, RelPath};
+pub use base_text_paths::{FileId, RelPath};
 pub use changed_file::{Change, ChangeKind, ChangedFile};
 pub use file_state::{FileExcluded, FileState};
 pub use hash::content_hash;

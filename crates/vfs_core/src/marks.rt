@@ -6,7 +6,7 @@ ghost use Rattle.vfs_core.specs.Marks.{is_out, kept_text, kept_text_after, leave
 
 use crate::hash::content_hash;
 use crate::vfs_path::VfsPath;
-use base_text::{Text, TryClone};
+use base_text_paths::{Text, TryClone};
 use std::alloc::{AllocError, Global};
 
 /// What a mark says of its file.

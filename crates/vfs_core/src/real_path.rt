@@ -4,12 +4,12 @@ ghost use Rattle.std.specs.Prelude.{◌≡◌, ◌↔◌, IfOk, IsFalse, codes};
 ghost use Rattle.std.specs.Option.{option_copied, option_map};
 ghost use Rattle.std.specs.Cmp.Lexicographic.{slice_cmp};
 ghost use Rattle.std.specs.Ordering.{nat_cmp, ordering_then};
-ghost use Rattle.base_text.specs.AbsPath.{abs_text, rel_text};
-ghost use Rattle.base_text.specs.Paths.{components, normal, parent_text, path_text, without_last};
+ghost use Rattle.base_text_paths.specs.AbsPath.{abs_text, rel_text};
+ghost use Rattle.base_text_paths.specs.Paths.{components, normal, parent_text, path_text, without_last};
 ghost use Rattle.vfs_core.specs.RealPath.{is_text_prefix, name_texts, stem_and_extension, real_joined_text, real_rest};
 ghost use Rattle.vfs_core.specs.RealPath.{IsNormal};
 
-use base_text::{AbsPath, AbsPathBuf, RelPath, TryClone};
+use base_text_paths::{AbsPath, AbsPathBuf, RelPath, TryClone};
 use std::alloc::{AllocError, Global};
 use std::cmp::Ordering;
 use std::marker::Model;

@@ -18,7 +18,7 @@ use crate::changed_file::{Change, ChangedFile};
 use crate::file_state::{FileExcluded, FileState};
 use crate::vfs_iter::VfsIter;
 use crate::vfs_path::VfsPath;
-use base_text::FileId;
+use base_text_paths::FileId;
 use indexmap::IndexMap;
 use std::alloc::{AllocError, AllocFailed, Global};
 use std::error::Error;

@@ -7,7 +7,7 @@ ghost use Rattle.vfs_core.specs.Files.{existing_files_from, numbered_path};
 
 use crate::file_state::FileState;
 use crate::vfs_path::VfsPath;
-use base_text::FileId;
+use base_text_paths::FileId;
 use indexmap::map::Iter;
 use std::marker::Model;
 

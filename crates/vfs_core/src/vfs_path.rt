@@ -4,7 +4,7 @@
 ghost use Rattle.std.specs.Prelude.{◌≡◌, ◌↔◌, IfOk, IsFalse, None, Some, codes, if◌then◌else◌, is_some, string_bytes, unwrap_or};
 ghost use Rattle.std.specs.Option.{option_copied, option_map};
 ghost use Rattle.std.specs.Result.{IsErrOf};
-ghost use Rattle.base_text.specs.Paths.{components, normal, path_text, IsAbsolute};
+ghost use Rattle.base_text_paths.specs.Paths.{components, normal, path_text, IsAbsolute};
 
 mod repr;
 mod traits;
@@ -12,7 +12,7 @@ mod traits;
 use crate::real_path::RealPath;
 use crate::vfs_path::repr::VfsPathRepr;
 use crate::virtual_path::VirtualPath;
-use base_text::{AbsPath, AbsPathBuf, PathError, RelPath};
+use base_text_paths::{AbsPath, AbsPathBuf, PathError, RelPath};
 use std::alloc::{AllocError, Global};
 use std::marker::Model;
 
@@ -31,7 +31,7 @@ impl Model for VfsPath {
 }
 
 impl VfsPath {
-    ghost use Rattle.base_text.specs.AbsPath.{abs_text, rel_text};
+    ghost use Rattle.base_text_paths.specs.AbsPath.{abs_text, rel_text};
     ghost use Rattle.vfs_core.specs.RealPath.{name_texts, real_rest, stem_and_extension, IsNormal};
     ghost use Rattle.vfs_core.specs.VfsPath.{is_path_prefix, parts_above, real, real_above, text_above, virtual, virtual_above};
     ghost use Rattle.vfs_core.specs.VfsPath.{AreOfTwoKinds, AreReal, AreVirtual, IsReal, IsVirtual, JoinsReal, JoinsVirtual};

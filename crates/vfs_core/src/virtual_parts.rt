@@ -2,14 +2,14 @@
 
 ghost use Rattle.std.specs.Prelude.{◌≡◌, ◌<◌, [], MatchOption};
 ghost use Rattle.std.specs.Option.{option_copied, option_map};
-ghost use Rattle.base_text.specs.FileName.{extension_of, stem_of};
-ghost use Rattle.base_text.specs.Paths.{components};
+ghost use Rattle.base_text_paths.specs.FileName.{extension_of, stem_of};
+ghost use Rattle.base_text_paths.specs.Paths.{components};
 ghost use Rattle.vfs_core.specs.RealPath.{name_texts};
 ghost use Rattle.vfs_core.specs.VirtualPath.{trim_back, both_texts, climb, trim_front, last_name, virtual_parent};
 ghost use Rattle.vfs_core.specs.VirtualPath.{without_end_slash, virtual_stem_and_extension, virtual_rest, without_dots};
 ghost use Rattle.vfs_core.specs.VirtualPath.{TakesComponent};
 
-use base_text::paths::{is_component, split_last};
+use base_text_paths::paths::{is_component, split_last};
 
 /// What stands before the last slash.
 pub(crate) fn parent_of(text: &str) -> Option<&str>

@@ -8,8 +8,8 @@ ghost use Rattle.vfs_core.specs.RealPath.{is_text_prefix, name_texts};
 ghost use Rattle.vfs_core.specs.VirtualPath.{virtual_parent, virtual_joined, virtual_stem_and_extension, virtual_rest};
 
 use crate::virtual_parts::{climb, name_and_extension, parent_of, rest_below, without_dots};
-use base_text::TryClone;
-use base_text::paths::split_last;
+use base_text_paths::TryClone;
+use base_text_paths::paths::split_last;
 use std::alloc::{AllocError, Global};
 use std::cmp::Ordering;
 use std::marker::Model;

@@ -1,7 +1,7 @@
 -- What placing adds to a count of steps: one path, and files one after the other.
 use Rattle.std.proofs.Common.{◌≡◌, ℕ, zero, suc, ◌+◌, ◌≤◌, List, [], ◌∷◌, ◌++◌, Result, Ok, Err, ap, append_assoc, arith, length, refl, subst, sym, zero-add, ◌∙◌}
 use Rattle.std.specs.Prelude.{OnErr}
-use Rattle.outside.specs.Causes.{next_count}
+use Rattle.base_text_outside.specs.Causes.{next_count}
 use Rattle.vfs_core.specs.VfsPath.{PathContent}
 use Rattle.vfs_sets.specs.Placement.{placed_text}
 use Rattle.vfs_sets.specs.Probes.{CountsFiles, CountsFront, CountsPlacing, CountsProbes, RaisesAtMost, most_probes, prefixes_tried, raised_by}

@@ -8,7 +8,7 @@ use Rattle.std.specs.HashMap.{HashMap, Updates}
 use Rattle.std.specs.List.{list_any, position_from}
 use Rattle.std.specs.Map.{KeepsOthers}
 use Rattle.std.specs.Str.{bytes_eq}
-use Rattle.outside.specs.Causes.{next_count}
+use Rattle.base_text_outside.specs.Causes.{next_count}
 use Rattle.vfs_core.specs.VfsPath.{PathContent}
 use Rattle.vfs_sets.specs.Probes.{raised_by}
 use Rattle.vfs_sets.specs.RootMaps.{MapsRoots, PutsRoot, PutsRootsOf, is_root_of, number_at}

@@ -1,7 +1,7 @@
 -- What stands beside a path, by its kind.
 use Rattle.std.proofs.Common.{◌≡◌, ℕ, Bool, true, false, List, Option, refl, ◌∙◌, ap}
 use Rattle.std.specs.Option.{unwrap_or}
-use Rattle.base_text.specs.Paths.{path_text}
+use Rattle.base_text_paths.specs.Paths.{path_text}
 use Rattle.vfs_core.specs.VfsPath.{PathContent, parts_above, real, virtual, IsReal, IsVirtual, JoinsReal, JoinsVirtual}
 use Rattle.vfs_core.specs.VirtualPath.{virtual_parent}
 use Rattle.vfs_sets.specs.FileSet.{sibling_path, directory, joined_path}

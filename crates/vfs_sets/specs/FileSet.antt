@@ -6,7 +6,7 @@ use Rattle.std.specs.List.{fold}
 use Rattle.std.specs.Map.{lookup}
 use Rattle.std.specs.Option.{option_and_then, option_map, unwrap_or}
 use Rattle.std.specs.Ordering.{eq_of_both, on}
-use Rattle.base_text.specs.Paths.{path_text}
+use Rattle.base_text_paths.specs.Paths.{path_text}
 use Rattle.indexmap.specs.IndexMap.{insert_entry}
 use Rattle.vfs_core.specs.VfsPathOrder.{vfs_path_equiv}
 use Rattle.vfs_core.specs.VfsPath.{PathContent, parts_above, vfs_path_eq, real, real_joined, virtual}

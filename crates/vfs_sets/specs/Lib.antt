@@ -1,3 +1,4 @@
+pub mod FileRoots
 pub mod FileSet
 pub mod Partition
 pub mod Placement

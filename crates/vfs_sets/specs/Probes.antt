@@ -2,7 +2,7 @@
 -- down to the longest root that fits, or through all of them where none does.
 use Rattle.std.specs.Prelude.{◌≡◌, ◌≤◌, ◌+◌, ℕ, zero, suc, List, [], ◌∷◌, ◌++◌, length, nat_le}
 use Rattle.std.specs.List.{filter}
-use Rattle.outside.specs.Causes.{next_count}
+use Rattle.base_text_outside.specs.Causes.{next_count}
 use Rattle.vfs_core.specs.VfsPath.{PathContent}
 use Rattle.vfs_sets.specs.Placement.{FitsNoRoot, IsFit, placed_text}
 

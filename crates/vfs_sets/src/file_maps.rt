@@ -5,12 +5,12 @@ ghost use Rattle.std.specs.Option.{option_copied};
 ghost use Rattle.vfs_sets.specs.FileSet.{empty_set, file_at, files_eq, path_of, set_of, with_file};
 ghost use Rattle.vfs_sets.specs.Rows.{ComparesNext, rows_content};
 
-use base_text::{TryClone, copy_entries};
+use base_text_paths::{FileId, TryClone, copy_entries};
 use indexmap::IndexMap;
 use indexmap::map::Iter;
 use std::alloc::{AllocError, Global};
 use std::marker::Model;
-use vfs_core::{FileId, VfsPath};
+use vfs_core::VfsPath;
 
 /// The file of each path, and the path of each file.
 #[derive(Debug, Drop)]

@@ -5,10 +5,10 @@ ghost use Rattle.std.specs.Option.{option_copied};
 ghost use Rattle.vfs_sets.specs.FileSet.{empty_set, file_at, path_of, set_of, with_file};
 ghost use Rattle.vfs_sets.specs.Rows.{rows_content, HasRoomFor};
 
-use base_text::{TryClone, copy_items};
+use base_text_paths::{FileId, TryClone, copy_items};
 use std::alloc::{AllocError, Global};
 use std::marker::Model;
-use vfs_core::{FileId, VfsPath};
+use vfs_core::VfsPath;
 
 /// The most files that are kept as rows. To compare the paths of more costs more than maps do.
 const MOST: usize = 2;

@@ -9,10 +9,10 @@ ghost use Rattle.vfs_sets.specs.FileSet.{sibling_path, empty_set, file_at, numbe
 use crate::file_maps::FileMaps;
 use crate::file_rows::FileRows;
 use crate::file_set_iter::FileSetIter;
-use base_text::TryClone;
+use base_text_paths::{FileId, TryClone};
 use std::alloc::{AllocError, Global};
 use std::marker::Model;
-use vfs_core::{AnchoredPath, FileId, VfsPath};
+use vfs_core::{AnchoredPath, VfsPath};
 
 /// A set of files. One path may be given to several files, and one file several paths: the last of each counts.
 #[derive(Debug, Drop)]

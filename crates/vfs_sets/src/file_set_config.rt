@@ -12,11 +12,11 @@ use crate::file_set::FileSet;
 use crate::place::placed_text;
 use crate::root_map::{longest_root, map_roots, number_of_longest_prefix};
 use crate::roots::roots;
-use base_text::{Counter, Items, Ledger, Steps, TryClone, copy_items};
+use base_text_paths::{Counter, FileId, Items, Ledger, Steps, TryClone, copy_items};
 use std::alloc::{AllocError, Global};
 use std::collections::HashMap;
 use std::marker::Model;
-use vfs_core::{FileId, Vfs, VfsPath};
+use vfs_core::{Vfs, VfsPath};
 
 /// Gathers the roots of sets, which are numbered in the order in which they come.
 #[derive(Drop)]

@@ -6,9 +6,10 @@ ghost use Rattle.std.specs.Map.{keys_of};
 ghost use Rattle.std.specs.Map.Iter.{TakesFirst};
 ghost use Rattle.vfs_sets.specs.FileSet.{number_shown};
 
+use base_text_paths::FileId;
 use indexmap::map;
 use std::marker::Model;
-use vfs_core::{FileId, VfsPath};
+use vfs_core::VfsPath;
 
 /// The files of a set, in order of first insertion.
 #[derive(Drop)]

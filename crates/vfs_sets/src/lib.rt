@@ -2,6 +2,7 @@
 #![tactic(auto)]
 
 mod file_maps;
+pub mod file_root;
 mod file_rows;
 pub mod file_set;
 pub mod file_set_config;
@@ -11,6 +12,7 @@ mod place;
 mod root_map;
 mod roots;
 
+pub use file_root::FileRoot;
 pub use file_set::FileSet;
 pub use file_set_config::{FileSetConfig, FileSetConfigBuilder};
 pub use file_set_iter::FileSetIter;

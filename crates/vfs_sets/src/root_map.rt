@@ -3,7 +3,7 @@
 ghost use Rattle.std.specs.Prelude.{◌≡◌, IfOk, MatchOption, OnOk};
 ghost use Rattle.vfs_sets.specs.RootMaps.{HasNoPrefix, HasTextsUpTo, IsOfLongestPrefix, MapsRoots, PutsRoot, PutsRootsOf, longest_text, longest_text_of_all};
 
-use base_text::{Items, Ledger, Steps};
+use base_text_paths::{Items, Ledger, Steps};
 use std::alloc::{AllocError, Global};
 use std::collections::HashMap;
 use vfs_core::VfsPath;

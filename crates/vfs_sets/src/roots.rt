@@ -4,7 +4,7 @@ ghost use Rattle.std.specs.Prelude.{◌≡◌, IfOk, OnOk};
 ghost use Rattle.vfs_sets.specs.Placement.{encoding};
 ghost use Rattle.vfs_sets.specs.Roots.{AreRoots, PutsRoots};
 
-use base_text::Items;
+use base_text_paths::Items;
 use std::alloc::{AllocError, Global};
 use std::collections::BTreeMap;
 use vfs_core::VfsPath;

@@ -8,12 +8,12 @@ use Rattle.json_fields.specs.Outcome.{Reading}
 use Rattle.json_fields.specs.RoundTrip.{RoundTrips}
 use Rattle.json_fields.specs.Written.{is_null, list_data, option_data}
 use Rattle.cargo_meta.specs.Metadata.{metadata_at, metadata_data, metadata_from, metadata_members}
-use Rattle.cargo_values.specs.Names.{package_id_data}
-use Rattle.cargo_values.specs.Resolve.{resolve_data-present}
-use Rattle.cargo_values.specs.declared.names.PackageId.{PackageId}
-use Rattle.cargo_values.specs.laws.Names.{package_id-round_trips}
+use Rattle.cargo_meta_values.specs.Names.{package_id_data}
+use Rattle.cargo_meta_values.specs.Resolve.{resolve_data-present}
+use Rattle.cargo_meta_values.specs.declared.names.PackageId.{PackageId}
+use Rattle.cargo_meta_values.specs.laws.Names.{package_id-round_trips}
 use Rattle.cargo_meta.specs.laws.Package.{package-round_trips}
-use Rattle.cargo_values.specs.laws.Resolve.{resolve-round_trips}
+use Rattle.cargo_meta_values.specs.laws.Resolve.{resolve-round_trips}
 
 -- no default members are left out, and read as none
 none-or_not : (ids : Option (List PackageId))

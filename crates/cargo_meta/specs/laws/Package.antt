@@ -9,15 +9,15 @@ use Rattle.json_fields.specs.Laws.Rows.{required_member-set_member, optional_mem
 use Rattle.json_fields.specs.Laws.RoundTrips.{AreWithin, AreWritten, ReadsAs, and_then, any-round_trips, at_last, default_member-kept, list-round_trips, list_member-kept, map-round_trips, no_members-written, optional_member-kept, required_member-kept, set_member-written, set_unless_null-written, table-round_trips, text-round_trips, weaker}
 use Rattle.json_fields.specs.Laws.TextForms.{bare-round_trips, version-round_trips}
 use Rattle.json_fields.specs.RoundTrip.{IsKept, RoundTrips}
-use Rattle.cargo_values.specs.Kinds.{edition_of}
+use Rattle.cargo_meta_values.specs.Kinds.{edition_of}
 use Rattle.cargo_meta.specs.NewPackage.{new_package}
 use Rattle.cargo_meta.specs.Package.{body_from, body_set, head_from, head_rows, head_set, of_head, package_at, package_data, package_from, package_members, tail_from, tail_set}
-use Rattle.cargo_values.specs.declared.kinds.Edition.TheVariants.{E2015}
+use Rattle.cargo_meta_values.specs.declared.kinds.Edition.TheVariants.{E2015}
 use Rattle.cargo_meta.specs.declared.package.Package.{Package}
-use Rattle.cargo_values.specs.laws.Dependency.{dependency-round_trips}
-use Rattle.cargo_values.specs.laws.Kinds.{edition-round_trips}
-use Rattle.cargo_values.specs.laws.Names.{package_id-round_trips, source-round_trips}
-use Rattle.cargo_values.specs.laws.Target.{target-round_trips}
+use Rattle.cargo_meta_values.specs.laws.Dependency.{dependency-round_trips}
+use Rattle.cargo_meta_values.specs.laws.Kinds.{edition-round_trips}
+use Rattle.cargo_meta_values.specs.laws.Names.{package_id-round_trips, source-round_trips}
+use Rattle.cargo_meta_values.specs.laws.Target.{target-round_trips}
 
 -- a package with the first rows of another, and otherwise new
 abbrev with_head : Package → Package

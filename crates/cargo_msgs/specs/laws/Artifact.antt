@@ -6,8 +6,8 @@ use Rattle.json_fields.specs.Fields.{default_member, optional_member, required_m
 use Rattle.json_fields.specs.Laws.RoundTrips.{AreWithin, and_then, at_last, default_member-kept, flag-round_trips, list-round_trips, no_members-written, optional_member-kept, required_member-kept, set_member-written, table-round_trips, text-round_trips}
 use Rattle.json_fields.specs.RoundTrip.{RoundTrips}
 use Rattle.json_fields.specs.Written.{set_member}
-use Rattle.cargo_values.specs.laws.Names.{package_id-round_trips}
-use Rattle.cargo_values.specs.laws.Target.{target-round_trips}
+use Rattle.cargo_meta_values.specs.laws.Names.{package_id-round_trips}
+use Rattle.cargo_meta_values.specs.laws.Target.{target-round_trips}
 use Rattle.cargo_msgs.specs.Artifact.{artifact_at, artifact_data, artifact_from, profile_at, profile_data}
 use Rattle.cargo_msgs.specs.Debuginfo.{debuginfo_numbered}
 use Rattle.cargo_msgs.specs.laws.Debuginfo.{debuginfo-round_trips}

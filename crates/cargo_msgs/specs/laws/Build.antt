@@ -7,7 +7,7 @@ use Rattle.json_fields.specs.Laws.Pairs.{pair-round_trips}
 use Rattle.json_fields.specs.Laws.RoundTrips.{AreWithin, and_then, at_last, default_member-kept, flag-round_trips, list-round_trips, no_members-written, required_member-kept, set_member-written, table-round_trips, text-round_trips}
 use Rattle.json_fields.specs.RoundTrip.{RoundTrips}
 use Rattle.json_fields.specs.Written.{set_member}
-use Rattle.cargo_values.specs.laws.Names.{package_id-round_trips}
+use Rattle.cargo_meta_values.specs.laws.Names.{package_id-round_trips}
 use Rattle.cargo_msgs.specs.Build.{build_finished_at, build_finished_data, build_finished_from, build_script_at, build_script_data, build_script_from}
 
 -- build scripts

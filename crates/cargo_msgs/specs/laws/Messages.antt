@@ -10,9 +10,9 @@ use Rattle.json_fields.specs.Laws.RoundTrips.{AreWithin, AreWritten, ReadsAs, an
 use Rattle.json_fields.specs.Outcome.{Reading}
 use Rattle.json_fields.specs.RoundTrip.{IsKept, RoundTrips}
 use Rattle.json_fields.specs.Written.{set_member}
-use Rattle.cargo_values.specs.laws.Names.{package_id-round_trips}
-use Rattle.cargo_values.specs.laws.Target.{target-round_trips}
-use Rattle.cargo_diagnostics.specs.laws.Diagnostic.{diagnostic-round_trips}
+use Rattle.cargo_meta_values.specs.laws.Names.{package_id-round_trips}
+use Rattle.cargo_meta_values.specs.laws.Target.{target-round_trips}
+use Rattle.cargo_msgs.specs.laws.Diagnostic.{diagnostic-round_trips}
 use Rattle.cargo_msgs.specs.Artifact.{artifact_at, artifact_data, artifact_from}
 use Rattle.cargo_msgs.specs.Build.{build_finished_at, build_finished_data, build_finished_from, build_script_at, build_script_data, build_script_from}
 use Rattle.cargo_msgs.specs.Messages.{compiler_message_at, compiler_message_data, compiler_message_from, message_at, message_by, message_data, message_from, with_reason}

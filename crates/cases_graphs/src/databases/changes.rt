@@ -7,7 +7,7 @@ use crate::making::graph_of;
 use base_text::{FileId, Items, TryClone};
 use cases::{Case, Fault, List, is_copied, text_answer};
 use input_db::{Crate, FileChange, InputDb, SourceDatabase, SourceRoot};
-use pages::{crate_entries, page};
+use live_page::{crate_entries, page};
 use serde_json::Value;
 use std::alloc::{AllocError, Global};
 use vfs_core::VfsPath;

@@ -2,11 +2,11 @@
 //! identities and inputs compare.
 
 use crate::databases::changes::make_given;
-use base_text::{FileId, TryClone};
+use base_text::{Boxed, FileId, TryClone};
 use cases::{Case, Fault, List, Object, copied_answer, optional_answer, texts_of_pair};
 use crate_graph::ReleaseChannel;
 use input_db::{
-    Boxed, Crate, CrateInput, Durability, InputDb, SourceDatabase, SourceRootId, UniqueCrateData,
+    Crate, CrateInput, Durability, InputDb, SourceDatabase, SourceRootId, UniqueCrateData,
     crates_have_source_roots, relevant_crates, set_all_crates_with_durability, source_root_crates,
     toolchain_channel,
 };

@@ -1,8 +1,8 @@
 //! Counts of steps and numbers that rise, each at the bound of its trait, and the greatest limits.
 
 ghost use Rattle.std.specs.Prelude.{◌≡◌};
-ghost use Rattle.outside.specs.Causes.{next_count};
-ghost use Rattle.outside.specs.Nonce.{nonce_of};
+ghost use Rattle.base_text_outside.specs.Causes.{next_count};
+ghost use Rattle.base_text_outside.specs.Nonce.{nonce_of};
 
 use crate::arenas::number_answer;
 use base_text::{Counter, Ledger, Limits, NonceSource, Numbers, Steps, TryClone};

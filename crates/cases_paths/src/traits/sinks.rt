@@ -3,10 +3,10 @@
 use crate::traits::broken::{Broken, Unflushed};
 use crate::traits::numbers;
 use base_text::{ByteSink, FaultSink, MemorySink, SinkError, write_all};
+use base_text_outside::WriterSink;
 use cases::{Case, Fault, List, Object, bytes_answer, print_answer};
 use serde_json::Value;
 use std::alloc::Global;
-use streams::WriterSink;
 
 /// What a sink has after writes of whole pieces.
 pub fn answer(alloc: Global, case: Case<'_>) -> Result<Value, Fault> {

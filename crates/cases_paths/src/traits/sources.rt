@@ -6,10 +6,10 @@ ghost use Rattle.std.specs.Io.KnownBytes.{ReadConsumes};
 use crate::traits::broken::Broken;
 use crate::traits::numbers;
 use base_text::{ByteSource, Failed, FaultSource, MemorySource};
+use base_text_outside::ReaderSource;
 use cases::{Case, Fault, List};
 use serde_json::Value;
 use std::alloc::Global;
-use streams::ReaderSource;
 
 /// What reads of a source give, one after another, into a buffer that is filled with dots before the first.
 pub fn answer(alloc: Global, case: Case<'_>) -> Result<Value, Fault> {

@@ -1,9 +1,8 @@
 //! What is configured of a build.
 
 use base_text::{Items, Text};
-use case_tools::features_of;
-use cases::{Case, Fault, optional_path, optional_text, texts, variables};
-use pm_config::{CargoConfig, TargetDirectoryConfig};
+use cases::{Case, Fault, features_of, optional_path, optional_text, texts, variables};
+use pm_cargo_config::{CargoConfig, TargetDirectoryConfig};
 use std::alloc::Global;
 
 /// The configuration of a case. What the case leaves out is not configured.

@@ -2,11 +2,10 @@
 
 use crate::values::workspace_of;
 use crate::workspace_builds::build_config::{command_of, config_of};
-use case_tools::{Given, given_of, optional_version};
-use cases::{Case, Fault, absolute, line_answer};
-use pm_build_question::{build_question, configured_question};
+use cases::{Case, Fault, Given, absolute, given_of, line_answer, optional_version};
 use pm_cargo::CargoWorkspace;
-use pm_config::CargoConfig;
+use pm_cargo_config::CargoConfig;
+use pm_tools::{build_question, configured_question};
 use serde_json::Value;
 use std::alloc::Global;
 

@@ -3,11 +3,10 @@
 use crate::values::workspace_of;
 use crate::workspace_builds::build_config::config_of;
 use crate::workspace_builds::outputs::given_answer;
-use case_tools::{Given, Lines, given_of, optional_version};
-use cases::{Case, Fault};
-use pm_build::WorkspaceBuildScripts;
+use cases::{Case, Fault, Given, Lines, given_of, optional_version};
 use pm_cargo::CargoWorkspace;
-use pm_config::CargoConfig;
+use pm_cargo_config::CargoConfig;
+use pm_tools::WorkspaceBuildScripts;
 use serde_json::Value;
 use std::alloc::Global;
 

@@ -1,15 +1,13 @@
 //! What a build's output gives packages.
 
 use crate::values::workspace_of;
-use base_text::{AbsPathBuf, ArenaMap, Output};
-use case_tools::{Lines, env_answer};
+use base_text::{AbsPathBuf, ArenaMap, Output, Quiet};
 use cases::{
-    Case, Fault, List, Object, atoms_answer, copied_answer, is_copied, optional_text, output_of,
-    print_answer, text_answer,
+    Case, Fault, Lines, List, Object, atoms_answer, copied_answer, env_answer, is_copied,
+    optional_text, output_of, print_answer, text_answer,
 };
-use pm_build::{BuildError, BuildScriptOutput, ProcMacroDylibPath, WorkspaceBuildScripts};
 use pm_cargo::CargoWorkspace;
-use pm_config::Quiet;
+use pm_tools::{BuildError, BuildScriptOutput, ProcMacroDylibPath, WorkspaceBuildScripts};
 use serde_json::Value;
 use std::alloc::Global;
 

@@ -1,8 +1,7 @@
 //! What a workspace is asked: by paths, by the names of its packages and by their features.
 
 use base_text::AbsPath;
-use case_tools::manifest_of;
-use cases::{Case, Fault, List, absolute};
+use cases::{Case, Fault, List, absolute, manifest_of};
 use pm_cargo::{CargoWorkspace, Package};
 use serde_json::Value;
 use std::alloc::Global;

@@ -1,7 +1,7 @@
 //! Documents: what is written of what was read, or the first place that does not fit.
 
 use cases::{Case, Fault, absolute, copied_answer, error_answer, is_copied, missed_answer};
-use pm_json_data::{Error, ProjectJsonData};
+use pm_json::{Error, ProjectJsonData};
 use pm_tools::ProjectJsonFromCommand;
 use serde_json::Value;
 use std::alloc::Global;

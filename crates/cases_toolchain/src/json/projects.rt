@@ -2,15 +2,15 @@
 
 use crate::json::crates::{build_answer, crate_answer};
 use crate::json::documents::refusal;
-use base_text::{AbsPath, Limits};
-use case_tools::manifest_of;
+use base_text::{AbsPath, Limits, ManifestPath};
 use cases::{
-    Case, Fault, List, Object, absolute, error_answer, is_copied, paths_answer, text_answer,
+    Case, Fault, List, Object, absolute, error_answer, is_copied, manifest_of, paths_answer,
+    text_answer,
 };
 use json_fields::TextJson;
-use pm_json::{Crate, CrateArrayIdx, ProjectJson, RunnableKind, WorkspaceJsonError};
-use pm_json_data::ProjectJsonData;
-use pm_packages::ManifestPath;
+use pm_json::{
+    Crate, CrateArrayIdx, ProjectJson, ProjectJsonData, RunnableKind, WorkspaceJsonError,
+};
 use serde_json::Value;
 use std::alloc::Global;
 

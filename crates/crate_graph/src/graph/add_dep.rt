@@ -4,10 +4,10 @@
 ghost use Rattle.std.specs.Prelude.{◌≡◌, ◌+◌, ◌<◌, ◌≤◌, [], ◌∷◌, ◌++◌, length, map};
 ghost use Rattle.std.specs.Prelude.{IfErr, OnErr, OnOk};
 ghost use Rattle.std.specs.Result.{MatchResult};
-ghost use Rattle.base_text.specs.Arena.{number_of};
+ghost use Rattle.base_text_paths.specs.Arena.{number_of};
 ghost use Rattle.graph_base.specs.Reach.{IsPathBack, Reaches};
-ghost use Rattle.graph_order.specs.Insertion.{CountsVisits, most_visits};
-ghost use Rattle.graph_order.specs.Placing.{FitsOrder, Rearranges};
+ghost use Rattle.crate_graph.specs.Insertion.{CountsVisits, most_visits};
+ghost use Rattle.crate_graph.specs.Placing.{FitsOrder, Rearranges};
 ghost use Rattle.crate_graph.specs.Cyclic.{names, numbers, shown_of};
 ghost use Rattle.crate_graph.specs.Refused.{IfCyclic};
 ghost use Rattle.crate_graph.specs.Graph.{AddsDependency, HasDependency};
@@ -15,10 +15,11 @@ ghost use Rattle.crate_graph.specs.Graph.{edges, target_of};
 
 use crate::cyclic::{AddDepError, CyclicDependenciesError};
 use crate::graph::CrateGraphBuilder;
-use base_text::Items;
-use crate_values::{CrateBuilder, CrateBuilderId, DependencyBuilder};
-use graph_order::{Marks, Order, Placement};
-use outside::{Counter, Ledger, Steps};
+use crate::insertion::Marks;
+use crate::order::Order;
+use crate::placing::Placement;
+use base_text_paths::{Counter, Items, Ledger, Steps};
+use crate_graph_values::{CrateBuilder, CrateBuilderId, DependencyBuilder};
 use std::alloc::{AllocError, Global};
 use std::mem;
 

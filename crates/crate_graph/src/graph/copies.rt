@@ -1,8 +1,8 @@
 //! Copies of graphs.
 
 use crate::graph::CrateGraphBuilder;
-use base_text::{TryClone, copy_items};
-use graph_order::Marks;
+use crate::insertion::Marks;
+use base_text_paths::{TryClone, copy_items};
 use std::alloc::{AllocError, Global};
 
 impl TryClone for CrateGraphBuilder {

@@ -4,7 +4,7 @@ ghost use Rattle.std.specs.Prelude.{◌≡◌, ◌↔◌, ◌⊎◌, ◌<◌, le
 ghost use Rattle.std.specs.Prelude.{IfOk, IsErrOf, IsSome, OnErr};
 ghost use Rattle.std.specs.BTreeMap as tree;
 ghost use Rattle.std.specs.List.{All};
-ghost use Rattle.base_text.specs.Arena.{number_of};
+ghost use Rattle.base_text_paths.specs.Arena.{number_of};
 ghost use Rattle.crate_graph.specs.Extend.{HoldsBoth, Id, Merges, PassesLimit, moved_entry, new_id};
 
 mod macros;
@@ -13,7 +13,7 @@ mod places;
 
 use crate::graph::renaming::ids_of_numbers;
 use crate::graph::{CrateGraphBuilder, GraphError};
-use crate_values::{CrateBuilder, CrateBuilderId, ProcMacroPaths};
+use crate_graph_values::{CrateBuilder, CrateBuilderId, ProcMacroPaths};
 use std::alloc::Global;
 use std::collections::BTreeMap;
 

@@ -4,19 +4,19 @@ ghost use Rattle.std.specs.Prelude.{◌≡◌, ◌↔◌, ℕ, ◌<◌, ◌^◌,
 ghost use Rattle.std.specs.Prelude.{IfOk, IsTrue, OnErr, OnOk, slice_index_or};
 ghost use Rattle.std.specs.List.{All, list_all, range_with_len};
 ghost use Rattle.std.specs.Option.{option_map};
-ghost use Rattle.base_text.specs.Arena.{number_of};
+ghost use Rattle.base_text_paths.specs.Arena.{number_of};
 ghost use Rattle.graph_base.specs.Kept.{IsClosed, is_named, kept_below, kept_rows};
-ghost use Rattle.graph_order.specs.Order.{IsOrderOf};
-ghost use Rattle.graph_order.specs.Suborder.{kept_nodes, new_number};
+ghost use Rattle.crate_graph.specs.Order.{IsOrderOf};
+ghost use Rattle.crate_graph.specs.Suborder.{kept_nodes, new_number};
 ghost use Rattle.crate_graph.specs.Graph.{edges, row_of, target_of};
 ghost use Rattle.crate_graph.specs.Prune.{KeepsNamed, Stays, kept_crates, number_at};
 ghost use Rattle.crate_graph.specs.Prune.{renumbered_crate};
 
 use crate::graph::CrateGraphBuilder;
 use crate::graph::renaming::renamed_dependencies;
-use base_text::TryClone;
-use crate_values::{CrateBuilder, CrateBuilderId};
-use graph_order::Order;
+use crate::order::Order;
+use base_text_paths::TryClone;
+use crate_graph_values::{CrateBuilder, CrateBuilderId};
 use std::alloc::{AllocError, Global};
 
 impl CrateGraphBuilder {

@@ -2,13 +2,13 @@
 
 ghost use Rattle.std.specs.Prelude.{◌≡◌, ◌↔◌, ℕ, ◌<◌, length, map, IfOk};
 ghost use Rattle.std.specs.List.{Contains};
-ghost use Rattle.base_text.specs.Arena.{number_of};
+ghost use Rattle.base_text_paths.specs.Arena.{number_of};
 ghost use Rattle.graph_base.specs.Edges.{IsAscending};
 ghost use Rattle.graph_base.specs.Reach.{Reaches};
 ghost use Rattle.crate_graph.specs.Graph.{edges};
 
 use crate::graph::CrateGraphBuilder;
-use crate_values::CrateBuilderId;
+use crate_graph_values::CrateBuilderId;
 use std::alloc::{AllocError, Global};
 
 impl CrateGraphBuilder {

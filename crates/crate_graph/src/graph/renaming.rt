@@ -4,14 +4,14 @@ ghost use Rattle.std.specs.Prelude.{◌≡◌, ◌^◌, ◌<◌, length, map, sl
 ghost use Rattle.std.specs.BTreeMap as tree;
 ghost use Rattle.std.specs.List.{All};
 ghost use Rattle.std.specs.Option.{option_map};
-ghost use Rattle.base_text.specs.Arena.{number_of};
+ghost use Rattle.base_text_paths.specs.Arena.{number_of};
 ghost use Rattle.base_values.specs.Sorted.{sorted};
 ghost use Rattle.crate_graph.specs.Extend.{Id, by_number, with_dependencies, with_sorted_dependencies, with_new_ids, new_id_at};
 ghost use Rattle.crate_graph.specs.Graph.{target_of};
-ghost use Rattle.crate_values.specs.Laws.{renamed_dependency};
+ghost use Rattle.crate_graph_values.specs.Laws.{renamed_dependency};
 
-use base_text::{Items, TryClone};
-use crate_values::{CrateBuilder, CrateBuilderId, DependencyBuilder};
+use base_text_paths::{Items, TryClone};
+use crate_graph_values::{CrateBuilder, CrateBuilderId, DependencyBuilder};
 use std::alloc::{AllocError, Global};
 use std::collections::BTreeMap;
 

@@ -4,7 +4,7 @@ ghost use Rattle.std.specs.Prelude.{◌≡◌, ◌<◌, IfOk, OnOk, length};
 ghost use Rattle.input_db.specs.FinishSteps.{is_first_of_root, none_finished, with_finished};
 
 use crate::crate_input::Crate;
-use base_text::FileId;
+use base_text_paths::FileId;
 use indexmap::IndexSet;
 use std::alloc::{AllocError, Global};
 use std::marker::Model;

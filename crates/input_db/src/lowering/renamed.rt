@@ -3,13 +3,13 @@
 ghost use Rattle.std.specs.Prelude.{◌≡◌, ◌<◌, IfOk, if◌then◌else◌, length, map};
 ghost use Rattle.std.specs.List.{All};
 ghost use Rattle.crate_graph.specs.Graph.{target_of};
-ghost use Rattle.crate_values.specs.Laws.{renamed_dependency};
+ghost use Rattle.crate_graph_values.specs.Laws.{renamed_dependency};
 ghost use Rattle.input_db.specs.Identity.{full_identity, data_of, input_of, number_in, root_identity};
 
 use crate::crate_input::{BuiltCrateData, BuiltDependency, Crate, CrateInput, UniqueCrateData};
-use base_text::{Boxed, Items, TryClone};
-use crate_graph::{CrateBuilder, DependencyBuilder};
-use source_files::Durability;
+use base_text_paths::{Boxed, Items, TryClone};
+use crate_graph_values::{CrateBuilder, DependencyBuilder};
+use input_db_files::Durability;
 use std::alloc::{AllocError, Global};
 
 // A dependency by its number in the database.

@@ -6,10 +6,10 @@ use Rattle.std.specs.List.{after_first, before_first, list_any, position_or_len}
 use Rattle.std.specs.Prelude.{slice_range}
 use Rattle.std.specs.Option.{option_map}
 use Rattle.std.specs.Result.{IfOk}
-use Rattle.base_text.proofs.CfgLemmas.{with_last}
-use Rattle.base_text.specs.Cfg.{atom_of, is_equals, text_of, unquote}
-use Rattle.base_text.specs.declared.cfg.CfgAtom.{CfgAtom}
-use Rattle.base_text.specs.declared.cfg.CfgAtom.TheVariants.{Flag, KeyValue}
+use Rattle.base_text_outside.proofs.CfgLemmas.{with_last}
+use Rattle.base_text_outside.specs.Cfg.{atom_of, is_equals, text_of, unquote}
+use Rattle.base_text_outside.specs.declared.cfg.CfgAtom.{CfgAtom}
+use Rattle.base_text_outside.specs.declared.cfg.CfgAtom.TheVariants.{Flag, KeyValue}
 use Rattle.json_fields.specs.Cfg.{cfg_at, cfg_data, cfg_of, named_or_missed}
 use Rattle.json_fields.specs.Laws.ReadAgain.{read-as}
 use Rattle.json_fields.specs.Laws.TextForms.{text_form-round_trips}

@@ -2,7 +2,7 @@
 
 ghost use Rattle.std.specs.Prelude.{◌≡◌, ◌+◌, ◌<◌, ◌^◌, ◌⊎◌, IfErr, IfOk, IsErrOf, OnErr, OnOk, is_err, length};
 ghost use Rattle.vfs_core.specs.Files.{existing_files};
-ghost use Rattle.live_input.specs.declared.event.Event.TheVariants.{Flush};
+ghost use Rattle.live_page.specs.declared.event.Event.TheVariants.{Flush};
 ghost use Rattle.live.specs.Fault.{flush_statuses};
 ghost use Rattle.live.specs.Marked.{SparesFiles};
 ghost use Rattle.live.specs.Page.{roots_by};
@@ -18,11 +18,11 @@ use crate::page::write_page;
 use crate::session::Live;
 use base_text::{ByteSink, Items, Shared, TryClone};
 use crate_graph::CrateGraphBuilder;
-use live_flush::FileRoot;
 use live_project::Project;
-use pm_rows::LowerError;
+use pm_lower_crates::LowerError;
 use std::alloc::{AllocError, Global};
 use vfs_core::Vfs;
+use vfs_sets::FileRoot;
 
 // The roots that place files: those of a project, and none where there is no project.
 fn file_roots(
@@ -101,7 +101,7 @@ impl Live {
         let last = self.kept_now(alloc)?;
         let roots = file_roots(alloc, &self.project)?;
         let graph = crate_graph(alloc, &self.project, &self.files)?;
-        live_flush::refresh(
+        live_page::refresh(
             alloc,
             &mut self.files,
             &mut self.db,

@@ -4,7 +4,7 @@ ghost use Rattle.std.specs.Prelude.{◌≡◌};
 
 use crate::vfs_path::VfsPath;
 use crate::vfs_path::repr::VfsPathRepr;
-use base_text::TryClone;
+use base_text_paths::TryClone;
 use std::alloc::{AllocError, Global};
 use std::cmp::Ordering;
 use std::fmt;

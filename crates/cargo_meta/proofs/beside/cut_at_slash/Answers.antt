@@ -1,5 +1,5 @@
 use Rattle.std.proofs.Common.{rules}
-use Rattle.base_text.proofs.Cuts.{cut_at_last}
+use Rattle.base_text_paths.proofs.Cuts.{cut_at_last}
 use Rattle.cargo_meta.proofs.beside.cut_at_slash.Goals as goal
 
 pub returns : goal.returns

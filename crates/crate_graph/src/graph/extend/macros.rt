@@ -3,12 +3,12 @@
 ghost use Rattle.std.specs.Prelude.{◌≡◌, ◌<◌, length, IfOk};
 ghost use Rattle.std.specs.BTreeMap as tree;
 ghost use Rattle.std.specs.List.{All};
-ghost use Rattle.base_text.specs.Arena.{number_of};
+ghost use Rattle.base_text_paths.specs.Arena.{number_of};
 ghost use Rattle.crate_graph.specs.Extend.{Id, moved_entry, new_id_at};
 
 use crate::graph::renaming::new_id_at;
-use base_text::{AbsPathBuf, Text, TryClone};
-use crate_values::{CrateBuilderId, ProcMacroLoadingError, ProcMacroPaths};
+use base_text_paths::{AbsPathBuf, Text, TryClone};
+use crate_graph_values::{CrateBuilderId, ProcMacroLoadingError, ProcMacroPaths};
 use std::alloc::{AllocError, Global};
 use std::collections::BTreeMap;
 

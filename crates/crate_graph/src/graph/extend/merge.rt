@@ -10,7 +10,7 @@ ghost use Rattle.crate_graph.specs.Places.{ArePlacesOf, crate_hash};
 use crate::graph::GraphError;
 use crate::graph::extend::places::{Places, hash_of};
 use crate::graph::renaming::{copies_in_order, renamed_copy};
-use crate_values::{CrateBuilder, CrateDataBuilder};
+use crate_graph_values::{CrateBuilder, CrateDataBuilder};
 use std::alloc::{AllocError, Global};
 use std::hash::Hash;
 use std::marker::Model;

@@ -1,5 +1,5 @@
 use Rattle.std.proofs.Common.{List, ◌∙◌, ◌++◌, ap, sym, [], ◌∷◌, append_assoc, length-append, arith}
-use Rattle.source_files.specs.declared.source_root.SourceRoot.{SourceRoot}
+use Rattle.input_db_files.specs.declared.source_root.SourceRoot.{SourceRoot}
 use Rattle.input_db.proofs.GivenRoots.{given_more}
 use Rattle.input_db.proofs.applying.give_each.Goals as goal
 

@@ -1,8 +1,8 @@
 use Rattle.std.proofs.Common.{◌<◌, ℕ, Some, ap, arith, cond, eqb, length, sym, ◌∙◌}
 use Rattle.std.specs.BTreeMap as tree
-use Rattle.base_text.specs.Arena.{number_of}
-use Rattle.base_text.specs.contracts.arena.IdxOrd.TheImpl as numbers
-use Rattle.crate_values.specs.contracts.crate_data.CrateTag.{the_row}
+use Rattle.base_text_paths.specs.Arena.{number_of}
+use Rattle.base_text_paths.specs.contracts.arena.IdxOrd.TheImpl as numbers
+use Rattle.crate_graph_values.specs.contracts.crate_data.CrateTag.{the_row}
 use Rattle.crate_graph.proofs.NumberMapLemmas.{is_at_number, slice_get-take_more}
 use Rattle.input_db.proofs.lowering.ids_of_numbers.Goals as goal
 

@@ -2,9 +2,9 @@ use Rattle.std.proofs.Common.{◌≡◌, ℕ, ◌<◌, List, ap, arith, length, 
 use Rattle.std.specs.Prelude.{slice_get}
 use Rattle.std.specs.List.{All}
 use Rattle.graph_base.specs.Finish.{IsBehindTargets}
-use Rattle.base_text.specs.Paths.{IsClean}
+use Rattle.base_text_paths.specs.Paths.{IsClean}
 use Rattle.crate_graph.specs.Graph.{edges}
-use Rattle.crate_values.specs.declared.builder.CrateBuilder.{CrateBuilder}
+use Rattle.crate_graph_values.specs.declared.builder.CrateBuilder.{CrateBuilder}
 use Rattle.input_db.specs.Database.{Database}
 use Rattle.input_db.specs.Identity.{IsTable}
 use Rattle.input_db.specs.FinishSteps.{IsSetInSteps, Progress, progress_after, with_new_list}

@@ -1,6 +1,6 @@
 use Rattle.std.proofs.Common.{◌∙◌, ap, rules, sym}
 use Rattle.std.specs.Option.{option_and_then}
-use Rattle.crate_values.specs.ReleaseChannel.{channel_of}
+use Rattle.crate_graph_values.specs.ReleaseChannel.{channel_of}
 use Rattle.input_db.specs.Channel.{pre_release}
 use Rattle.input_db.proofs.queries.toolchain_channel.Goals as goal
 

@@ -1,5 +1,5 @@
 use Rattle.std.proofs.Common.{Some, ap, subst, ◌∙◌}
-use Rattle.live_input.specs.Config.{FitsCommand}
+use Rattle.live_config.specs.Config.{FitsCommand}
 use Rattle.live.proofs.Words.{cause_words, completes_given, fails_given, finishes_given, if_err, on_ok, takes_given, usage_given}
 use Rattle.live.proofs.Names.{configured_names, names_both}
 use Rattle.live.proofs.cli.run_words.Goals as goal

@@ -1,5 +1,5 @@
 use Rattle.std.proofs.Common.{◌≤◌}
-use Rattle.live_input.specs.Reader.{bytes_ahead}
+use Rattle.live_page.specs.Reader.{bytes_ahead}
 use Rattle.live.proofs.Running.{Running}
 use Rattle.live.proofs.run.live_run.Given as goal
 

@@ -1,8 +1,8 @@
 use Rattle.std.proofs.Common.{◌≡◌, ◌∙◌, ap, inl, inr}
 use Rattle.std.specs.Result.{is_ok}
 use Rattle.std.proofs.lemmas.Result.{on_ok_weaker}
-use Rattle.outside.specs.Command.{question_of}
-use Rattle.outside.specs.Runner.{with_answer}
+use Rattle.base_text_outside.specs.Command.{question_of}
+use Rattle.base_text_outside.specs.Runner.{with_answer}
 use Rattle.live_project.proofs.live_answers.insert_shared.Goals as goal
 
 pub returns-clause-ok : goal.returns-clause-ok

@@ -1,7 +1,7 @@
 use Rattle.std.proofs.Common.{Err, ap, sym, ◌∙◌}
 use Rattle.live_project.proofs.LoadLemmas.{absolute_named, relative_named}
 use Rattle.live_project.proofs.project.manifest_named.Goals as goal
-use Rattle.base_text.proofs.Absolute.{absolute_if, relative_if}
+use Rattle.base_text_paths.proofs.Absolute.{absolute_if, relative_if}
 
 -- the path is that of the text, and names what the code found
 pub returns-in-Ok-from_manifest_file : goal.returns-in-Ok-from_manifest_file

@@ -1,6 +1,6 @@
-use Rattle.crate_values.specs.contracts.env.EnvPartialEq.TheImpl as env
-use Rattle.pm_packages.specs.contracts.package.PackageDataPartialEq.TheImpl as member
-use Rattle.pm_packages.specs.contracts.target.TargetDataPartialEq.TheImpl as target
+use Rattle.crate_graph_values.specs.contracts.env.EnvPartialEq.TheImpl as env
+use Rattle.pm_cargo_packages.specs.contracts.package.PackageDataPartialEq.TheImpl as member
+use Rattle.pm_cargo_packages.specs.contracts.target.TargetDataPartialEq.TheImpl as target
 use Rattle.pm_cargo.proofs.Equalities.{workspaces_are_equal}
 use Rattle.pm_cargo.proofs.laws.equality_of_workspaces_is_content.Goals as goal
 

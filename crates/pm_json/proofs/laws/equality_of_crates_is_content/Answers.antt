@@ -1,7 +1,7 @@
-use Rattle.base_text.specs.contracts.cfg.CfgAtomPartialEq.TheImpl as atom
-use Rattle.base_text.specs.contracts.edition.EditionPartialEq.TheImpl as edition
-use Rattle.crate_values.specs.contracts.names.CrateDisplayNamePartialEq.TheImpl as name
-use Rattle.pm_json_data.specs.contracts.dep.DepPartialEq.TheImpl as dep
+use Rattle.base_text_outside.specs.contracts.cfg.CfgAtomPartialEq.TheImpl as atom
+use Rattle.base_text_paths.specs.contracts.edition.EditionPartialEq.TheImpl as edition
+use Rattle.crate_graph_values.specs.contracts.names.CrateDisplayNamePartialEq.TheImpl as name
+use Rattle.pm_json.specs.contracts.dep.DepPartialEq.TheImpl as dep
 use Rattle.pm_json.specs.contracts.krate.BuildPartialEq.TheImpl as build
 use Rattle.pm_json.proofs.Equalities.{crates_are_equal}
 use Rattle.pm_json.proofs.laws.equality_of_crates_is_content.Goals as goal

@@ -1,4 +1,4 @@
-use Rattle.pm_json_data.specs.contracts.kinds.RunnableKindPartialEq.TheImpl as kind
+use Rattle.pm_json.specs.contracts.kinds.RunnableKindPartialEq.TheImpl as kind
 use Rattle.pm_json.proofs.Equalities.{runnables_are_equal}
 use Rattle.pm_json.proofs.laws.equality_of_stated_parts_is_content.Goals as goal
 

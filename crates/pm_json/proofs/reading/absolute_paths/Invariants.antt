@@ -1,5 +1,5 @@
 use Rattle.std.proofs.Common.{◌≡◌, map, take}
-use Rattle.base_text.specs.AbsPath.{abs_text}
+use Rattle.base_text_paths.specs.AbsPath.{abs_text}
 use Rattle.pm_json.specs.Crates.{absolute_from}
 use Rattle.pm_json.proofs.reading.absolute_paths.Given as goal
 

@@ -1,5 +1,5 @@
 use Rattle.std.proofs.Common.{◌≡◌, ◌++◌}
-use Rattle.base_text.specs.AbsPath.{abs_text}
+use Rattle.base_text_paths.specs.AbsPath.{abs_text}
 use Rattle.pm_json.specs.Crates.{crates_of}
 use Rattle.pm_json.specs.Refusals.{under}
 use Rattle.pm_json.proofs.reading.read_crates.Given as goal

@@ -3,14 +3,14 @@ use Rattle.std.proofs.lemmas.List.{take_all}
 use Rattle.std.proofs.lemmas.Result.{err_from_is_err_and}
 use Rattle.std.specs.List.{flat_map}
 use Rattle.std.specs.Prelude.{List, is_err}
-use Rattle.pm_config.specs.Progress.{TakesFront-none, with_lines, with_lines-none}
-use Rattle.pm_fetch.proofs.Lines.{TakesLines-stopped, TakesLines-whole}
+use Rattle.base_text.specs.Progress.{TakesFront-none, with_lines, with_lines-none}
+use Rattle.pm_cargo_fetch.proofs.Lines.{TakesLines-stopped, TakesLines-whole}
 use Rattle.pm_lower.specs.Builds.{GivesEach, project_build}
 use Rattle.pm_lower.specs.Lines.{project_build_lines}
 use Rattle.pm_lower.specs.declared.project_workspace.ProjectWorkspace.{ProjectWorkspace}
 use Rattle.pm_lower.proofs.BuildLemmas.{gives_each-next}
 use Rattle.pm_lower.proofs.LineLemmas.{build_came, build_cut, builds_cut}
-use Rattle.pm_sysroot.specs.Ask.{means_of}
+use Rattle.pm_tools_ask.specs.Ask.{means_of}
 use Rattle.pm_lower.proofs.build_scripts.run_each.Goals as goal
 
 pub returns-in_err-each-clause-lines : goal.returns-in_err-each-clause-lines

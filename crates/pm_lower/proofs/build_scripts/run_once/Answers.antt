@@ -1,13 +1,13 @@
 use Rattle.std.proofs.Common.{List, ap, subst, ◌∙◌}
 use Rattle.std.proofs.lemmas.Result.{err_from_is_err_and}
 use Rattle.std.specs.Prelude.{IfOk, is_err}
-use Rattle.pm_build.specs.Lines.{shared_lines}
-use Rattle.pm_build.specs.Packages.{lent_workspaces}
-use Rattle.pm_build.specs.Reading.{Gives}
-use Rattle.pm_build.specs.SharedBuild.{shared_build}
+use Rattle.pm_tools.specs.Lines.{shared_lines}
+use Rattle.pm_tools.specs.Packages.{lent_workspaces}
+use Rattle.pm_tools.specs.Reading.{Gives}
+use Rattle.pm_tools.specs.SharedBuild.{shared_build}
 use Rattle.pm_cargo.specs.Workspace.{Workspace}
-use Rattle.pm_config.specs.Progress.{TakesFront-none}
-use Rattle.pm_fetch.proofs.Lines.{TakesLines-same, TakesLines-stopped, TakesLines-whole}
+use Rattle.base_text.specs.Progress.{TakesFront-none}
+use Rattle.pm_cargo_fetch.proofs.Lines.{TakesLines-same, TakesLines-stopped, TakesLines-whole}
 use Rattle.pm_lower.specs.Builds.{workspaces_of}
 use Rattle.pm_lower.proofs.BuildLemmas.{gives_shares}
 use Rattle.pm_lower.proofs.build_scripts.run_once.Goals as goal

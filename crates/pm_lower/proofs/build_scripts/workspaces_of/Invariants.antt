@@ -1,5 +1,5 @@
 use Rattle.std.proofs.Common.{◌≡◌, take}
-use Rattle.pm_build.specs.Packages.{lent_workspaces}
+use Rattle.pm_tools.specs.Packages.{lent_workspaces}
 use Rattle.pm_lower.specs.Builds.{workspaces_of}
 use Rattle.pm_lower.proofs.build_scripts.workspaces_of.Given as goal
 

@@ -1,8 +1,8 @@
 use Rattle.std.proofs.lemmas.Result.{err_from_is_err_and}
-use Rattle.pm_load.specs.Located.{located_manifest}
+use Rattle.pm_lower_load.specs.Located.{located_manifest}
 use Rattle.pm_lower.proofs.LineLemmas.{lines_with_root, lines_without_root}
 use Rattle.pm_lower.proofs.ProjectLemmas.{root-gives, root-refused}
-use Rattle.pm_sysroot.specs.Ask.{means_of}
+use Rattle.pm_tools_ask.specs.Ask.{means_of}
 use Rattle.pm_lower.proofs.cargo_project.cargo_project.Goals as goal
 
 pub returns-in_err-located-clause-project : goal.returns-in_err-located-clause-project

@@ -2,7 +2,7 @@ use Rattle.std.proofs.Common.{Err, None}
 use Rattle.std.proofs.lemmas.Result.{err_from_is_err_and}
 use Rattle.pm_lower.proofs.ProjectLemmas.{kind-read, kind-refused}
 use Rattle.pm_lower.specs.declared.project_workspace.ProjectWorkspaceKind.TheVariants.{Cargo}
-use Rattle.pm_sysroot.specs.Ask.{means_of}
+use Rattle.pm_tools_ask.specs.Ask.{means_of}
 use Rattle.pm_lower.proofs.cargo_project.kind_with.Goals as goal
 
 pub returns-in_err-cargo : goal.returns-in_err-cargo

@@ -1,11 +1,11 @@
 use Rattle.std.proofs.Common.{◌∙◌, Err, ap}
 use Rattle.std.proofs.lemmas.Result.{err_from_is_err_and}
-use Rattle.pm_config.specs.Progress.{TakesFront-none}
-use Rattle.pm_fetch.proofs.Lines.{TakesLines-err, TakesLines-same, TakesLines-stopped, TakesLines-whole}
-use Rattle.pm_load.specs.Metadata.{metadata_lines}
-use Rattle.pm_load.specs.declared.tool_answers.ToolAnswers.{ToolAnswers}
+use Rattle.base_text.specs.Progress.{TakesFront-none}
+use Rattle.pm_cargo_fetch.proofs.Lines.{TakesLines-err, TakesLines-same, TakesLines-stopped, TakesLines-whole}
+use Rattle.pm_lower_load.specs.Metadata.{metadata_lines}
+use Rattle.pm_lower_load.specs.declared.tool_answers.ToolAnswers.{ToolAnswers}
 use Rattle.pm_lower.proofs.ProjectLemmas.{metadata-gives, metadata-refused}
-use Rattle.pm_sysroot.specs.Ask.{means_of}
+use Rattle.pm_tools_ask.specs.Ask.{means_of}
 use Rattle.pm_lower.proofs.cargo_project.located_project.Goals as goal
 
 pub returns-in_err-settings-clause-lines : goal.returns-in_err-settings-clause-lines

@@ -2,7 +2,7 @@ use Rattle.std.proofs.Common.{◌∙◌, ap}
 use Rattle.std.proofs.lemmas.Result.{err_from_is_err_and}
 use Rattle.pm_lower.proofs.ProjectLemmas.{project-read, project-refused}
 use Rattle.pm_lower.specs.declared.cargo_project.Settings.{Settings}
-use Rattle.pm_sysroot.specs.Ask.{means_of}
+use Rattle.pm_tools_ask.specs.Ask.{means_of}
 use Rattle.pm_lower.proofs.cargo_project.project_with.Goals as goal
 
 pub returns-in_err-kind : goal.returns-in_err-kind

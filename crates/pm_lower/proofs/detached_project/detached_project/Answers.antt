@@ -1,5 +1,5 @@
 use Rattle.pm_lower.proofs.DetachedLemmas.{detached-gives}
-use Rattle.pm_sysroot.specs.Ask.{means_of}
+use Rattle.pm_tools_ask.specs.Ask.{means_of}
 use Rattle.pm_lower.proofs.detached_project.detached_project.Goals as goal
 
 pub returns : goal.returns

@@ -1,8 +1,8 @@
 use Rattle.std.proofs.lemmas.Result.{err_from_is_err_and}
-use Rattle.pm_load.specs.Metadata.{metadata_answer}
+use Rattle.pm_lower_load.specs.Metadata.{metadata_answer}
 use Rattle.pm_lower.specs.DetachedProject.{metadata_or_none}
 use Rattle.pm_lower.proofs.DetachedLemmas.{detached-read, detached-refused}
-use Rattle.pm_sysroot.specs.Ask.{means_of}
+use Rattle.pm_tools_ask.specs.Ask.{means_of}
 use Rattle.pm_lower.proofs.detached_project.detached_with.Goals as goal
 
 pub returns-in_err-kind : goal.returns-in_err-kind

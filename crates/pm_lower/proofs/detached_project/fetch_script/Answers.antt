@@ -1,6 +1,6 @@
-use Rattle.pm_load.specs.Metadata.{metadata_answer}
+use Rattle.pm_lower_load.specs.Metadata.{metadata_answer}
 use Rattle.pm_lower.proofs.DetachedLemmas.{metadata-fetched}
-use Rattle.pm_sysroot.specs.Ask.{means_of}
+use Rattle.pm_tools_ask.specs.Ask.{means_of}
 use Rattle.pm_lower.proofs.detached_project.fetch_script.Goals as goal
 
 pub returns-in-Ok : goal.returns-in-Ok

@@ -1,6 +1,6 @@
 use Rattle.std.proofs.lemmas.Result.{err_from_is_err_and}
 use Rattle.pm_lower.proofs.DetachedLemmas.{script-read, script-refused}
-use Rattle.pm_sysroot.specs.Ask.{means_of}
+use Rattle.pm_tools_ask.specs.Ask.{means_of}
 use Rattle.pm_lower.proofs.detached_project.script_with.Goals as goal
 
 pub returns-in_err-cargo : goal.returns-in_err-cargo

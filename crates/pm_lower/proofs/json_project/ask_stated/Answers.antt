@@ -1,12 +1,12 @@
 use Rattle.std.proofs.Common.{[], ◌∷◌, ap}
 use Rattle.std.proofs.lemmas.Result.{err_from_is_err_and}
 use Rattle.std.specs.Prelude.{is_err}
-use Rattle.base_text.specs.AbsPath.{abs_text}
-use Rattle.pm_fetch.proofs.Lines.{TakesLines-whole}
+use Rattle.base_text_paths.specs.AbsPath.{abs_text}
+use Rattle.pm_cargo_fetch.proofs.Lines.{TakesLines-whole}
 use Rattle.pm_lower.specs.Lines.{metadata_line, sysroot_line}
 use Rattle.pm_lower.proofs.JsonLemmas.{answers-are}
 use Rattle.pm_lower.proofs.LineLemmas.{both_came, first_came}
-use Rattle.pm_sysroot.specs.Ask.{means_of}
+use Rattle.pm_tools_ask.specs.Ask.{means_of}
 use Rattle.pm_lower.proofs.json_project.ask_stated.Goals as goal
 
 pub returns-in_err-sysroot-clause-lines : goal.returns-in_err-sysroot-clause-lines

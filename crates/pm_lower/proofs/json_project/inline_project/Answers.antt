@@ -1,10 +1,10 @@
 use Rattle.std.proofs.Common.{[], ◌∷◌, ap}
 use Rattle.std.proofs.lemmas.Result.{err_from_is_err_and}
 use Rattle.std.specs.Prelude.{is_err}
-use Rattle.pm_fetch.proofs.Lines.{TakesLines-stopped, TakesLines-whole}
+use Rattle.pm_cargo_fetch.proofs.Lines.{TakesLines-stopped, TakesLines-whole}
 use Rattle.pm_lower.specs.Lines.{metadata_line, sysroot_line}
 use Rattle.pm_lower.proofs.JsonLemmas.{inline-is}
-use Rattle.pm_sysroot.specs.Ask.{means_of}
+use Rattle.pm_tools_ask.specs.Ask.{means_of}
 use Rattle.pm_lower.proofs.json_project.inline_project.Goals as goal
 
 pub returns-in_err-sysroot-clause-lines : goal.returns-in_err-sysroot-clause-lines

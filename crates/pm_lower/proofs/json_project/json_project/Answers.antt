@@ -1,12 +1,12 @@
 use Rattle.std.proofs.Common.{◌≡◌, ◌∙◌, Err, ap, sym}
 use Rattle.std.proofs.lemmas.Result.{err_from_is_err_and}
-use Rattle.pm_config.specs.Progress.{TakesFront-none}
-use Rattle.pm_fetch.proofs.Lines.{TakesLines-same, TakesLines-stopped, TakesLines-whole}
-use Rattle.pm_load.specs.JsonDocument.{json_content}
+use Rattle.base_text.specs.Progress.{TakesFront-none}
+use Rattle.pm_cargo_fetch.proofs.Lines.{TakesLines-same, TakesLines-stopped, TakesLines-whole}
+use Rattle.pm_lower_load.specs.JsonDocument.{json_content}
 use Rattle.pm_lower.specs.Lines.{lines_of_document}
 use Rattle.pm_lower.proofs.JsonLemmas.{json-read, json-refused}
 use Rattle.pm_lower.proofs.LineLemmas.{lines_without_document}
-use Rattle.pm_sysroot.specs.Ask.{means_of}
+use Rattle.pm_tools_ask.specs.Ask.{means_of}
 use Rattle.pm_lower.proofs.json_project.json_project.Goals as goal
 
 pub returns-in_err-settings-clause-lines : goal.returns-in_err-settings-clause-lines

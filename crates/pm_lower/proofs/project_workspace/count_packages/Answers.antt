@@ -2,7 +2,7 @@ use Rattle.std.proofs.Common.{◌∙◌, ◌-◌, ◌^◌, ap, length, min}
 use Rattle.std.proofs.lemmas.Iterator.Consumers.{YieldsList-at, YieldsList-end, YieldsList-from_first}
 use Rattle.std.proofs.lemmas.List.FromFn.{length-range_with_len}
 use Rattle.std.specs.List.{range_with_len}
-use Rattle.base_text.specs.Arena.{number_of}
+use Rattle.base_text_paths.specs.Arena.{number_of}
 use Rattle.pm_lower.proofs.project_workspace.count_packages.Goals as goal
 
 pub returns : goal.returns

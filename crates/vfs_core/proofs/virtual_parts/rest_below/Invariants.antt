@@ -1,7 +1,7 @@
 use Rattle.std.proofs.Common.{◌≡◌, length}
 use denote.Text.{Utf8}
 use denote.Shadow.{shadow}
-use Rattle.base_text.specs.Paths.{components}
+use Rattle.base_text_paths.specs.Paths.{components}
 use Rattle.vfs_core.specs.RealPath.{is_text_prefix}
 use Rattle.vfs_core.specs.VirtualPath.{text_behind}
 use Rattle.vfs_core.proofs.virtual_parts.rest_below.Given as goal

@@ -1,6 +1,6 @@
 use Rattle.std.proofs.Common.{◌≡◌, ◌<◌, length, arith, sym, Some}
-use Rattle.base_text.specs.FileName.{extension_of, stem_of}
-use Rattle.base_text.proofs.Dots.{extension_at_cut, stem_at_cut}
+use Rattle.base_text_paths.specs.FileName.{extension_of, stem_of}
+use Rattle.base_text_paths.proofs.Dots.{extension_at_cut, stem_at_cut}
 use Rattle.vfs_core.proofs.PartLemmas.{named_first_dot, named_no_dot}
 use Rattle.vfs_core.proofs.virtual_parts.stem_and_extension.Goals as goal
 use Rattle.vfs_core.proofs.virtual_parts.stem_and_extension.Goals.{in_default-via-in-Some+else-not-is_empty, in_default-via-in_default}

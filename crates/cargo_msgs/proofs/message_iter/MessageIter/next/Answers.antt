@@ -1,5 +1,5 @@
 use Rattle.std.proofs.Common.{[]}
-use Rattle.bounded_lines.specs.Calls.{none}
+use Rattle.base_text.specs.Calls.{none}
 use Rattle.cargo_msgs.proofs.message_iter.MessageIter.next.Goals as goal
 
 pub returns-then-self-clause-reads : goal.returns-then-self-clause-reads

@@ -1,8 +1,8 @@
 use Rattle.std.proofs.Common.{◌≡◌, ◌∙◌, ◌++◌, ◌∷◌, [], ℕ, List, Option, None, Some, Ok, Err, true≢false, ap, refl, subst, sym}
-use Rattle.bounded_lines.specs.Reader.{Gave, lines_after}
-use Rattle.bounded_lines.specs.declared.lines.Line.TheVariants as line
-use Rattle.bounded_lines.specs.declared.lines.LineError.TheVariants as error
-use Rattle.bounded_lines.specs.Calls as lines
+use Rattle.base_text.specs.Reader.{Gave, lines_after}
+use Rattle.base_text.specs.declared.lines.Line.TheVariants as line
+use Rattle.base_text.specs.declared.lines.LineError.TheVariants as error
+use Rattle.base_text.specs.Calls as lines
 use Rattle.cargo_msgs.specs.Stream.{GaveMessages, GivesItem, is_out_of_memory, is_read_fault, item_of_bytes, items_after}
 use Rattle.cargo_msgs.specs.declared.message_iter.ItemFault.TheVariants.{TooLong}
 use Rattle.cargo_msgs.proofs.Streams.{GaveMessages-line, GaveMessages-more, GaveMessages-none, GaveOneMore-after, no_read_fault}

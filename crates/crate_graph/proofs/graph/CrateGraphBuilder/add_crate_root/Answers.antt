@@ -1,8 +1,8 @@
 use Rattle.std.proofs.Common.{◌≡◌, ◌+◌, ◌<◌, ◌^◌, ◌∙◌, ◌∷◌, ◌++◌, [], ap, arith, length, subst, sym}
-use Rattle.graph_order.specs.Order.{IsOrderOf}
+use Rattle.crate_graph.specs.Order.{IsOrderOf}
 use Rattle.crate_graph.specs.Graph.{edges}
-use Rattle.base_text.specs.Paths.{IsClean}
-use Rattle.crate_values.specs.Laws.{HasCleanPath}
+use Rattle.base_text_paths.specs.Paths.{IsClean}
+use Rattle.crate_graph_values.specs.Laws.{HasCleanPath}
 use Rattle.graph_base.proofs.ReachLemmas.{acyclic_with_node, in_range_with_node}
 use Rattle.crate_graph.proofs.GraphLemmas.{edges-with_crate, length-edges, well_made-with_crate}
 use Rattle.crate_graph.proofs.RankLemmas.{ranked-with_node}

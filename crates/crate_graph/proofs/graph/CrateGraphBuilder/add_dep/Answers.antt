@@ -1,4 +1,4 @@
-use Rattle.base_text.specs.Arena.{number_of}
+use Rattle.base_text_paths.specs.Arena.{number_of}
 use Rattle.crate_graph.specs.Graph.{edges, target_of}
 use Rattle.crate_graph.proofs.CyclicLemmas.{cyclic_by_path}
 use Rattle.crate_graph.proofs.graph.CrateGraphBuilder.add_dep.Goals as goal

@@ -1,10 +1,10 @@
 use Rattle.std.proofs.Common.{◌<◌, subst, sym, arith, length, rules}
-use Rattle.base_text.specs.Arena.{number_of}
+use Rattle.base_text_paths.specs.Arena.{number_of}
 use Rattle.graph_base.specs.Reach.{Reaches}
 use Rattle.graph_base.proofs.ReachLemmas.{acyclic_with_edge, in_range_with_edge}
-use Rattle.graph_order.specs.Insertion.{GivesRoom}
-use Rattle.graph_order.specs.Order.{IsOrderOf}
-use Rattle.graph_order.specs.Placing.{Rearranges}
+use Rattle.crate_graph.specs.Insertion.{GivesRoom}
+use Rattle.crate_graph.specs.Order.{IsOrderOf}
+use Rattle.crate_graph.specs.Placing.{Rearranges}
 use Rattle.crate_graph.specs.Graph.{HasDependency, IsWellMade, edges, target_of}
 use Rattle.crate_graph.proofs.GraphLemmas.{edges-with_dependency, length-edges, well_made-with_dependency}
 use Rattle.crate_graph.proofs.RankLemmas.{ranked-with_edge}

@@ -2,9 +2,9 @@ use Rattle.std.proofs.Common.{◌≡◌, ◌+◌, ◌<◌, ◌∙◌, ◌++◌, 
 use Rattle.std.specs.List.{range_with_len}
 use Rattle.std.specs.Option.{is_some, option_map}
 use Rattle.std.proofs.lemmas.List.{get_or_read}
-use Rattle.base_text.specs.Arena.{number_of}
+use Rattle.base_text_paths.specs.Arena.{number_of}
 use Rattle.graph_base.specs.Kept.{is_named, kept_below}
-use Rattle.graph_order.specs.Suborder.{new_number}
+use Rattle.crate_graph.specs.Suborder.{new_number}
 use Rattle.crate_graph.specs.Prune.{kept_crates, renumbered_crate, number_at}
 use Rattle.crate_graph.proofs.PruneLemmas.{kept_more, kept_skip, length-ids, length-numbers, renumbered_kept, named_here, is_some-id}
 use Rattle.crate_graph.proofs.ExtendLemmas.{targets_within}

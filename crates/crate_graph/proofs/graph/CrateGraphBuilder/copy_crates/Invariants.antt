@@ -1,5 +1,5 @@
 use Rattle.std.proofs.Common.{◌≡◌, ◌++◌, drop, map}
-use Rattle.base_text.specs.Arena.{number_of}
+use Rattle.base_text_paths.specs.Arena.{number_of}
 use Rattle.crate_graph.specs.Prune.{kept_crates}
 use Rattle.crate_graph.proofs.graph.CrateGraphBuilder.copy_crates.Given as goal
 

@@ -5,14 +5,14 @@ use Rattle.std.specs.List.{All, Contains}
 use Rattle.std.specs.Option.{option_map}
 use Rattle.std.proofs.lemmas.List.Elements.{Contains-get_or}
 use Rattle.graph_base.specs.Edges.{IsInRange}
-use Rattle.base_text.specs.Arena.{number_of}
-use Rattle.base_text.specs.contracts.arena.IdxOrd.TheImpl as numbers
-use Rattle.crate_values.specs.contracts.builder.CrateBuilderPartialEq.TheImpl as krates
-use Rattle.crate_values.specs.contracts.builder.CrateBuilderEq.TheImpl.Laws as krate_eq
-use Rattle.crate_values.specs.contracts.crate_data.CrateTag.{the_row}
-use Rattle.crate_values.specs.Laws.{HasCleanPath}
+use Rattle.base_text_paths.specs.Arena.{number_of}
+use Rattle.base_text_paths.specs.contracts.arena.IdxOrd.TheImpl as numbers
+use Rattle.crate_graph_values.specs.contracts.builder.CrateBuilderPartialEq.TheImpl as krates
+use Rattle.crate_graph_values.specs.contracts.builder.CrateBuilderEq.TheImpl.Laws as krate_eq
+use Rattle.crate_graph_values.specs.contracts.crate_data.CrateTag.{the_row}
+use Rattle.crate_graph_values.specs.Laws.{HasCleanPath}
 use Rattle.crate_graph.specs.Extend.{AreApart, HasEquals, Id, KeepsCrates, merge_of, moved_entry, new_id, new_id_at}
-use Rattle.graph_order.specs.Order.{IsOrderOf, with_next_nodes}
+use Rattle.crate_graph.specs.Order.{IsOrderOf, with_next_nodes}
 use Rattle.crate_graph.specs.Graph.{IsWellMade, edges}
 use Rattle.graph_base.proofs.FinishLemmas.{acyclic_above}
 use Rattle.crate_graph.proofs.ExtendLemmas.{merge_of-longer}

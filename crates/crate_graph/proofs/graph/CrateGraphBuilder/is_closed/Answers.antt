@@ -1,7 +1,7 @@
 use Rattle.std.proofs.Common.{◌<◌, ◌∙◌, inl, inr, arith, get_or, length, map, refl, subst, sym}
 use Rattle.std.proofs.lemmas.Bool.{cases_eq, false≢true}
 use Rattle.std.proofs.lemmas.List.{get_or-map, length-map}
-use Rattle.base_text.specs.Arena.{number_of}
+use Rattle.base_text_paths.specs.Arena.{number_of}
 use Rattle.crate_graph.specs.Graph.{edges}
 use Rattle.crate_graph.specs.Prune.{Stays}
 use Rattle.crate_graph.proofs.PruneLemmas.{closed_from, named_at, stays_from}

@@ -1,5 +1,5 @@
 use Rattle.std.proofs.Common.{ℕ, ◌<◌, get_or, map}
-use Rattle.base_text.specs.Arena.{number_of}
+use Rattle.base_text_paths.specs.Arena.{number_of}
 use Rattle.crate_graph.specs.Graph.{edges}
 use Rattle.crate_graph.specs.Prune.{Stays}
 use Rattle.crate_graph.proofs.graph.CrateGraphBuilder.is_closed.Given as goal

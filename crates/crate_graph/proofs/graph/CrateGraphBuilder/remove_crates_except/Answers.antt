@@ -1,6 +1,6 @@
 use Rattle.std.proofs.Common.{◌∙◌, ap, map, subst, sym}
-use Rattle.base_text.specs.Arena.{number_of}
-use Rattle.graph_order.specs.Order.{IsOrderOf}
+use Rattle.base_text_paths.specs.Arena.{number_of}
+use Rattle.crate_graph.specs.Order.{IsOrderOf}
 use Rattle.crate_graph.specs.Graph.{IsWellMade, edges}
 use Rattle.graph_base.proofs.KeptLemmas.{acyclic_kept, in_range_kept}
 use Rattle.crate_graph.proofs.PruneLemmas.{edges-kept, well_made-kept}

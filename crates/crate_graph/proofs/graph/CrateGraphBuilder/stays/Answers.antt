@@ -1,6 +1,6 @@
 use Rattle.std.proofs.Common.{◌≡◌, ◌∙◌, arith, map, subst, sym}
 use Rattle.std.specs.List.{Contains}
-use Rattle.base_text.specs.Arena.{number_of}
+use Rattle.base_text_paths.specs.Arena.{number_of}
 use Rattle.graph_base.specs.Edges.{row}
 use Rattle.graph_base.specs.Kept.{is_named}
 use Rattle.crate_graph.specs.Graph.{edges, row_of}

@@ -1,6 +1,6 @@
 use Rattle.std.proofs.Common.{◌≡◌, ◌<◌, ◌∙◌, arith, get_or, length, length-set, map, sym, true}
 use Rattle.std.proofs.lemmas.List.{get_or-map, length-map}
-use Rattle.base_text.specs.Arena.{number_of}
+use Rattle.base_text_paths.specs.Arena.{number_of}
 use Rattle.crate_graph.proofs.PruneLemmas.{marks_more, named_at}
 use Rattle.crate_graph.proofs.graph.prune.marks_of.Goals as goal
 

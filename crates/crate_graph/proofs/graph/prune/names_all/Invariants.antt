@@ -1,6 +1,6 @@
 use Rattle.std.proofs.Common.{◌≡◌, map, take, true}
 use Rattle.std.specs.List.{list_all}
-use Rattle.base_text.specs.Arena.{number_of}
+use Rattle.base_text_paths.specs.Arena.{number_of}
 use Rattle.graph_base.specs.Kept.{is_named}
 use Rattle.crate_graph.specs.Graph.{target_of}
 use Rattle.crate_graph.proofs.graph.prune.names_all.Given as goal

@@ -1,11 +1,11 @@
 use Rattle.std.proofs.Common.{◌≡◌, ◌+◌, ◌<◌, ◌∙◌, ap, arith, false, get_or, map, subst, sym, true}
-use Rattle.base_text.specs.Arena.{number_of}
+use Rattle.base_text_paths.specs.Arena.{number_of}
 use Rattle.std.specs.List.{range_with_len}
 use Rattle.graph_base.specs.Kept.{is_named, kept_below}
 use Rattle.crate_graph.proofs.PruneLemmas.{ids_more-named, ids_more-other, numbers_more-kept}
 use Rattle.crate_graph.proofs.graph.prune.new_ids.Goals as goal
 use Rattle.crate_graph.proofs.graph.prune.new_ids.Goals.{then-mark+in_ok-push-2, else-mark+in_ok-push-3}
-use Rattle.graph_order.proofs.SuborderLemmas.{below_small, more_named, more_other}
+use Rattle.crate_graph.proofs.SuborderLemmas.{below_small, more_named, more_other}
 
 pub overflow_add-next : goal.overflow_add-next
 overflow_add-next c =

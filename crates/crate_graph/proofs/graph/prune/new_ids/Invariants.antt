@@ -1,9 +1,9 @@
 use Rattle.std.proofs.Common.{◌≡◌, map}
 use Rattle.std.specs.List.{range_with_len}
 use Rattle.std.specs.Option.{option_map}
-use Rattle.base_text.specs.Arena.{number_of}
+use Rattle.base_text_paths.specs.Arena.{number_of}
 use Rattle.graph_base.specs.Kept.{kept_below}
-use Rattle.graph_order.specs.Suborder.{new_number}
+use Rattle.crate_graph.specs.Suborder.{new_number}
 use Rattle.crate_graph.proofs.graph.prune.new_ids.Given as goal
 
 abbrev pub invariant-loop-mark : goal.invariant-loop-mark

@@ -1,5 +1,5 @@
 use Rattle.std.proofs.Common.{◌≡◌, map, take}
-use Rattle.base_text.specs.Arena.{number_of}
+use Rattle.base_text_paths.specs.Arena.{number_of}
 use Rattle.crate_graph.proofs.graph.prune.numbers_of.Given as goal
 
 abbrev pub invariant-loop-id : goal.invariant-loop-id

@@ -1,7 +1,7 @@
 use Rattle.std.proofs.Common.{◌<◌, Some, ap, arith, cond, get_or, length, refl, ◌∙◌}
 use Rattle.std.specs.BTreeMap as tree
-use Rattle.base_text.specs.contracts.arena.IdxOrd.TheImpl as numbers
-use Rattle.crate_values.specs.contracts.crate_data.CrateTag.{the_row}
+use Rattle.base_text_paths.specs.contracts.arena.IdxOrd.TheImpl as numbers
+use Rattle.crate_graph_values.specs.contracts.crate_data.CrateTag.{the_row}
 use Rattle.crate_graph.proofs.NumberMapLemmas.{is_at_number, numbers_more}
 use Rattle.crate_graph.proofs.graph.renaming.ids_of_numbers.Goals as goal
 

@@ -2,9 +2,9 @@ use Rattle.std.proofs.Common.{◌≡◌, take}
 use Rattle.std.specs.BTreeMap as tree
 use Rattle.std.specs.Prelude.{slice_get}
 use Rattle.std.specs.Option.{option_map}
-use Rattle.base_text.specs.Arena.{number_of}
-use Rattle.base_text.specs.contracts.arena.IdxOrd.TheImpl as numbers
-use Rattle.crate_values.specs.contracts.crate_data.CrateTag.{the_row}
+use Rattle.base_text_paths.specs.Arena.{number_of}
+use Rattle.base_text_paths.specs.contracts.arena.IdxOrd.TheImpl as numbers
+use Rattle.crate_graph_values.specs.contracts.crate_data.CrateTag.{the_row}
 use Rattle.crate_graph.specs.Extend.{Id}
 use Rattle.crate_graph.proofs.graph.renaming.ids_of_numbers.Given as goal
 

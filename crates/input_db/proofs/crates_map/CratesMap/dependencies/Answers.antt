@@ -1,7 +1,7 @@
 use Rattle.std.proofs.Common.{◌<◌, ◌^◌, ℕ, List, map, ap, subst, sym, ◌∙◌}
 use Rattle.std.specs.List.{All}
 use Rattle.graph_base.specs.Edges.{row}
-use Rattle.crate_values.specs.declared.crate_data.Dependency.{Dependency}
+use Rattle.crate_graph_values.specs.declared.crate_data.Dependency.{Dependency}
 use Rattle.input_db.specs.Identity.{Table, crate_edges}
 use Rattle.input_db.proofs.TableLemmas.{dependencies_fit, held_at, row_of}
 use Rattle.input_db.proofs.crates_map.CratesMap.dependencies.Goals as goal

@@ -1,5 +1,5 @@
 use Rattle.std.proofs.Common.{◌≡◌, map, take}
-use Rattle.crate_values.specs.Laws.{renamed_dependency}
+use Rattle.crate_graph_values.specs.Laws.{renamed_dependency}
 use Rattle.input_db.specs.Identity.{number_in}
 use Rattle.input_db.proofs.lowering.renamed.renamed_dependencies.Given as goal
 

@@ -1,6 +1,6 @@
 use Rattle.std.proofs.Common.{Ok, ap, subst, sym, ◌∙◌}
 use Rattle.std.proofs.lemmas.Result.{err_from_is_err_and}
-use Rattle.pm_reading.specs.Presence.{HoldsItsIds}
+use Rattle.pm_cargo_reading.specs.Presence.{HoldsItsIds}
 use Rattle.pm_cargo.proofs.ReadLemmas.{made_in, read-all, read-no_contents, read-no_directories}
 use Rattle.pm_cargo.proofs.WithinLemmas.{members-within}
 use Rattle.pm_cargo.proofs.cargo_workspace.CargoWorkspace.new.Goals as goal

@@ -1,6 +1,6 @@
 use Rattle.std.proofs.Common.{List, ap, find, flat_map, sym, ◌∙◌}
-use Rattle.base_text.specs.AbsPath.{abs_text}
-use Rattle.pm_packages.specs.declared.package.PackageData.{PackageData}
+use Rattle.base_text_paths.specs.AbsPath.{abs_text}
+use Rattle.pm_cargo_packages.specs.declared.package.PackageData.{PackageData}
 use Rattle.pm_cargo.specs.Queries.{has_root, member_targets}
 use Rattle.pm_cargo.proofs.QueryLemmas.{found-first, found-none}
 use Rattle.pm_cargo.proofs.cargo_workspace.CargoWorkspace.target_by_root.Goals as goal

@@ -1,6 +1,6 @@
 use Rattle.std.proofs.Common.{◌≡◌, None, flat_map, take}
 use Rattle.std.specs.List.{find}
-use Rattle.base_text.specs.AbsPath.{abs_text}
+use Rattle.base_text_paths.specs.AbsPath.{abs_text}
 use Rattle.pm_cargo.specs.Queries.{has_root, member_targets}
 use Rattle.pm_cargo.proofs.cargo_workspace.CargoWorkspace.target_by_root.Given as goal
 

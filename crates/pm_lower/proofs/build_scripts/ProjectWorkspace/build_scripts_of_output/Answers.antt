@@ -1,6 +1,6 @@
 use Rattle.std.proofs.Common.{Option, ap}
 use Rattle.pm_cargo.specs.Workspace.{Workspace}
-use Rattle.pm_fetch.proofs.Lines.{TakesLines-none, TakesLines-same}
+use Rattle.pm_cargo_fetch.proofs.Lines.{TakesLines-none, TakesLines-same}
 use Rattle.pm_lower.specs.Lines.{output_lines_for}
 use Rattle.pm_lower.proofs.build_scripts.ProjectWorkspace.build_scripts_of_output.Goals as goal
 

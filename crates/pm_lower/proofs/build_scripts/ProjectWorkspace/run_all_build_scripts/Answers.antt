@@ -1,11 +1,11 @@
 use Rattle.std.proofs.Common.{◌∙◌, Option, ap, sym}
 use Rattle.std.proofs.lemmas.Result.{err_from_is_err_and}
 use Rattle.std.specs.Prelude.{is_err}
-use Rattle.outside.specs.declared.command.CommandLine.{CommandLine}
-use Rattle.pm_config.specs.Progress.{TakesFront-none}
-use Rattle.pm_fetch.proofs.Lines.{TakesLines-same, TakesLines-stopped}
+use Rattle.base_text_outside.specs.declared.command.CommandLine.{CommandLine}
+use Rattle.base_text.specs.Progress.{TakesFront-none}
+use Rattle.pm_cargo_fetch.proofs.Lines.{TakesLines-same, TakesLines-stopped}
 use Rattle.pm_lower.specs.Lines.{builds_lines_by}
-use Rattle.pm_sysroot.specs.Ask.{means_of}
+use Rattle.pm_tools_ask.specs.Ask.{means_of}
 use Rattle.pm_lower.proofs.build_scripts.ProjectWorkspace.run_all_build_scripts.Goals as goal
 
 pub returns-in_err-line-clause-lines : goal.returns-in_err-line-clause-lines

@@ -1,10 +1,10 @@
 use Rattle.std.proofs.Common.{◌∙◌, Option, ap, option_copied, sym}
 use Rattle.base_values.specs.Version.{Parts}
-use Rattle.pm_build.specs.Lines.{build_lines}
+use Rattle.pm_tools.specs.Lines.{build_lines}
 use Rattle.pm_cargo.specs.Workspace.{Workspace}
-use Rattle.pm_fetch.proofs.Lines.{TakesLines-none, TakesLines-same}
+use Rattle.pm_cargo_fetch.proofs.Lines.{TakesLines-none, TakesLines-same}
 use Rattle.pm_lower.specs.Lines.{build_lines_for}
-use Rattle.pm_sysroot.specs.Ask.{means_of}
+use Rattle.pm_tools_ask.specs.Ask.{means_of}
 use Rattle.pm_lower.proofs.build_scripts.ProjectWorkspace.run_build_scripts.Goals as goal
 
 pub returns-in_default-clause-lines : goal.returns-in_default-clause-lines

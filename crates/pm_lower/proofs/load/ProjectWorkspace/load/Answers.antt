@@ -1,5 +1,5 @@
 use Rattle.std.proofs.Common.{refl}
-use Rattle.pm_fetch.proofs.Lines.{TakesLines-none}
+use Rattle.pm_cargo_fetch.proofs.Lines.{TakesLines-none}
 use Rattle.pm_lower.proofs.load.ProjectWorkspace.load.Goals as goal
 
 pub returns-in-ProjectJson-clause-lines : goal.returns-in-ProjectJson-clause-lines

@@ -1,6 +1,6 @@
 use Rattle.std.proofs.Common.{◌∙◌, ap, sym}
-use Rattle.base_text.specs.AbsPath.{abs_text}
-use Rattle.pm_load.proofs.MetadataLemmas.{above}
+use Rattle.base_text_paths.specs.AbsPath.{abs_text}
+use Rattle.pm_lower_load.proofs.MetadataLemmas.{above}
 use Rattle.pm_lower.specs.ProjectWorkspace.{kind_root}
 use Rattle.pm_lower.proofs.project_workspace.ProjectWorkspace.workspace_root.Goals as goal
 

@@ -1,5 +1,5 @@
-use Rattle.base_text.specs.AbsPath.{abs_text}
-use Rattle.base_text.specs.Paths.{components}
+use Rattle.base_text_paths.specs.AbsPath.{abs_text}
+use Rattle.base_text_paths.specs.Paths.{components}
 use Rattle.vfs_core.proofs.NormalLemmas.{normal_from}
 use Rattle.vfs_core.proofs.real_path.RealPath.of_abs.Goals as goal
 

@@ -1,6 +1,6 @@
 use Rattle.std.proofs.Common.{◌∙◌, ap, List, ℕ}
-use Rattle.base_text.specs.AbsPath.{abs_text}
-use Rattle.base_text.specs.Paths.{components, without_last}
+use Rattle.base_text_paths.specs.AbsPath.{abs_text}
+use Rattle.base_text_paths.specs.Paths.{components, without_last}
 use Rattle.vfs_core.specs.RealPath.{IsNormal}
 use Rattle.vfs_core.proofs.NormalLemmas.{normal_above}
 use Rattle.vfs_core.proofs.real_path.RealPath.parent.Goals as goal

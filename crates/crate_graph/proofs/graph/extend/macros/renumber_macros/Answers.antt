@@ -1,9 +1,9 @@
 use Rattle.std.proofs.Common.{◌∷◌, ◌<◌, Some, ap, cond, eqb, length, sym, ◌∙◌}
 use Rattle.std.specs.BTreeMap as tree
 use Rattle.std.proofs.lemmas.List.Elements.{All-head, All-rest, All-same}
-use Rattle.base_text.specs.Arena.{number_of}
-use Rattle.base_text.specs.contracts.arena.IdxOrd.TheImpl as numbers
-use Rattle.crate_values.specs.contracts.crate_data.CrateTag.{the_row}
+use Rattle.base_text_paths.specs.Arena.{number_of}
+use Rattle.base_text_paths.specs.contracts.arena.IdxOrd.TheImpl as numbers
+use Rattle.crate_graph_values.specs.contracts.crate_data.CrateTag.{the_row}
 use Rattle.crate_graph.specs.Extend.{moved_entry, new_id_at}
 use Rattle.crate_graph.proofs.NumberMapLemmas.{is_at_number, keys_hold, lookup_none, moved_more, moved_none}
 use Rattle.crate_graph.proofs.graph.extend.macros.renumber_macros.Goals as goal

@@ -2,9 +2,9 @@ use Rattle.std.proofs.Common.{◌≡◌, ◌<◌, length}
 use Rattle.std.specs.BTreeMap as tree
 use Rattle.std.specs.List.{All}
 use Rattle.std.specs.Option.{option_or}
-use Rattle.base_text.specs.Arena.{number_of}
-use Rattle.base_text.specs.contracts.arena.IdxOrd.TheImpl as numbers
-use Rattle.crate_values.specs.contracts.crate_data.CrateTag.{the_row}
+use Rattle.base_text_paths.specs.Arena.{number_of}
+use Rattle.base_text_paths.specs.contracts.arena.IdxOrd.TheImpl as numbers
+use Rattle.crate_graph_values.specs.contracts.crate_data.CrateTag.{the_row}
 use Rattle.crate_graph.specs.Extend.{Id, moved_entry, new_id_at}
 use Rattle.crate_graph.proofs.graph.extend.macros.renumber_macros.Given as goal
 

@@ -2,7 +2,7 @@ use Rattle.std.proofs.Common.{◌≡◌, ◌<◌, ◌≤◌, Result, Ok, Err, ap
 use Rattle.std.specs.Result.{IsErrAnd, IsErrOf}
 use Rattle.std.proofs.lemmas.List.{length-map}
 use Rattle.std.proofs.lemmas.List.Sums.{fold_more}
-use Rattle.crate_values.specs.contracts.builder.CrateBuilderPartialEq.TheImpl as krates
+use Rattle.crate_graph_values.specs.contracts.builder.CrateBuilderPartialEq.TheImpl as krates
 use Rattle.crate_graph.specs.declared.graph.GraphError.{GraphError}
 use Rattle.crate_graph.specs.declared.graph.GraphError.TheVariants.{TooMany}
 use Rattle.crate_graph.specs.Extend.{before_merge, take_in, with_sorted_dependencies}

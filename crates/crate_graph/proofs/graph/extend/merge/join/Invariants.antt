@@ -1,5 +1,5 @@
 use Rattle.std.proofs.Common.{◌≡◌, ◌≤◌, fold, length, map, take}
-use Rattle.crate_values.specs.contracts.builder.CrateBuilderPartialEq.TheImpl as krates
+use Rattle.crate_graph_values.specs.contracts.builder.CrateBuilderPartialEq.TheImpl as krates
 use Rattle.crate_graph.specs.Extend.{before_merge, take_in, with_sorted_dependencies}
 use Rattle.crate_graph.proofs.graph.extend.merge.join.Given as goal
 

@@ -1,8 +1,8 @@
 use Rattle.std.proofs.Common.{◌≡◌, ◌∙◌, false, true, Bool, Some, ap, arith, get_or, length, subst, sym}
 use Rattle.std.specs.Prelude.{slice_index}
 use Rattle.std.proofs.lemmas.List.{get_or-map, get_or_default, length-map}
-use Rattle.crate_values.specs.contracts.builder.CrateBuilderPartialEq.TheImpl as krates
-use Rattle.crate_values.specs.declared.builder.CrateBuilder.{CrateBuilder}
+use Rattle.crate_graph_values.specs.contracts.builder.CrateBuilderPartialEq.TheImpl as krates
+use Rattle.crate_graph_values.specs.declared.builder.CrateBuilder.{CrateBuilder}
 use Rattle.crate_graph.proofs.PlacesLemmas.{AreAlike, Searches, and_first, position_at, position_none, searches_next, searches_on}
 use Rattle.crate_graph.proofs.graph.extend.merge.place_of.Goals as goal
 

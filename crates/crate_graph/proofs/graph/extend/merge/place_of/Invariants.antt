@@ -1,5 +1,5 @@
 use Rattle.std.proofs.Common.{◌≡◌, ℕ, length}
-use Rattle.crate_values.specs.contracts.builder.CrateBuilderPartialEq.TheImpl as krates
+use Rattle.crate_graph_values.specs.contracts.builder.CrateBuilderPartialEq.TheImpl as krates
 use Rattle.crate_graph.proofs.PlacesLemmas.{AreAlike, Searches, left_from}
 use Rattle.crate_graph.proofs.graph.extend.merge.place_of.Given as goal
 

@@ -1,7 +1,7 @@
 use Rattle.std.proofs.Common.{◌≡◌, ◌<◌, ap, length, refl, subst, sym, ◌∙◌}
 use Rattle.std.proofs.lemmas.Option.{slice_get_read}
 use Rattle.std.proofs.lemmas.Result.{on_ok_weaker}
-use Rattle.crate_values.specs.contracts.builder.CrateBuilderPartialEq.TheImpl as krates
+use Rattle.crate_graph_values.specs.contracts.builder.CrateBuilderPartialEq.TheImpl as krates
 use Rattle.crate_graph.specs.Extend.{with_new_ids, new_id_at, take_in, with_first_equal}
 use Rattle.crate_graph.proofs.ExtendLemmas.{take_in-at, targets_within}
 use Rattle.crate_graph.proofs.graph.extend.merge.Merge.take_in.Goals as goal

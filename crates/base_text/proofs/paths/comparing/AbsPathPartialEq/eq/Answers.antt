@@ -1,6 +1,0 @@
-use Rattle.std.proofs.Common.{◌∙◌}
-use Rattle.base_text.proofs.Comparing.{texts_eq}
-use Rattle.base_text.proofs.paths.comparing.AbsPathPartialEq.eq.Goals as goal
-
-pub returns : goal.returns
-returns c = c.eq.ensures ∙ texts_eq _ _ _ _ c.as_str.ensures.text c.as_str-2.ensures.text c.as_str.ensures.clean c.as_str-2.ensures.clean

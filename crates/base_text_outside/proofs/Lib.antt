@@ -1,0 +1,3 @@
+pub mod CfgLemmas
+pub mod Filled
+pub mod Questions

@@ -1,0 +1,10 @@
+pub mod Adapters
+pub mod Causes
+pub mod Cfg
+pub mod Command
+pub mod CommandWords
+pub mod Faults
+pub mod Nonce
+pub mod Runner
+pub mod Sink
+pub mod Source

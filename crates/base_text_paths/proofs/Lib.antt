@@ -1,0 +1,13 @@
+pub mod Absolute
+pub mod CfgSets
+pub mod Comparing
+pub mod Cuts
+pub mod Dots
+pub mod Equalities
+pub mod Joining
+pub mod ManifestLemmas
+pub mod Names
+pub mod Parents
+pub mod PartedLists
+pub mod Prefixes
+pub mod Resolving

@@ -1,0 +1,12 @@
+pub mod AbsPath
+pub mod Arena
+pub mod ArenaLends
+pub mod ArenaMapLends
+pub mod CfgChange
+pub mod CfgOrder
+pub mod FileName
+pub mod ManifestPath
+pub mod PathError
+pub mod PathOrder
+pub mod Paths
+pub mod Rows

@@ -1,6 +1,0 @@
-use Rattle.std.proofs.lemmas.Str.Pattern.{strip_prefix_char}
-use Rattle.config_origins.proofs.Scans.{behind_is}
-use Rattle.config_origins.proofs.quotes.behind.Goals as goal
-
-pub returns : goal.returns
-returns c = behind_is _ _ _ (strip_prefix_char _ _ _ c.strip_prefix.ensures.cases c.requires)

@@ -1,4 +1,0 @@
-pub mod Line
-pub mod Quotes
-pub mod Reader
-pub mod Statements

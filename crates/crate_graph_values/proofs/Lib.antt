@@ -1,0 +1,4 @@
+pub mod ContentsOn
+pub mod EnvLemmas
+pub mod LawLemmas
+pub mod NameLemmas

@@ -1,6 +1,0 @@
-use Rattle.std.specs.Cmp.Lexicographic.{pointwise_decides}
-use Rattle.crate_values.proofs.LawLemmas.{pair_decides}
-use Rattle.crate_values.proofs.laws.equality_of_environments_is_content.Goals as goal
-
-pub returns : goal.returns
-returns c = pointwise_decides pair_decides

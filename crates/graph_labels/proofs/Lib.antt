@@ -1,9 +1,0 @@
-pub mod BlockLemmas
-pub mod KeepingLemmas
-pub mod ListingLemmas
-pub mod NextRankLemmas
-pub mod PushingLemmas
-pub mod RankLemmas
-pub mod ResultLemmas
-pub mod RingLemmas
-pub mod SpreadingLemmas

@@ -1,9 +1,0 @@
-use Rattle.graph_labels.specs.Ranks.{AreRanks}
-use Rattle.graph_labels.specs.Blocks.{StandBelow}
-use Rattle.graph_labels.proofs.table.LabelTable.move_all_below.Given as goal
-
-abbrev pub invariant-loop-place : goal.invariant-loop-place
-invariant-loop-place l = record {
-  stand : StandBelow l.fn.mark l.nodes l.place l.fn.self l.self;
-  ranks : AreRanks l.self;
-}

@@ -1,7 +1,0 @@
-use Rattle.std.proofs.Common.{◌∙◌, ap}
-use Rattle.outside.specs.Causes.{next_count}
-use Rattle.graph_order.proofs.VisitLemmas.{raised_more}
-use Rattle.graph_order.proofs.insertion.count_steps.Goals as goal
-
-pub loop-preserved : goal.loop-preserved
-loop-preserved g c = c.tick.ensures ∙ ap next_count c.loop.invariant ∙ raised_more c.loop.counter (g.L.Ledger.count c.args.steps.now.ledger)

@@ -1,6 +1,0 @@
-use Rattle.std.proofs.Common.{◌≡◌}
-use Rattle.graph_order.specs.Counting.{raised_by}
-use Rattle.graph_order.proofs.insertion.count_steps.Given as goal
-
-abbrev pub invariant-loop : goal.invariant-loop
-invariant-loop g l = g.L.Ledger.count l.steps.ledger ≡ raised_by l.counter (g.L.Ledger.count l.fn.steps.ledger)

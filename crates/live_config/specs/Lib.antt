@@ -1,0 +1,4 @@
+pub mod Config
+pub mod Limits
+pub mod Options
+pub mod Values

@@ -1,4 +1,0 @@
-pub mod FileRoots
-pub mod Page
-pub mod Refresh
-pub mod Shape

@@ -1,0 +1,8 @@
+-- The values are the strings of the texts so far.
+use Rattle.std.proofs.Common.{◌≡◌, map}
+use Rattle.serde_json.specs.Data.{string}
+use Rattle.serde_json.specs.View.{view}
+use Rattle.live_page.proofs.page_text.strings.Given as goal
+
+abbrev pub invariant-loop-text : goal.invariant-loop-text
+invariant-loop-text l = map view l.values.items ≡ map string l.yielded

@@ -1,0 +1,9 @@
+pub mod Entries
+pub mod Event
+pub mod FlushPage
+pub mod Page
+pub mod Pieces
+pub mod Reader
+pub mod Refresh
+pub mod Shape
+pub mod SourceRoots

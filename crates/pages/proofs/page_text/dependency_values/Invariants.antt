@@ -1,8 +1,0 @@
--- The objects are those of the items so far.
-use Rattle.std.proofs.Common.{◌≡◌, map}
-use Rattle.serde_json.specs.View.{view}
-use Rattle.pages.specs.Page.{dependency_data}
-use Rattle.pages.proofs.page_text.dependency_values.Given as goal
-
-abbrev pub invariant-loop-dep : goal.invariant-loop-dep
-invariant-loop-dep l = map view l.values.items ≡ map dependency_data l.yielded

@@ -1,5 +1,0 @@
-use Rattle.pm_build.proofs.ArtifactLemmas.{is_macro_test}
-use Rattle.pm_build.proofs.artifact.is_macro.Goals as goal
-
-pub returns : goal.returns
-returns c = is_macro_test c.is_proc_macro.result c.args.artifact.now.target.kind c.is_proc_macro.ensures

@@ -1,6 +1,0 @@
-use Rattle.std.proofs.Common.{◌≡◌}
-use Rattle.crate_values.specs.Env.{with_pairs}
-use Rattle.pm_build.proofs.script.set_variables.Given as goal
-
-abbrev pub invariant-loop-name : goal.invariant-loop-name
-invariant-loop-name l = l.envs ≡ with_pairs l.initial.envs l.yielded

@@ -1,7 +1,0 @@
-use Rattle.std.proofs.Common.{◌≡◌, ◌++◌}
-use Rattle.base_values.specs.ByText.{text_entries}
-use Rattle.pm_build_question.proofs.question.in_order.Given as goal
-
--- the variables so far, and those that are left
-abbrev pub invariant-loop-name : goal.invariant-loop-name
-invariant-loop-name l = l.list.items ++ text_entries l.name-iterator ≡ l.variables

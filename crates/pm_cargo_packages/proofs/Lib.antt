@@ -1,0 +1,3 @@
+pub mod Equalities
+pub mod TargetKindLemmas
+pub mod UpdateLemmas

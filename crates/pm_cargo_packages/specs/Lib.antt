@@ -1,0 +1,4 @@
+pub mod Copies
+pub mod Ids
+pub mod Laws
+pub mod TargetKinds

@@ -1,0 +1,38 @@
+-- What a reading gives: a value, or the first refusal in the order in which a document is checked.
+use Rattle.std.specs.Prelude.{◌≡◌, List, [], ◌∷◌, Result, Ok, Err}
+use Rattle.pm_cargo_reading.specs.declared.workspace_error.WorkspaceError.{WorkspaceError}
+use Rattle.pm_cargo_reading.specs.declared.workspace_error.WorkspaceError.TheVariants.{NotAbsolute, NoParent, UnknownPackage, TooMany, OutOfMemory}
+
+-- a value, or a refusal
+abbrev pub Reading : Type 0 → Type 0
+Reading T = Result T WorkspaceError
+
+-- the next part is read where this one is not refused
+infixl 10 ◌>>=◌
+-- a reading, and what is read with its value
+abbrev pub ◌>>=◌ : {A B : Type 0} → Reading A → (A → Reading B) → Reading B
+Ok x >>= f = f x
+Err e >>= f = Err e
+
+-- a reading is refused with this error; running out of memory says nothing of it
+abbrev pub Refuses : {T : Type 0} → WorkspaceError → Reading T → Type 0
+Refuses (NotAbsolute text) reading = reading ≡ Err (NotAbsolute text)
+Refuses (NoParent text) reading = reading ≡ Err (NoParent text)
+Refuses (UnknownPackage id) reading = reading ≡ Err (UnknownPackage id)
+Refuses (TooMany limit) reading = reading ≡ Err (TooMany limit)
+Refuses OutOfMemory reading = Unit {0}
+
+-- a call returns what the reading gives, unless it runs out of memory
+abbrev pub Gives : {T : Type 0} → Result T WorkspaceError → Reading T → Type 0
+Gives (Ok x) reading = reading ≡ Ok x
+Gives (Err e) reading = Refuses e reading
+
+-- a call leaves what the reading gives, unless it runs out of memory
+abbrev pub Leaves : {S : Type 0} → Result (Unit {0}) WorkspaceError → S → Reading S → Type 0
+Leaves (Ok u) new reading = reading ≡ Ok new
+Leaves (Err e) new reading = Refuses e reading
+
+-- each item is taken in turn, up to the first that is refused
+unfoldable pub take_each : {S X : Type 0} → (S → X → Reading S) → S → List X → Reading S
+take_each step s [] = Ok s
+take_each step s (x ∷ xs) = step s x >>= λ next. take_each step next xs

@@ -1,6 +1,0 @@
-use Rattle.std.proofs.Common.{refl}
-use Rattle.pm_config.proofs.Equalities.{sources}
-use Rattle.pm_config.proofs.laws.equality_of_sources_is_content.Goals as goal
-
-pub returns : goal.returns
-returns c = sources _ (λ p q. refl) (λ p. refl) (λ q. refl) refl

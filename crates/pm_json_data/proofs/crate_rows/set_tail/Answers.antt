@@ -1,7 +1,0 @@
-use Rattle.pm_json_data.specs.CrateData.{tail_set}
-use Rattle.pm_json_data.proofs.crate_rows.set_tail.Goals as goal
-
-pub returns : goal.returns
-unfolding tail_set
-returns c =
-    rw (c.in_ok-set-9.ensures.set, c.in_ok-set-8.ensures.set, c.in_ok-set-7.ensures.set, c.in_ok-set-6.ensures.set, c.in_ok-set-5.ensures.set, c.in_ok-set-4.ensures.set, c.in_ok-set-3.ensures.set, c.in_ok-set-2.ensures.set, c.in_ok-set.ensures.set)

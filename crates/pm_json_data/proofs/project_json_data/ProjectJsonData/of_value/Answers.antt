@@ -1,7 +1,0 @@
-use Rattle.std.proofs.Common.{rules}
-use Rattle.pm_json_data.specs.ProjectJsonData.{project_data}
-use Rattle.pm_json_data.specs.laws.ProjectJsonData.{project-round_trips}
-use Rattle.pm_json_data.proofs.project_json_data.ProjectJsonData.of_value.Goals as goal
-
-pub returns-clause-again : goal.returns-clause-again
-returns-clause-again c = let again = c.of_value.ensures.again project_data 0 project-round_trips in search rules

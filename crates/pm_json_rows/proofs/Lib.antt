@@ -1,4 +1,0 @@
-mod EdgeLemmas
-mod LoweringLemmas
-mod RootLemmas
-mod RowLemmas

@@ -1,8 +1,0 @@
-use Rattle.std.proofs.Common.{◌≡◌, take}
-use Rattle.std.specs.List.{flat_map}
-use Rattle.pm_json_rows.specs.Gathering.{edges_from}
-use Rattle.pm_json_rows.specs.Rows.{rows_among}
-use Rattle.pm_json_rows.proofs.edges.wanted_edges.Given as goal
-
-abbrev pub invariant-loop-row : goal.invariant-loop-row
-invariant-loop-row l = l.edges.items ≡ flat_map (edges_from l.rows) (rows_among (take l.row-index l.rows))

@@ -1,7 +1,0 @@
-use Rattle.std.proofs.Common.{◌≡◌, map, take}
-use Rattle.pm_json.specs.Queries.{crates_in}
-use Rattle.pm_json_rows.specs.Roots.{distinct_roots, root_of}
-use Rattle.pm_json_rows.proofs.roots.json_roots.Given as goal
-
-abbrev pub invariant-loop-krate : goal.invariant-loop-krate
-invariant-loop-krate l = l.roots.keys ≡ distinct_roots (map (root_of l.extra_includes) (take l.krate-index (crates_in l.project)))

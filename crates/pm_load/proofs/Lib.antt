@@ -1,4 +1,0 @@
-mod JsonLemmas
-pub mod LoadingLemmas
-pub mod MetadataLemmas
-mod ToolLemmas

@@ -1,0 +1,16 @@
+pub mod Columns
+pub mod DetachedLowering
+pub mod Gathering
+pub mod JsonColumns
+pub mod JsonGathering
+pub mod JsonLowering
+pub mod JsonRows
+pub mod JsonWantedEdges
+pub mod Keeping
+pub mod KeptEdges
+pub mod Loader
+pub mod Lowering
+pub mod Ranks
+pub mod Refusal
+pub mod Rows
+pub mod WantedEdges

@@ -1,0 +1,77 @@
+-- What the tools of a toolchain say of a project before its metadata is fetched. Each answer is the definition of its own call in a lower crate. The order is that of rust-analyzer's `ProjectWorkspace::load`.
+use Rattle.std.specs.Prelude.{ℕ, List, [], ◌++◌, codes, slice_get, Option, None, Result, Ok, Err}
+use Rattle.std.specs.Borrow.{Bor}
+use Rattle.std.specs.Option.{option_map}
+use Rattle.base_values.specs.Version.{Parts}
+use Rattle.crate_graph_values.specs.declared.target.TargetData.{TargetData}
+use Rattle.crate_graph_values.specs.declared.target.TargetLoadError.{TargetLoadError}
+use Rattle.pm_cargo_config.specs.declared.config.CargoConfig.{CargoConfig}
+use Rattle.pm_lower_load.specs.declared.tool_answers.PlatformAsked.{PlatformAsked}
+use Rattle.pm_lower_load.specs.declared.tool_answers.PlatformAsked.TheVariants.{FirstTarget, NoTarget}
+use Rattle.pm_lower_load.specs.declared.tool_answers.ToolAnswers.{ToolAnswers}
+use Rattle.pm_tools_ask.specs.Ask.{Means}
+use Rattle.pm_tools_ask.specs.Toolchain.{Toolchain}
+use Rattle.pm_tools_ask.specs.ConfigQuestion.{config_of}
+use Rattle.pm_tools_info.specs.Queries.{cfg_answer, data_answer, target_answer, version_answer}
+use Rattle.pm_tools_info.specs.declared.query_config.QueryConfig.{QueryConfig}
+use Rattle.pm_tools_info.specs.declared.query_config.QueryConfig.TheVariants.{Cargo}
+use Rattle.pm_tools_info.specs.declared.query_error.QueryError.{QueryError}
+use Rattle.pm_tools_info.specs.declared.query_error.QueryError.TheVariants.{Failed}
+
+-- a reference to a value; where the value stands has no effect
+abbrev pub reference : {T : Type 0} → T → Bor T
+reference x = record { ref_ptr = (0, 0); now = x }
+
+-- the tools are asked by the manifest of the project
+abbrev pub query_of : Toolchain → List ℕ → Option (List ℕ) → QueryConfig
+query_of sysroot manifest file = Cargo (reference sysroot) (reference manifest) (option_map reference file)
+
+-- the platforms that are built for: none where nothing says which
+abbrev pub targets_or_none : Result (List (List ℕ)) QueryError → List (List ℕ)
+targets_or_none (Ok targets) = targets
+targets_or_none (Err error) = []
+
+-- the version of the toolchain, if it is known
+abbrev pub version_or_none : Result (Option Parts) QueryError → Option Parts
+version_or_none (Ok version) = version
+version_or_none (Err error) = None
+
+-- why nothing is known of the machine
+abbrev pub target_error : QueryError → List ℕ
+target_error (Failed line) = codes "cannot run " ++ line
+target_error other = codes "bad target spec"
+
+-- the machine, or why nothing is known of it
+abbrev pub target_result : Result TargetData QueryError → Result TargetData TargetLoadError
+target_result (Ok machine) = Ok machine
+target_result (Err error) = Err (record { 0 = target_error error })
+
+-- the platform that is named to the tools, if one is
+abbrev pub platform_asked : PlatformAsked → List (List ℕ) → Option (List ℕ)
+platform_asked FirstTarget targets = slice_get targets 0
+platform_asked NoTarget targets = None
+
+-- what the tools say of a platform, with the other answers so far
+abbrev pub with_platform : QueryConfig → Option (List ℕ) → List (List ℕ) → Option Parts → Option (List ℕ) → Means → ToolAnswers
+with_platform query file targets version platform means = record {
+  config_file = file;
+  targets = targets;
+  toolchain = version;
+  rustc_cfg = cfg_answer query platform means;
+  target = target_result (data_answer query platform version means);
+}
+
+-- the same, where the platform is one of those that are built for, or none is named
+abbrev pub with_targets : PlatformAsked → QueryConfig → Option (List ℕ) → List (List ℕ) → Option Parts → Means → ToolAnswers
+with_targets platform query file targets version means = with_platform query file targets version (platform_asked platform targets) means
+
+-- what the tools say of the project of a manifest, with this printed configuration
+abbrev pub answers_with : Toolchain → List ℕ → PlatformAsked → CargoConfig → Means → Option (List ℕ) → ToolAnswers
+answers_with sysroot manifest platform config means file =
+    let query = query_of sysroot manifest file in
+    with_targets platform query file (targets_or_none (target_answer query config.target means)) (version_or_none (version_answer query means)) means
+
+-- what the tools say of the project of a manifest
+unfoldable pub tool_answers : Toolchain → List ℕ → PlatformAsked → CargoConfig → Means → ToolAnswers
+tool_answers sysroot manifest platform config means =
+    answers_with sysroot manifest platform config means (config_of manifest sysroot config.config_path means)

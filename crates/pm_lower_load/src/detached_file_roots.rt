@@ -1,0 +1,46 @@
+//! The roots of a detached file.
+
+ghost use Rattle.std.specs.Prelude.{◌≡◌, IfOk};
+ghost use Rattle.std.specs.Option.{option_copied};
+ghost use Rattle.pm_lower_load.specs.DetachedRoots.{root_of, roots_of};
+
+use crate::out_dirs::OutDirs;
+use crate::package_root::PackageRoot;
+use crate::roots::cargo_roots;
+use base_text::{AbsPathBuf, Items, ManifestPath};
+use pm_cargo::CargoWorkspace;
+use std::alloc::{AllocError, Global};
+
+// The root of the file itself.
+fn root_of(alloc: Global, file: &ManifestPath) -> Result<PackageRoot, AllocError>
+    ensures { IfOk result (λ root. root ≡ root_of file.now) }
+{
+    let mut include = Vec::with_capacity(alloc, 1)?;
+    include.push(file.as_path().to_path_buf(alloc)?)?;
+    Ok(PackageRoot {
+        is_local: true,
+        include: Items::new(include),
+        exclude: Items::empty(alloc),
+    })
+}
+
+/// The roots of a file: the file itself, and behind it those of the project that Cargo reads it as. The
+/// directories that builds wrote into and the extra ones are those of `cargo_roots`.
+pub fn detached_roots<O: OutDirs>(
+    alloc: Global,
+    file: &ManifestPath,
+    cargo: Option<&CargoWorkspace>,
+    out_dirs: &O,
+    extra_includes: &[AbsPathBuf],
+) -> Result<Items<PackageRoot>, AllocError>
+    ensures { IfOk result (λ roots. roots ≡ roots_of file.now (option_copied cargo.entry)
+        (O.out_dir_at out_dirs.now) extra_includes.now) }
+{
+    let mut roots = Vec::new(alloc);
+    roots.push(root_of(alloc, file)?)?;
+    if let Some(cargo) = cargo {
+        let mut others = cargo_roots(alloc, cargo, out_dirs, extra_includes)?.into_inner();
+        roots.append(&mut others)?;
+    }
+    Ok(Items::new(roots))
+}

@@ -1,7 +1,0 @@
-use Rattle.std.proofs.Common.{◌≡◌, flat_map, take}
-use Rattle.graph_base.specs.Edges.{row}
-use Rattle.reversed_graph.specs.Reversed.{rows_of}
-use Rattle.pm_members.proofs.closure.all_targets.Given as goal
-
-abbrev pub invariant-loop-node : goal.invariant-loop-node
-invariant-loop-node l = l.targets.items ≡ flat_map (row (rows_of l.rows)) (take l.node-index l.nodes)

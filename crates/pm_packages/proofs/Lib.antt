@@ -1,4 +1,0 @@
-pub mod Equalities
-pub mod KindLemmas
-pub mod ManifestLemmas
-pub mod UpdateLemmas

@@ -1,5 +1,0 @@
-pub mod Copies
-pub mod Ids
-pub mod Laws
-pub mod ManifestPath
-pub mod TargetKinds

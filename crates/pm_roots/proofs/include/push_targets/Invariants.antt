@@ -1,6 +1,0 @@
-use Rattle.std.proofs.Common.{◌≡◌, ◌++◌, flat_map, take}
-use Rattle.pm_roots.specs.Roots.{target_directory}
-use Rattle.pm_roots.proofs.include.push_targets.Given as goal
-
-abbrev pub invariant-loop-target : goal.invariant-loop-target
-invariant-loop-target l = l.found.items ≡ l.initial.found.items ++ flat_map (target_directory l.workspace l.package) (take l.target-index l.target-items)

@@ -1,9 +1,0 @@
-pub mod EdgeLemmas
-pub mod FoldLemmas
-pub mod KeptLemmas
-pub mod LoweredLemmas
-pub mod LoweringLemmas
-pub mod RankLemmas
-pub mod RowLemmas
-pub mod UnrankedLemmas
-pub mod WithinLemmas

@@ -1,5 +1,0 @@
-use Rattle.pm_rows.proofs.RankLemmas.{ranks_ascend}
-use Rattle.pm_rows.proofs.laws.wanted_edges_are_ranked.Goals as goal
-
-pub returns : goal.returns
-returns c = ranks_ascend

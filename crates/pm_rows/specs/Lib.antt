@@ -1,9 +1,0 @@
-pub mod Columns
-pub mod Gathering
-pub mod Keeping
-pub mod KeptEdges
-pub mod Lowering
-pub mod Ranks
-pub mod Refusal
-pub mod Rows
-pub mod WantedEdges

@@ -1,9 +1,0 @@
--- What equality of toolchains owes.
-use Rattle.std.specs.Prelude.{IfSome}
-use Rattle.base_text.specs.Paths.{IsClean}
-use Rattle.pm_sysroot.specs.Toolchain.{Toolchain}
-
--- the texts of both directories are clean, as those of an `AbsPathBuf` are
-pub record HasCleanPaths (sysroot : Toolchain) : Type 0 where
-  pub root : IfSome sysroot.root IsClean
-  pub src : IfSome sysroot.src IsClean

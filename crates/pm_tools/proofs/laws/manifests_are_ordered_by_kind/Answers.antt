@@ -1,6 +1,0 @@
-use Rattle.std.proofs.Common.{refl}
-use Rattle.pm_tools.proofs.Orders.{manifests}
-use Rattle.pm_tools.proofs.laws.manifests_are_ordered_by_kind.Goals as goal
-
-pub returns : goal.returns
-returns c = manifests _ (λ p q. refl) (λ p q. refl) (λ p q. refl) (λ p q. refl) (λ p q. refl) (λ p q. refl) (λ p q. refl) (λ p q. refl) (λ p q. refl)

@@ -1,0 +1,17 @@
+pub mod Answers
+pub mod Ask
+pub mod Config
+pub mod ConfigEnv
+pub mod ConfigQuestion
+pub mod Laws
+pub mod Line
+pub mod Manifest
+pub mod Questions
+pub mod Quotes
+pub mod Reader
+pub mod RelativeRoots
+pub mod RustLibSrc
+pub mod Statements
+pub mod Sysroot
+pub mod ToolPath
+pub mod Toolchain

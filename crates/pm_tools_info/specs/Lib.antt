@@ -1,0 +1,11 @@
+pub mod Asked
+pub mod Behind
+pub mod BuildTarget
+pub mod Cfgs
+pub mod Config
+pub mod Host
+pub mod Queries
+pub mod Questions
+pub mod StatedTargets
+pub mod TargetSpec
+pub mod Version

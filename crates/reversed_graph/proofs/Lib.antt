@@ -1,2 +1,0 @@
-mod BackLemmas
-mod RowLemmas

@@ -1,7 +1,0 @@
-use Rattle.std.proofs.Common.{◌≡◌, []}
-use Rattle.std.specs.Prelude.{replicate}
-use Rattle.reversed_graph.specs.Reversed.{rows_of}
-use Rattle.reversed_graph.proofs.reversed.Reversed.with_nodes.Given as goal
-
-abbrev pub invariant-loop : goal.invariant-loop
-invariant-loop l = rows_of l.rows.items ≡ replicate l.counter []

@@ -1,6 +1,0 @@
-use Rattle.std.proofs.Common.{◌≡◌, ◌++◌, map, take}
-use Rattle.base_text.specs.declared.cfg.CfgAtom.TheVariants.{KeyValue}
-use Rattle.toolchain_answers.proofs.cfgs.push_for_widths.Given as goal
-
-abbrev pub invariant-loop-width : goal.invariant-loop-width
-invariant-loop-width l = l.atoms.items ≡ l.initial.atoms.items ++ map (λ width. KeyValue l.key width.now) (take l.width-index l.width-items)

@@ -1,7 +1,0 @@
-use Rattle.std.proofs.Common.{◌≡◌, drop, length}
-use Rattle.std.specs.Str.Lines.{lines}
-use Rattle.toolchain_answers.specs.Host.{host_in, host_of}
-use Rattle.toolchain_answers.proofs.host.host_of.Given as goal
-
-abbrev pub invariant-loop-line : goal.invariant-loop-line
-invariant-loop-line l = host_in (drop (length l.yielded) (lines l.text)) ≡ host_of l.text

@@ -1,5 +1,0 @@
-pub mod Asked
-pub mod BuildTarget
-pub mod Config
-pub mod Queries
-pub mod Questions

@@ -1,2 +1,0 @@
-pub mod MemoryTree
-pub mod Tree

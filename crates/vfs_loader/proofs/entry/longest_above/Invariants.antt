@@ -1,7 +1,0 @@
-use Rattle.std.proofs.Common.{take}
-use Rattle.base_text.specs.AbsPath.{abs_text}
-use Rattle.vfs_loader.proofs.PrefixLemmas.{IsLongestSoFar}
-use Rattle.vfs_loader.proofs.entry.longest_above.Given as goal
-
-abbrev pub invariant-loop-directory : goal.invariant-loop-directory
-invariant-loop-directory l = IsLongestSoFar (take l.directory-index l.directories) (abs_text l.path) l.longest
