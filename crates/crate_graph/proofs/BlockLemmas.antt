@@ -11,8 +11,9 @@ use Rattle.graph_base.specs.Blocks as table
 use Rattle.graph_base.specs.Ranks.{AreRanks}
 use Rattle.crate_graph.specs.Blocks.{Block, IsMoved, IsOther, MovesBlock, block_of}
 use Rattle.crate_graph.specs.Order.{IsOrder, Ranking}
-use Rattle.crate_graph.proofs.EachOnceLemmas.{contains_at, has_or_not, place_in}
+use Rattle.crate_graph.proofs.EachOnceLemmas.{contains_at, place_in}
 use Rattle.crate_graph.proofs.OrderRankLemmas.{same_node}
+use Rattle.graph_base.proofs.ListingLemmas.{has_or_not}
 
 among_of : (nodes : List ℕ) (n : ℕ) → Contains nodes n → IsAmong nodes (length nodes) n
 among_of nodes n c = let k = place_in nodes n c in record { place = k.0; early = k.1; node_is = k.2 }

@@ -1,14 +1,15 @@
 -- What a node reaches over the edges from a rank up: what it reaches that does not lie below that rank.
-use Rattle.std.proofs.Common.{◌≡◌, ℕ, ◌+◌, ◌<◌, ◌≤◌, ◌⊎◌, inl, inr, Bool, true, false, List, [], length, map, nat_lt, get_or, refl, sym, ap, ◌∙◌, subst, arith}
+use Rattle.std.proofs.Common.{◌≡◌, ℕ, ◌<◌, ◌≤◌, ◌⊎◌, inl, inr, Bool, true, false, List, [], length, map, get_or, sym, ap, ◌∙◌, subst, arith}
 use Rattle.std.specs.Prelude.{slice_index, if◌then◌else◌}
-use Rattle.std.specs.List.{Contains}
-use Rattle.std.proofs.lemmas.Bool.{cases_order, le-ltb, lt-ltb}
-use Rattle.std.proofs.lemmas.List.{get_or_default, get_or-map, get_or_past, length-map}
+use Rattle.std.proofs.lemmas.Bool.{le-ltb, lt-ltb}
+use Rattle.std.proofs.lemmas.List.{get_or_default, get_or-map, length-map}
 use Rattle.std.proofs.lemmas.List.FromFn.{get_or-map-range_with_len, length-map-range_with_len}
 use Rattle.graph_base.specs.Edges.{HasEdge, IsInRange, row}
 use Rattle.graph_base.specs.Reach.{Reaches, further, itself}
 use Rattle.crate_graph.specs.Walking.{bounded, stays_above}
 use Rattle.crate_graph.specs.Order.{Descends}
+use Rattle.graph_base.proofs.KeptLemmas.{edge_within as source_in}
+use Rattle.graph_base.proofs.NextRankLemmas.{less_or_not}
 
 pub length-bounded : (ranks : List ℕ) (from : ℕ) (rows : List (List ℕ)) → length (bounded ranks from rows) ≡ length rows
 length-bounded ranks from rows = length-map-range_with_len (λ node. map (stays_above ranks from node) (row rows node)) 0 (length rows)
@@ -22,12 +23,6 @@ stays_below ranks from node target less = ap (λ t. if t then node else target) 
 pub goes_above : (ranks : List ℕ) (from node target : ℕ) → slice_index ranks from ≤ slice_index ranks target → stays_above ranks from node target ≡ target
 goes_above ranks from node target most = ap (λ t. if t then node else target) (le-ltb (slice_index ranks target) (slice_index ranks from) most)
 
-less_or_not : (a b : ℕ) → (a < b) ⊎ (b ≤ a)
-less_or_not a b = elim (cases_order a b) [
-  | inl same ↦ inr (omega (arith, same))
-  | inr apart ↦ elim apart [ inl less ↦ inl less | inr more ↦ inr (omega (arith, more)) ]
-]
-
 pub target-bounded : (ranks : List ℕ) (from : ℕ) (rows : List (List ℕ)) (node place : ℕ) → node < length rows → place < length (row rows node)
     → slice_index (row (bounded ranks from rows) node) place ≡ stays_above ranks from node (slice_index (row rows node) place)
 target-bounded ranks from rows node place there within =
@@ -38,16 +33,6 @@ edge_at g a k within = (k, within, get_or_default (row g a) k (slice_index (row 
 
 pub length-row : (ranks : List ℕ) (from : ℕ) (rows : List (List ℕ)) (node : ℕ) → node < length rows → length (row (bounded ranks from rows) node) ≡ length (row rows node)
 length-row ranks from rows node there = ap length (row-bounded ranks from rows node there) ∙ length-map (row rows node) (stays_above ranks from node)
-
--- a node with an edge is there
-pub source_in : (g : List (List ℕ)) (a b : ℕ) → HasEdge g a b → a < length g
-source_in g a b edge = elim (less_or_not a (length g)) [
-  | inl there ↦ there
-  | inr past ↦ absurd (none g a edge.0 past edge.1)
-]
-  where
-    none : (g : List (List ℕ)) (a k : ℕ) → length g ≤ a → k < length (row g a) → ⊥
-    none g a k past within = let nil : row g a ≡ [] = get_or_past g a [] past in omega (arith, within, ap length nil)
 
 -- an edge of the bounded graph leads back, or is one of the graph that leads to the rank or above
 pub split_edge : (ranks : List ℕ) (from : ℕ) (rows : List (List ℕ)) (a b : ℕ) → HasEdge (bounded ranks from rows) a b → (b ≡ a) ⊎ (HasEdge rows a b × (slice_index ranks from ≤ slice_index ranks b))

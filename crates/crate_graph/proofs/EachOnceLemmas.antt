@@ -1,20 +1,14 @@
 -- Lists of numbers that differ, and the ranks of nodes that stand each once.
-use Rattle.std.proofs.Common.{◌≡◌, ℕ, ◌<◌, ◌≤◌, ◌≢◌, ◌^◌, ◌⊎◌, inl, inr, Bool, true, false, eqb, List, [], ◌∷◌, length, get_or, refl, sym, ap, ◌∙◌, subst, arith}
+use Rattle.std.proofs.Common.{◌≡◌, ℕ, ◌<◌, ◌≤◌, ◌≢◌, ◌^◌, eqb, List, [], ◌∷◌, length, get_or, refl, sym, ap, ◌∙◌, arith}
 use Rattle.std.specs.Prelude.{slice_index}
-use Rattle.std.specs.List.{All, AllPairs, Contains, list_any}
-use Rattle.std.proofs.lemmas.Bool.{false≢true}
+use Rattle.std.specs.List.{All, AllPairs, Contains}
 use Rattle.std.proofs.lemmas.Bool.Decides.{Decides-eqb}
 use Rattle.std.proofs.lemmas.List.{get_or_default}
-use Rattle.std.proofs.lemmas.List.Elements.{All-get_or}
-use Rattle.std.proofs.lemmas.Map.Made.{IsDistinct-from_AllPairs, is_member-Decides}
-use Rattle.std.proofs.lemmas.Map.Steps.{le-length_from_below, length-le_from_distinct_below}
+use Rattle.std.proofs.lemmas.Map.Made.{is_member-Decides}
+use Rattle.std.proofs.lemmas.Map.Steps.{le-length_from_below}
 use Rattle.crate_graph.specs.Order.{IsOrder, Ranking}
 use Rattle.crate_graph.specs.Suborder.{HasEachOnce, IsInverse}
-
--- numbers that differ and lie below a count are at most as many
-pub few : (xs : List ℕ) (count : ℕ) → AllPairs (λ m n. m ≢ n) xs → All (λ n. n < count) xs → length xs ≤ count
-few xs count once within = length-le_from_distinct_below xs count (IsDistinct-from_AllPairs Decides-eqb xs once)
-    (λ q is. let c = (is_member-Decides Decides-eqb xs q).0 is in subst (λ n. n < count) c.2 (All-get_or (λ n. n < count) xs c.0 q c.1 within))
+use Rattle.graph_base.proofs.ListingLemmas.{few}
 
 -- numbers that differ and are those below a count are as many
 pub as_many : (xs : List ℕ) (count : ℕ) → AllPairs (λ m n. m ≢ n) xs → All (λ n. n < count) xs → ((n : ℕ) → n < count → Contains xs n) → length xs ≡ count
@@ -22,14 +16,6 @@ as_many xs count once within all =
     let at_most : length xs ≤ count = few xs count once within in
     let many : count ≤ length xs = le-length_from_below xs count (λ q below. (is_member-Decides Decides-eqb xs q).1 (all q below)) in
     omega (arith, at_most, many)
-
--- a list has a number, or has it not
-pub has_or_not : (xs : List ℕ) (n : ℕ) → Contains xs n ⊎ (Contains xs n → ⊥)
-has_or_not xs n = by (list_any (eqb n) xs) (is_member-Decides Decides-eqb xs n).0 (is_member-Decides Decides-eqb xs n).1
-  where
-    by : (b : Bool) → (b ≡ true → Contains xs n) → (Contains xs n → b ≡ true) → Contains xs n ⊎ (Contains xs n → ⊥)
-    by true there back = inl (there refl)
-    by false there back = inr (λ c. false≢true (back c))
 
 -- a list without items is empty
 pub nil_from_length : (xs : List ℕ) → length xs ≡ 0 → xs ≡ []

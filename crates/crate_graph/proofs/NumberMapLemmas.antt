@@ -85,7 +85,7 @@ numbers_more new_numbers i new key value q before after within is at gives step 
     ∙ sym (slice_get-take_more new_numbers i (number_of q) new 0 within is)
 
 -- a choice of which the second is missing
-or_none : {X : Type 0} (o : Option X) → option_or o None ≡ o
+pub or_none : {X : Type 0} (o : Option X) → option_or o None ≡ o
 or_none None = refl
 or_none (Some x) = refl
 

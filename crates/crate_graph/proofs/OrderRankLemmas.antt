@@ -4,7 +4,7 @@ use Rattle.std.specs.List.{All, AllPairs, range_with_len}
 use Rattle.std.proofs.lemmas.List.FromFn.{get_or-map-range_with_len, length-map-range_with_len}
 use Rattle.graph_base.specs.Reach.{Reaches, further, itself}
 use Rattle.crate_graph.specs.Order.{Descends, IsOrder, Ranking}
-use Rattle.crate_graph.proofs.EachOnceLemmas.{few}
+use Rattle.graph_base.proofs.ListingLemmas.{few}
 
 -- two nodes of one rank are one
 pub same_node : (order : Ranking) (m n : ℕ) → IsOrder order → m < length order.nodes → n < length order.nodes → get_or order.ranks m 0 ≡ get_or order.ranks n 0 → m ≡ n

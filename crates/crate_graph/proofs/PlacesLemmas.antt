@@ -1,6 +1,6 @@
 -- The places of hashes, found from the last to the first, and the first equal crate by them.
 use Rattle.std.proofs.Common.{◌≡◌, ◌≢◌, ℕ, zero, suc, ◌+◌, ◌-◌, ◌<◌, inl, inr, Bool, true, false, not, cond, List, [], ◌∷◌, length, get_or, set, Option, Some, None, refl, sym, ap, ◌∙◌, subst, arith, get_or-set_same, get_or-set_other, length-set}
-use Rattle.std.specs.Prelude.{nat_lt, slice_index, slice_index_or, ◌==◌, ◌&&◌}
+use Rattle.std.specs.Prelude.{nat_lt, slice_index, slice_index_or, ◌==◌}
 use Rattle.std.specs.List.{position, position_or_len}
 use Rattle.std.proofs.lemmas.Bool.{cases_Bool, cases_eq, cases_lt, eq-eqb, ne_eqb}
 use Rattle.std.proofs.lemmas.Bool.Decides.{Decides-ltb}
@@ -133,7 +133,3 @@ module _ {X : Type 0} (p : X → Bool) (xs : List X) (places : List ℕ) (hash :
       fewer : (o : Option ℕ) → IsFirst places hash (n + 1) o → left_from xs o < left_from xs (Some n)
       fewer None first = omega (arith, old.0)
       fewer (Some m) first = omega (arith, old.0, first.0, first.1, long)
-
-pub and_first : (x y : Bool) → (x && y) ≡ true → x ≡ true
-and_first true y is = refl
-and_first false y is = is

@@ -37,7 +37,7 @@ named_place (m ∷ ms) n is = elim (cases_eq m n) [
       (suc at.0, omega (arith, at.1), at.2)
 ]
 
-or_false : (x y : Bool) → y ≡ false → (x || y) ≡ x
+pub or_false : (x y : Bool) → y ≡ false → (x || y) ≡ x
 or_false true y is = refl
 or_false false y is = is
 

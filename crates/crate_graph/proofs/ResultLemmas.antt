@@ -1,10 +1,6 @@
 -- What is said of an answer, from what is said of another, or of the same in other words.
 use Rattle.std.proofs.Common.{◌≡◌, true, Option, Some, None, is_some, refl, sym, ◌∙◌}
-use Rattle.std.specs.Prelude.{Result, Ok, Err, IfOk, IfSome, OnErr, OnOk}
-
-pub then_ok : {T E : Type 0} (P Q : Type 0) (r : Result T E) → (P → Q) → OnOk r P → OnOk r Q
-then_ok P Q (Ok x) f p = f p
-then_ok P Q (Err e) f p = tt
+use Rattle.std.specs.Prelude.{Result, Ok, Err, IfOk}
 
 pub if_ok_then : {T E : Type 0} (P Q : T → Type 0) (r : Result T E) → ((x : T) → P x → Q x) → IfOk r P → IfOk r Q
 if_ok_then P Q (Ok x) f p = f x p
@@ -13,14 +9,6 @@ if_ok_then P Q (Err e) f p = tt
 pub both_ok : {T E : Type 0} (P Q R : T → Type 0) (r : Result T E) → ((x : T) → P x → Q x → R x) → IfOk r P → IfOk r Q → IfOk r R
 both_ok P Q R (Ok x) f p q = f x p q
 both_ok P Q R (Err e) f p q = tt
-
-pub then_err : {T E : Type 0} (P Q : Type 0) (r : Result T E) → (P → Q) → OnErr r P → OnErr r Q
-then_err P Q (Ok x) f p = tt
-then_err P Q (Err e) f p = f p
-
-pub then_some : {T : Type 0} (P Q : T → Type 0) (o : Option T) → ((x : T) → P x → Q x) → IfSome o P → IfSome o Q
-then_some P Q None f p = tt
-then_some P Q (Some x) f p = f x p
 
 -- a value that is there is one, and one that is not is none
 pub some_is : {X : Type 0} (o : Option X) → is_some o ≡ true → (x : X) × (o ≡ Some x)

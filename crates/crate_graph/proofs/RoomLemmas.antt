@@ -10,8 +10,9 @@ use Rattle.graph_base.proofs.ReachLemmas.{reaches_edge}
 use Rattle.crate_graph.specs.Insertion.{MakesRoom}
 use Rattle.crate_graph.specs.Order.{Descends, IsOrder, Ranking}
 use Rattle.crate_graph.specs.Blocks.{Block, FitsBlock, IsMoved, IsOther, MovesBlock, block_of, no_block}
-use Rattle.crate_graph.proofs.EachOnceLemmas.{has_or_not, place_in}
+use Rattle.crate_graph.proofs.EachOnceLemmas.{place_in}
 use Rattle.crate_graph.proofs.OrderRankLemmas.{reaches_falls, same_node, same_rank}
+use Rattle.graph_base.proofs.ListingLemmas.{has_or_not}
 
 -- ---- orders after a placement
 

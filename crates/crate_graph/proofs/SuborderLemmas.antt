@@ -13,6 +13,7 @@ use Rattle.graph_base.proofs.KeptLemmas.{below_less, below_named, below_other, b
 use Rattle.crate_graph.specs.Order.{IsOrder, Ranking}
 use Rattle.crate_graph.specs.Suborder.{FitsKept, HasEachOnce, KeepsRanks, kept_nodes, new_number}
 use Rattle.crate_graph.proofs.EachOnceLemmas.{as_many}
+use Rattle.crate_graph.proofs.PruneLemmas.{or_false}
 
 -- ---- the new numbers
 
@@ -52,7 +53,7 @@ nodes_known order is = All-from_get_or (λ n. n < length order.nodes) order.node
 contains_later : {X : Type 0} (y : X) (xs : List X) (x : X) → Contains xs x → Contains (y ∷ xs) x
 contains_later y xs x c = (suc c.0, omega (arith, c.1), c.2)
 
-contains_filter : (p : ℕ → Bool) (xs : List ℕ) (x : ℕ) → p x ≡ true → Contains xs x → Contains (filter p xs) x
+pub contains_filter : (p : ℕ → Bool) (xs : List ℕ) (x : ℕ) → p x ≡ true → Contains xs x → Contains (filter p xs) x
 contains_filter p [] x is c = absurd (omega (arith, c.1))
 contains_filter p (y ∷ ys) x is (zero, within, at) =
     subst (λ b. Contains (cond b (y ∷ filter p ys) (filter p ys)) x) (sym (ap p at ∙ is)) (0, omega arith, at)
@@ -173,10 +174,6 @@ module _ (keep : List ℕ) (order : Ranking) (is : IsOrder order) (known : (n : 
 -- an item of a list is named by it
 pub named_item : (keep : List ℕ) (k : ℕ) → k < length keep → is_named keep (get_or keep k 0) ≡ true
 named_item keep k within = list_any_at (λ m. m == get_or keep k 0) keep k 0 within (eq-eqb (get_or keep k 0) (get_or keep k 0) refl)
-
-or_false : (x y : Bool) → y ≡ false → (x || y) ≡ x
-or_false true y is = refl
-or_false false y is = is
 
 -- one more mark
 pub marks_more : (keep : List ℕ) (marks : List Bool) (i count : ℕ) → i < length keep → get_or keep i 0 < count → length marks ≡ count

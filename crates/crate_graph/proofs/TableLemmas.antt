@@ -10,8 +10,8 @@ use Rattle.graph_base.specs.Ranks.{AreRanks, with_next_rank}
 use Rattle.crate_graph.specs.Order.{AreKept, IsOrder, Ranking, ranking, with_next_node}
 use Rattle.crate_graph.specs.Placing.{FitsOrder, Placement, Rearranges}
 use Rattle.crate_graph.specs.Suborder.{HasEachOnce}
-use Rattle.crate_graph.proofs.EachOnceLemmas.{few}
 use Rattle.crate_graph.proofs.RankingLemmas.{length-ranking, ranking_is_order, ranking_next}
+use Rattle.graph_base.proofs.ListingLemmas.{few}
 
 pub none_kept : AreKept []
 none_kept = record {

@@ -26,9 +26,10 @@ use Rattle.crate_graph.specs.Placing.{FitsOrder, Placement, Rearranges, placemen
 use Rattle.crate_graph.specs.Walking.{AreUnmarked, IsPlaced, bounded}
 use Rattle.crate_graph.proofs.BlockLemmas.{AreSplit, above_is_block, below_is_block}
 use Rattle.crate_graph.proofs.BoundedLemmas.{length-bounded, reached_above, split_edge, still_reached}
-use Rattle.crate_graph.proofs.EachOnceLemmas.{few, place_in}
+use Rattle.crate_graph.proofs.EachOnceLemmas.{place_in}
 use Rattle.crate_graph.proofs.RankingLemmas.{length-ranking, ranking_is_order}
 use Rattle.crate_graph.proofs.RoomLemmas.{IsReachedPart, room_made, room_of_none}
+use Rattle.graph_base.proofs.ListingLemmas.{few}
 
 eqb_self : (n : ℕ) → eqb n n ≡ true
 eqb_self n = (Decides-eqb n n).1 refl

@@ -8,7 +8,7 @@ use Rattle.std.proofs.lemmas.List.Elements.{Contains-append_left, Contains-push,
 use Rattle.graph_base.specs.Edges.{HasEdge, row, with_edge}
 use Rattle.graph_base.specs.Reach.{Reaches, itself, further}
 use Rattle.graph_base.proofs.KeptLemmas.{edge_within}
-use Rattle.graph_base.proofs.ReachLemmas.{none_in, reaches_edge}
+use Rattle.graph_base.proofs.ReachLemmas.{none_in, reaches_edge, edge_cases}
 use Rattle.graph_base.specs.Reversed.{IsReversed}
 
 -- nodes with no edges have none
@@ -18,21 +18,6 @@ no_edge count a b e = elim (cases_lt a count) [
   | inr past ↦
       none_in b (subst (λ r. Contains r b)
       (get_or_past (replicate count []) a [] (omega (arith, length-replicate {A = List ℕ} count []))) e)
-]
-
--- an edge of the graph with one more is an old one or the new one
-pub edge_cases : (g : List (List ℕ)) (from to x y : ℕ) → from < length g
-    → HasEdge (with_edge g from to) x y → HasEdge g x y ⊎ ((x ≡ from) × (y ≡ to))
-edge_cases g from to x y within e = elim (cases_eq x from) [
-  | inl same ↦
-      let there : Contains (row g from ++ to ∷ []) y =
-      subst (λ r. Contains r y) (get_or-set_same g from (row g from ++ to ∷ []) [] within)
-      (subst (λ z. HasEdge (with_edge g from to) z y) same e) in
-      elim (Contains-push_cases (row g from) to y there) [
-        | inl old ↦ inl (subst (λ z. HasEdge g z y) (sym same) old)
-        | inr new ↦ inr (same, sym new)
-      ]
-  | inr other ↦ inl (subst (λ r. Contains r y) (get_or-set_other g from x (row g from ++ to ∷ []) [] other) e)
 ]
 
 -- the graph with one more edge has the old ones and the new one

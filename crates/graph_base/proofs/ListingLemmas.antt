@@ -15,11 +15,11 @@ use Rattle.graph_base.proofs.PushingLemmas.{at_front, at_last}
 use Rattle.graph_base.proofs.RingLemmas.{decide_eq}
 
 -- numbers that differ and lie below a count are at most as many
-few : (xs : List ℕ) (count : ℕ) → AllPairs (λ m n. m ≢ n) xs → All (λ n. n < count) xs → length xs ≤ count
+pub few : (xs : List ℕ) (count : ℕ) → AllPairs (λ m n. m ≢ n) xs → All (λ n. n < count) xs → length xs ≤ count
 few xs count once within = length-le_from_distinct_below xs count (IsDistinct-from_AllPairs Decides-eqb xs once)
     (λ q is. let c = (is_member-Decides Decides-eqb xs q).0 is in subst (λ n. n < count) c.2 (All-get_or (λ n. n < count) xs c.0 q c.1 within))
 
-has_or_not : (xs : List ℕ) (n : ℕ) → Contains xs n ⊎ (Contains xs n → ⊥)
+pub has_or_not : (xs : List ℕ) (n : ℕ) → Contains xs n ⊎ (Contains xs n → ⊥)
 has_or_not xs n = by (list_any (eqb n) xs) (is_member-Decides Decides-eqb xs n).0 (is_member-Decides Decides-eqb xs n).1
   where
     by : (b : Bool) → (b ≡ true → Contains xs n) → (Contains xs n → b ≡ true) → Contains xs n ⊎ (Contains xs n → ⊥)

@@ -14,7 +14,7 @@ use Rattle.graph_base.proofs.PushingLemmas.{at_front, at_last, one_longer}
 use Rattle.graph_base.proofs.RankLemmas.{count_cons, length-ranks, lt_no, lt_yes, rank_at, same_count}
 use Rattle.graph_base.proofs.RingLemmas.{decide_eq}
 
-less_or_not : (a b : ℕ) → (a < b) ⊎ (b ≤ a)
+pub less_or_not : (a b : ℕ) → (a < b) ⊎ (b ≤ a)
 less_or_not a b = elim (cases_order a b) [
   | inl same ↦ inr (omega (arith, same))
   | inr apart ↦ elim apart [ inl less ↦ inl less | inr more ↦ inr (omega (arith, more)) ]

@@ -10,8 +10,9 @@ use Rattle.graph_base.proofs.MarkLemmas.{mark_cases, mark_kept, unmarked_all}
 use Rattle.graph_base.proofs.ReachLemmas.{none_in}
 use Rattle.input_db.specs.Identity.{Table, crate_edges, named_in}
 use Rattle.input_db.specs.Queries.{AreListed, is_marked, others}
-use Rattle.input_db.proofs.Filtered.{among_filtered, filtered_of}
+use Rattle.input_db.proofs.Filtered.{filtered_of}
 use Rattle.input_db.proofs.ItselfFirst.{contains_same}
+use Rattle.crate_graph.proofs.SuborderLemmas.{contains_filter as among_filtered}
 
 -- no mark is set for an empty list
 pub listed_none : (count : ℕ) → AreListed (replicate count false) []

@@ -25,16 +25,6 @@ keeps_split : (passes : Bool) (n : ℕ) (rest : List ℕ) (b : ℕ) → Contains
 keeps_split true n rest b h = contains_other n rest b h
 keeps_split false n rest b h = h
 
--- what is of the list, and passes, is left
-pub among_filtered : (test : ℕ → Bool) (ns : List ℕ) (b : ℕ) → test b ≡ true → Contains ns b → Contains (filter test ns) b
-among_filtered test [] b passes h = absurd (none_in b h)
-among_filtered test (n ∷ ns) b passes h = elim (contains_cases n ns b h) [
-  | inl same ↦
-      subst (λ t. Contains (cond t (n ∷ filter test ns) (filter test ns)) b) (sym (ap test same ∙ passes))
-      (subst (λ z. Contains (n ∷ filter test ns) z) same (contains_first n (filter test ns)))
-  | inr other ↦ keeps_split (test n) n (filter test ns) b (among_filtered test ns b passes other)
-]
-
 -- what is left of ascending numbers is ascending
 pub ascending_filtered : (test : ℕ → Bool) (ns : List ℕ) → IsAscending ns → IsAscending (filter test ns)
 ascending_filtered test ns ascending = λ i j lt within.

@@ -9,7 +9,8 @@ use Rattle.graph_base.proofs.FinishLemmas.{contains_cases, contains_other}
 use Rattle.graph_base.specs.Edges.{IsAscending}
 use Rattle.graph_base.specs.Reach.{Reaches, itself}
 use Rattle.input_db.specs.Queries.{IsWithItselfFirst, others}
-use Rattle.input_db.proofs.Filtered.{among_filtered, ascending_filtered, filtered_of}
+use Rattle.input_db.proofs.Filtered.{ascending_filtered, filtered_of}
+use Rattle.crate_graph.proofs.SuborderLemmas.{contains_filter as among_filtered}
 
 -- a list with the crate first contains that crate, and what the list of all contains besides
 pub contains_same : (krate : ℕ) (ns crates : List ℕ) → crates ≡ krate ∷ others krate ns → (P : ℕ → Type 0)

@@ -15,7 +15,7 @@ mod PlaceLemmas
 mod PutLemmas
 mod Run
 mod RunLemmas
-mod RunSteps
+pub mod RunSteps
 mod SetAgain
 mod SetLemmas
 pub mod TableLemmas

@@ -34,7 +34,7 @@ climbs P from (suc top) low start step = elim (cases_lt from (suc top)) [
 ]
 
 -- the next number, as the library's lemmas write it
-next : (k : ℕ) → suc k ≡ k + 1
+pub next : (k : ℕ) → suc k ≡ k + 1
 next k = omega arith
 
 -- what is among the numbers once one is a member

@@ -24,9 +24,7 @@ use Rattle.live_page.specs.Shape.{place_shape}
 use Rattle.vfs_sets.specs.declared.file_root.FileRoot.{FileRoot}
 use Rattle.live_page.proofs.Ascending.{RisesFrom, chosen_key, existing_rise, found_all, kept_rise, paths_of_set}
 use Rattle.live_page.proofs.Ranges.{map_enumerated, map_enumerated_more, slice_get_range}
-
-next : (a : ℕ) → suc a ≡ a + 1
-next a = omega arith
+use Rattle.input_db.proofs.RunSteps.{next}
 
 -- a source root of a set, by whether it is local
 is_library : (is_local : Bool) (set : sets.FileSetContent) → (source_root is_local set).is_library ≡ not is_local

@@ -18,6 +18,7 @@ use Rattle.input_db_files.specs.declared.inputs.SourceRootInput.{SourceRootInput
 use Rattle.input_db_files.specs.declared.source_root.SourceRoot.{SourceRoot}
 use Rattle.live_page.specs.Entries.{dependency_entry, named_number}
 use Rattle.live_page.specs.Page.{path_shown, root_shown, set_shown}
+use Rattle.base_values.proofs.Basics.{none_is as none-from}
 
 module _ {X Y : Type 0} (h : X → Option Y) (xs : List X) (x : X) where
   -- one more item that gives something
@@ -104,10 +105,6 @@ root_more db seen id input sets more value has is so_far pushed =
     ∙ ap (λ d. map set_shown (filter_map (root_shown db) seen) ++ d ∷ []) is
     ∙ sym (map-append set_shown (filter_map (root_shown db) seen) (input.source_root ∷ []))
     ∙ ap (map set_shown) (sym (filter_map-some (root_shown db) seen id input.source_root gives))
-
-none-from : {X : Type 0} (x : Option X) → is_some x ≡ false → x ≡ None
-none-from None h = refl
-none-from (Some x) h = cc
 
 -- and one that is not
 pub root_none : (db : Database) (seen : List ℕ) (id : ℕ) (sets : List Value)

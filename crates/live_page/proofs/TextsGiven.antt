@@ -2,7 +2,7 @@
 use Rattle.std.proofs.Common.{◌≡◌, ℕ, Bool, true, false, ◌&&◌, List, [], ◌∷◌, Option, Some, None, refl, sym, ◌∙◌, ap, subst, nat_eq, eqb-true, true≢false, if◌then◌else◌}
 use Rattle.std.specs.List.{AllByRecursion, IsDistinct}
 use Rattle.std.specs.Map.{keys_of, lookup}
-use Rattle.std.specs.Option.{option_map, option_or, unwrap_or}
+use Rattle.std.specs.Option.{option_map, unwrap_or}
 use Rattle.std.specs.Str.{is_utf8}
 use Rattle.vfs_core.specs.declared.changed_file.Change.{Change}
 use Rattle.vfs_core.specs.declared.changed_file.Change.TheVariants.{Create, Modify, Delete}
@@ -13,14 +13,11 @@ use Rattle.input_db_files.specs.Files.{FileTables}
 use Rattle.input_db_files.specs.declared.source_root.SourceRoot.{SourceRoot}
 use Rattle.live_page.specs.Refresh.{changes_taken, text_left}
 use Rattle.live_page.proofs.Taken.{taken-split}
+use Rattle.crate_graph.proofs.NumberMapLemmas.{or_none as or-none}
 
 -- the text that a call gives to its file
 abbrev pub given_by : ChangedFile → List ℕ
 given_by call = unwrap_or (text_left call.change) []
-
-or-none : {X : Type 0} (x : Option X) → option_or x None ≡ x
-or-none None = refl
-or-none (Some x) = refl
 
 module _ (files : FileTables) (roots : List SourceRoot) (file : ℕ) where
   -- a batch without the file gives it none: the same by whether the first file has a root

@@ -11,7 +11,8 @@ use Rattle.graph_base.specs.Edges.{HasEdge, IsInRange, row}
 use Rattle.graph_base.specs.Reach.{Reaches, itself, further}
 use Rattle.graph_base.proofs.ReachLemmas.{none_in, reaches_edge, reaches_on}
 use Rattle.pm_cargo_members.specs.Closure.{LeadsTo, closure, edges_from, leads_to}
-use Rattle.pm_cargo_members.proofs.ListLemmas.{any_in, any_of, cons_cases, contains_here, contains_map, filter_in, filter_of, from_map, range_below, range_has, range_sorted, sorted_same}
+use Rattle.pm_cargo_members.proofs.ListLemmas.{any_in, any_of, cons_cases, contains_here, contains_map, filter_in, filter_of, from_map, range_sorted, sorted_same}
+use Rattle.graph_base.proofs.FinishLemmas.{range_at as range_has, range_below}
 
 -- ---- the edges as a list
 

@@ -139,11 +139,3 @@ pub range_sorted : (a n : ℕ) → IsStrictlySortedBy nat_cmp (range_with_len a 
 range_sorted a n = sorted_from_strictly_increasing (range_with_len a n) (λ k within.
     let long = length-range_with_len a n in
     omega (arith, get_or-range_with_len a n k 0 (omega arith), get_or-range_with_len a n (k + 1) 0 (omega arith)))
-
-pub range_has : (n b : ℕ) → b < n → Contains (range_with_len 0 n) b
-range_has n b below = (b, omega (arith, length-range_with_len 0 n), get_or-range_with_len 0 n b b below ∙ (omega arith))
-
-pub range_below : (n b : ℕ) → Contains (range_with_len 0 n) b → b < n
-range_below n b c =
-    let within : c.0 < n = omega (arith, c.1, length-range_with_len 0 n) in
-    omega (arith, within, get_or-range_with_len 0 n c.0 b within, c.2)

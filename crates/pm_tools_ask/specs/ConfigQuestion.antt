@@ -1,11 +1,10 @@
 -- The question by which `cargo` prints its configuration: an unstable command, which a variable allows.
-use Rattle.std.specs.Prelude.{ℕ, List, [], ◌∷◌, ◌++◌, codes, Option, unwrap_or}
+use Rattle.std.specs.Prelude.{ℕ, List, [], ◌∷◌, ◌++◌, codes, Option}
 use Rattle.base_text_outside.specs.declared.command.CommandLine.{CommandLine}
-use Rattle.base_text_paths.specs.Paths.{parent_text}
 use Rattle.base_text_outside.specs.CommandWords.{flag_word, option_words}
 use Rattle.pm_cargo_config.specs.Variables.{with_last_variable}
 use Rattle.base_text.specs.declared.tool.Tool.TheVariants.{Cargo}
-use Rattle.base_text_paths.specs.ManifestPath.{is_rust_manifest}
+use Rattle.base_text_paths.specs.ManifestPath.{is_rust_manifest, directory_of}
 use Rattle.pm_tools_ask.specs.Answers.{serving_answer}
 use Rattle.pm_tools_ask.specs.Ask.{Means}
 use Rattle.pm_tools_ask.specs.Questions.{question}
@@ -17,10 +16,6 @@ config_words manifest config_path =
     codes "-Z" ∷ codes "unstable-options" ∷ codes "config" ∷ codes "get" ∷ codes "--format" ∷ codes "toml" ∷ codes "--show-origin" ∷ []
     ++ option_words (codes "--config") config_path
     ++ flag_word (is_rust_manifest manifest) (codes "-Zscript")
-
--- the directory that a manifest lies in
-abbrev pub directory_of : List ℕ → List ℕ
-directory_of manifest = unwrap_or (parent_text manifest) []
 
 -- the question, which is asked in the manifest's directory
 abbrev pub config_question : List ℕ → Toolchain → Option (List ℕ) → Means → CommandLine

@@ -1,4 +1,4 @@
-use Rattle.std.proofs.Common.{◌≡◌, ◌∙◌, [], List, ℕ, Option, ap, codes, subst}
+use Rattle.std.proofs.Common.{◌≡◌, ◌∙◌, List, ℕ, Option, ap, codes, subst}
 use Rattle.std.specs.Option.{option_map, unwrap_or}
 use Rattle.std.specs.Result.{IfOk}
 use Rattle.base_text_paths.specs.AbsPath.{abs_text}
@@ -7,7 +7,8 @@ use Rattle.base_text.specs.declared.tool.Tool.TheVariants.{Cargo}
 use Rattle.pm_tools_ask.specs.Ask.{means_of}
 use Rattle.pm_cargo_config.specs.Variables.{with_last_variable}
 use Rattle.pm_tools_ask.specs.Questions.{question}
-use Rattle.pm_tools_ask.specs.ConfigQuestion.{config_words, directory_of}
+use Rattle.pm_tools_ask.specs.ConfigQuestion.{config_words}
+use Rattle.base_text_paths.specs.ManifestPath.{directory_of}
 use Rattle.pm_tools_ask.proofs.config_question.config_question.Goals as goal
 
 pub returns : goal.returns
@@ -17,7 +18,7 @@ returns g c =
     let sysroot = c.args.sysroot.now in
     let manifest = c.args.manifest.now in
     let dir_is : c.as_str.result.now ≡ directory_of manifest =
-    c.as_str.ensures.text ∙ ap (λ (o : Option (List ℕ)). unwrap_or o []) c.parent.ensures in
+    c.as_str.ensures.text ∙ ap (λ (o : Option (List ℕ)). unwrap_or o (codes "/")) c.parent.ensures in
     let line_is : c.in_ok-line.line ≡ question sysroot Cargo (directory_of manifest) (config_words manifest path) means =
     c.in_ok-line.ensures
     ∙ ap (λ (dir : List ℕ). question sysroot Cargo dir c.in_ok-words.words.items means) dir_is

@@ -3,7 +3,8 @@ use Rattle.std.specs.Prelude.{slice_index}
 use Rattle.std.proofs.lemmas.List.{get_or-map, get_or_default, length-map}
 use Rattle.crate_graph_values.specs.contracts.builder.CrateBuilderPartialEq.TheImpl as krates
 use Rattle.crate_graph_values.specs.declared.builder.CrateBuilder.{CrateBuilder}
-use Rattle.crate_graph.proofs.PlacesLemmas.{AreAlike, Searches, and_first, position_at, position_none, searches_next, searches_on}
+use Rattle.crate_graph.proofs.PlacesLemmas.{AreAlike, Searches, position_at, position_none, searches_next, searches_on}
+use Rattle.base_values.proofs.Basics.{and_first}
 use Rattle.crate_graph.proofs.graph.extend.merge.place_of.Goals as goal
 
 abbrev equals : CrateBuilder → CrateBuilder → Bool
