@@ -5,9 +5,9 @@ use Rattle.std.specs.Io.KnownBytes.{Consumes}
 use Rattle.std.proofs.KnownBytes.{Consumes-trans}
 use Rattle.std.proofs.lemmas.List.{map-append, nil_from_length}
 use Rattle.base_text.specs.Lines.{newline, has_newline, partial_line, lines_of, last_line}
-use Rattle.base_text.specs.Part.{IsHeld, Part, bytes_of, item_of, last_item_of, no_part}
+use Rattle.base_text.specs.Part.{IsHeld, Part, line_bytes, item_of, last_item_of, no_part}
 use Rattle.base_text.specs.Pieces.{Moves, Reads, rest_of}
-use Rattle.base_text.specs.Reader.{Reader, Gave, HoldsFew, IsCut, Tells, lines_after}
+use Rattle.base_text.specs.Reader.{Reader, GaveLines, HoldsFew, IsCut, TellsBoundedLine, lines_after}
 use Rattle.base_text.specs.declared.lines.Line.{Line}
 use Rattle.base_text.specs.declared.lines.LineError.{LineError}
 use Rattle.base_text.proofs.LineEnds.{lines_of-end, lines_of-line, partial_line-line, uncut-append}
@@ -18,7 +18,7 @@ reader part piece room done = record { part = part; piece = piece; room = room; 
 
 -- what a part of a call kept: nothing was given, and nothing was lost
 pub record Reading (old now : Reader) (left : Option (List ℕ) × Option (List ℕ)) (faults : ℕ × ℕ) : Type 0 where
-  pub keeps : (first : Option (List ℕ)) (given : List (Option (List ℕ))) → Gave first left.0 given old → Gave first left.1 given now
+  pub keeps : (first : Option (List ℕ)) (given : List (Option (List ℕ))) → GaveLines first left.0 given old → GaveLines first left.1 given now
   pub few : HoldsFew old → HoldsFew now
   pub not_done : now.is_done ≡ false
   pub later : faults.0 ≤ faults.1
@@ -33,7 +33,7 @@ unfolding last_item_of listed
 listed-last max [] = refl
 listed-last max (b ∷ bs) = refl
 
-after_last : (given : List (Option (List ℕ))) (result : Option Line) → lines_after given (Ok result) ≡ given ++ listed (option_map bytes_of result)
+after_last : (given : List (Option (List ℕ))) (result : Option Line) → lines_after given (Ok result) ≡ given ++ listed (option_map line_bytes result)
 unfolding listed
 after_last given None = sym (append-nil given)
 after_last given (Some line) = refl
@@ -44,12 +44,12 @@ after_error given (Ok line) h = absurd (true≢false (sym h))
 after_error given (Err error) h = refl
 
 module _ (first left : Option (List ℕ)) (given : List (Option (List ℕ))) (part : Part) (piece : List ℕ) (room : ℕ) (done : Bool) (not_done : done ≡ false)
-    (gave : Gave first left given (reader part piece room done)) where
+    (gave : GaveLines first left given (reader part piece room done)) where
   front_cut : partial_line gave.front ≡ []
   front_cut = let cut : IsCut false gave.front (gave.line ++ piece) left = subst (λ d. IsCut d gave.front (gave.line ++ piece) left) not_done gave.cut in cut
 
   -- nothing was taken in between
-  pub Gave-idle : (left' : Option (List ℕ)) → Consumes left left' [] → Gave first left' given (reader part piece room done)
+  pub Gave-idle : (left' : Option (List ℕ)) → Consumes left left' [] → GaveLines first left' given (reader part piece room done)
   Gave-idle left' none =
       let bytes = gave.front ++ (gave.line ++ piece) in
       record {
@@ -65,7 +65,7 @@ module _ (first left : Option (List ℕ)) (given : List (Option (List ℕ))) (pa
 
   module _ (piece' : List ℕ) (part' : Part) where
     -- a part of the line was moved, and its newline was not met
-    pub Gave-moved : Moves false piece piece' part part' → Gave first left given (reader part' piece' room done)
+    pub Gave-moved : Moves false piece piece' part part' → GaveLines first left given (reader part' piece' room done)
     Gave-moved moves =
         let line' = gave.line ++ moves.part in
         let same : gave.line ++ piece ≡ line' ++ piece' = ap (λ p. gave.line ++ p) moves.piece_is ∙ sym (append_assoc gave.line moves.part piece') in
@@ -82,7 +82,7 @@ module _ (first left : Option (List ℕ)) (given : List (Option (List ℕ))) (pa
 
     -- a line was found and is given
     pub Gave-line : Moves true piece piece' part part' → (item : Option (List ℕ)) → ((line : List ℕ) → IsHeld line part' → item ≡ item_of part'.max_line line)
-        → Gave first left (given ++ item ∷ []) (reader (no_part part'.max_line) piece' room done)
+        → GaveLines first left (given ++ item ∷ []) (reader (no_part part'.max_line) piece' room done)
     Gave-line moves item gives =
         let line' = gave.line ++ moves.part in
         let front' = gave.front ++ (line' ++ newline ∷ []) in
@@ -109,7 +109,7 @@ module _ (first left : Option (List ℕ)) (given : List (Option (List ℕ))) (pa
         Consumes-trans first left left' (gave.front ++ gave.line) piece' (subst (Consumes first left) before gave.taken) reads.read
 
     -- a read of the next piece
-    pub Gave-read : Gave first left' given (reader part piece' (room - count) done)
+    pub Gave-read : GaveLines first left' given (reader part piece' (room - count) done)
     Gave-read = record {
       front = gave.front;
       line = gave.line;
@@ -123,7 +123,7 @@ module _ (first left : Option (List ℕ)) (given : List (Option (List ℕ))) (pa
 
     -- the end was reported: what is held is the last line, where it is not empty
     pub Gave-end : count ≡ 0 → (last : Option (Option (List ℕ))) → ((line : List ℕ) → IsHeld line part → last ≡ last_item_of part.max_line line)
-        → Gave first left' (given ++ listed last) (reader (no_part part.max_line) piece' room true)
+        → GaveLines first left' (given ++ listed last) (reader (no_part part.max_line) piece' room true)
     Gave-end none last gives =
         let no_piece : piece' ≡ [] = nil_from_length piece' (reads.many ∙ none) in
         let front' = gave.front ++ gave.line in
@@ -141,12 +141,12 @@ module _ (first left : Option (List ℕ)) (given : List (Option (List ℕ))) (pa
 
 -- the answer at the end
 pub Gave-last : (first left : Option (List ℕ)) (given : List (Option (List ℕ))) (new : Reader) (result : Option Line) (last : Option (Option (List ℕ)))
-    → option_map bytes_of result ≡ last → Gave first left (given ++ listed last) new → Gave first left (lines_after given (Ok result)) new
+    → option_map line_bytes result ≡ last → GaveLines first left (given ++ listed last) new → GaveLines first left (lines_after given (Ok result)) new
 Gave-last first left given new result last is gave =
-    subst (λ g. Gave first left g new) (sym (after_last given result ∙ ap (λ l. given ++ listed l) is)) gave
+    subst (λ g. GaveLines first left g new) (sym (after_last given result ∙ ap (λ l. given ++ listed l) is)) gave
 
 -- what an answer means at the end
-pub Tells-last : (result : Option Line) (old new : Reader) (before now : ℕ) → new.is_done ≡ true → Tells (Ok result) old new before now
+pub Tells-last : (result : Option Line) (old new : Reader) (before now : ℕ) → new.is_done ≡ true → TellsBoundedLine (Ok result) old new before now
 Tells-last None old new before now done = inl done
 Tells-last (Some line) old new before now done = tt
 

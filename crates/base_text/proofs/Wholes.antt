@@ -6,12 +6,12 @@ use Rattle.std.proofs.KnownBytes.{Consumes-nil}
 use Rattle.base_text_outside.specs.Source.{Knows-after, Knows-all}
 use Rattle.base_text.specs.Lines.{last_line, lines_of, partial_line, whole_lines}
 use Rattle.base_text.specs.Part.{item_of}
-use Rattle.base_text.specs.Reader.{Gave, IsCut, IsFrontOf, Reader, new_reader}
+use Rattle.base_text.specs.Reader.{GaveLines, IsCut, IsFrontOf, Reader, new_reader}
 use Rattle.base_text.proofs.Cuts.{partial_line-nil, whole_lines-append}
 use Rattle.base_text.proofs.LineEnds.{lines_of-nil, lines_of-whole}
 
 -- nothing was given before the first read
-pub Gave-fresh : (max : ℕ) (left : Option (List ℕ)) → Gave left left [] (new_reader max)
+pub Gave-fresh : (max : ℕ) (left : Option (List ℕ)) → GaveLines left left [] (new_reader max)
 Gave-fresh max left = record {
   front = [];
   line = [];
@@ -24,7 +24,7 @@ Gave-fresh max left = record {
 }
 
 -- the bytes that were taken are fewer than 2^64
-pub Gave-within : (first left : Option (List ℕ)) (given : List (Option (List ℕ))) (reader : Reader) → Gave first left given reader
+pub Gave-within : (first left : Option (List ℕ)) (given : List (Option (List ℕ))) (reader : Reader) → GaveLines first left given reader
     → (taken : List ℕ) × Consumes first left taken × (length taken < 2 ^ 64)
 Gave-within first left given reader gave = (
   gave.front ++ (gave.line ++ reader.piece),
@@ -43,7 +43,7 @@ lines_of-front front rest cut =
           ∙ ap (λ ls. ls ++ (more.rest ++ last_line (partial_line (front ++ rest)))) (sym (lines_of-whole front cut));
     }
 
-module _ (bytes : List ℕ) (left : Option (List ℕ)) (given : List (Option (List ℕ))) (reader : Reader) (gave : Gave (Some bytes) left given reader) where
+module _ (bytes : List ℕ) (left : Option (List ℕ)) (given : List (Option (List ℕ))) (reader : Reader) (gave : GaveLines (Some bytes) left given reader) where
   -- all lines at the end
   pub Gave-all : reader.is_done ≡ true → given ≡ map (item_of reader.part.max_line) (lines_of bytes)
   Gave-all done =

@@ -11,8 +11,8 @@ use Rattle.base_text_paths.specs.Paths.{is_component, is_slash, normal, path_tex
 use Rattle.base_text.specs.Tree.{TreeFiles}
 
 -- the files with a text at the normal path, in place of an earlier one or as a new file in its place
-abbrev pub with_file : List ℕ → List ℕ → TreeFiles → TreeFiles
-with_file path text files = insert_entry path_cmp files (path_text (normal path)) text
+abbrev pub with_tree_file : List ℕ → List ℕ → TreeFiles → TreeFiles
+with_tree_file path text files = insert_entry path_cmp files (path_text (normal path)) text
 
 -- two paths are the same once they are normal
 abbrev pub is_same_file : List ℕ → List ℕ → Bool

@@ -32,6 +32,6 @@ last_item_of max [] = None
 last_item_of max (b ∷ bs) = Some (item_of max (b ∷ bs))
 
 -- the bytes of a line that was given, where it is not too long
-abbrev pub bytes_of : Line → Option (List ℕ)
-bytes_of (Whole bytes) = Some bytes
-bytes_of TooLong = None
+abbrev pub line_bytes : Line → Option (List ℕ)
+line_bytes (Whole bytes) = Some bytes
+line_bytes TooLong = None

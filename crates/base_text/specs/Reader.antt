@@ -6,7 +6,7 @@ use Rattle.base_text.specs.declared.lines.Line.{Line}
 use Rattle.base_text.specs.declared.lines.LineError.{LineError}
 use Rattle.base_text.specs.declared.lines.LineError.TheVariants.{ReadFault, OutOfMemory}
 use Rattle.base_text.specs.Lines.{has_newline, lines_of, partial_line}
-use Rattle.base_text.specs.Part.{IsHeld, Part, bytes_of, item_of, no_part}
+use Rattle.base_text.specs.Part.{IsHeld, Part, line_bytes, item_of, no_part}
 
 -- what is held of the line that is read, the bytes behind it that were read and not looked at, how many more may be read, and
 -- whether the source reported its end
@@ -27,7 +27,7 @@ IsCut true front rest left = (rest ≡ []) × IsAtEnd left
 
 -- a reader gave this of the lines of a source, which had `first` to read and has `left` now: the bytes that were taken are those
 -- of the lines that were given, those of the line that is read, and those that were not looked at
-pub record Gave (first left : Option (List ℕ)) (given : List (Option (List ℕ))) (reader : Reader) : Type 0 where
+pub record GaveLines (first left : Option (List ℕ)) (given : List (Option (List ℕ))) (reader : Reader) : Type 0 where
   pub front : List ℕ
   pub line : List ℕ
   pub taken : Consumes first left (front ++ (line ++ reader.piece))
@@ -44,7 +44,7 @@ pub record IsFrontOf {T : Type 0} (first all : List T) : Type 0 where
 
 -- what was given after an answer: one more where it has a line
 abbrev pub lines_after : List (Option (List ℕ)) → Result (Option Line) LineError → List (Option (List ℕ))
-lines_after given (Ok (Some line)) = given ++ bytes_of line ∷ []
+lines_after given (Ok (Some line)) = given ++ line_bytes line ∷ []
 lines_after given (Ok None) = given
 lines_after given (Err error) = given
 
@@ -58,17 +58,17 @@ line_error_text ReadFault = codes "ReadFault"
 line_error_text OutOfMemory = codes "OutOfMemory"
 
 -- a read failed: nothing of a further line is left to give, and the reader may be asked again
-pub record Breaks (new : Reader) (before now : ℕ) : Type 0 where
+pub record BreaksLines (new : Reader) (before now : ℕ) : Type 0 where
   pub rose : Rose before now
   pub not_done : new.is_done ≡ false
   pub uncut : has_newline new.piece ≡ false
 
 -- what an answer means: none is the end, and an error has its cause
-abbrev pub Tells : Result (Option Line) LineError → Reader → Reader → ℕ → ℕ → Type 0
-Tells (Ok (Some line)) old new before now = Unit {0}
-Tells (Ok None) old new before now = IsSpent new
-Tells (Err ReadFault) old new before now = Breaks new before now
-Tells (Err OutOfMemory) old new before now = Unit {0}
+abbrev pub TellsBoundedLine : Result (Option Line) LineError → Reader → Reader → ℕ → ℕ → Type 0
+TellsBoundedLine (Ok (Some line)) old new before now = Unit {0}
+TellsBoundedLine (Ok None) old new before now = IsSpent new
+TellsBoundedLine (Err ReadFault) old new before now = BreaksLines new before now
+TellsBoundedLine (Err OutOfMemory) old new before now = Unit {0}
 
 -- no more is held than a line within the bound and one piece
 pub record HoldsFew (reader : Reader) : Type 0 where

@@ -18,10 +18,10 @@ tool_name tools Rustc = tools.rustc
 tool_name tools Rustup = tools.rustup
 
 -- the path that a tool is started by: that of `rustc`, where there is a root that holds it
-abbrev pub tool_path : ToolRoot → Tool → Option (List ℕ)
-tool_path root Cargo = None
-tool_path root Rustc = if is_some root.root then root.rustc else None
-tool_path root Rustup = None
+abbrev pub rooted_tool_path : ToolRoot → Tool → Option (List ℕ)
+rooted_tool_path root Cargo = None
+rooted_tool_path root Rustc = if is_some root.root then root.rustc else None
+rooted_tool_path root Rustup = None
 
 -- the toolchain is named by the process, or by the variables
 abbrev pub names_toolchain : ToolRoot → Variables → Bool
@@ -44,5 +44,5 @@ start_of None root tool envs = (tool_name root.tools tool, named_variables root 
 -- the command that starts a tool in a directory, with no words
 abbrev pub tool_command : ToolRoot → Tool → List ℕ → Variables → CommandLine
 tool_command root tool dir envs =
-    let start = start_of (tool_path root tool) root tool envs in
+    let start = start_of (rooted_tool_path root tool) root tool envs in
     record { program = start.0; words = []; dir = dir; env = start.1 }

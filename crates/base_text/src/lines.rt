@@ -105,7 +105,7 @@ impl Model for BoundedLines {
 
 impl BoundedLines {
     ghost use Rattle.base_text.specs.Calls.{ReadsAtOnce, is_read_fault};
-    ghost use Rattle.base_text.specs.Reader.{Gave, HoldsFew, Tells, lines_after, new_reader};
+    ghost use Rattle.base_text.specs.Reader.{GaveLines, HoldsFew, TellsBoundedLine, lines_after, new_reader};
 
     /// A reader that takes nothing yet, of lines of at most so many bytes.
     pub fn new(alloc: Global, max_line: usize) -> Self
@@ -128,11 +128,11 @@ impl BoundedLines {
         input: &mut S,
     ) -> Result<Option<Line>, LineError>
         ensures gave { (first : Option (List ℕ)) (given : List (Option (List ℕ)))
-            → Gave first (S.left input.old) given self.old
-            → Gave first (S.left input.new) (lines_after given result) self.new }
+            → GaveLines first (S.left input.old) given self.old
+            → GaveLines first (S.left input.new) (lines_after given result) self.new }
         ensures reads { ReadsAtOnce S.read_gives (is_read_fault result) self.old.piece
             input.old input.new }
-        ensures told { Tells result self.old self.new (S.faults input.old) (S.faults input.new) }
+        ensures told { TellsBoundedLine result self.old self.new (S.faults input.old) (S.faults input.new) }
         ensures faults { S.faults input.old ≤ S.faults input.new }
         ensures few { HoldsFew self.old → HoldsFew self.new }
         ensures done { IsTrue self.old.is_done

@@ -9,7 +9,7 @@ ghost use Rattle.base_text_paths.specs.AbsPath.{abs_text};
 ghost use Rattle.base_text_paths.specs.PathOrder.{path_cmp};
 ghost use Rattle.base_text_paths.specs.Paths.{components, is_prefix, normal};
 ghost use Rattle.base_text_paths.specs.Rows.{Lacks};
-ghost use Rattle.base_text.specs.MemoryTree.{first_after, first_component, first_from, is_same_file, with_file};
+ghost use Rattle.base_text.specs.MemoryTree.{first_after, first_component, first_from, is_same_file, with_tree_file};
 ghost use Rattle.base_text.specs.Tree.{entry_name, entry_names, file_text, holds_path, names_in};
 
 use crate::tree::Tree;
@@ -47,7 +47,7 @@ impl MemoryTree {
 
     /// Puts a file with a copy of a text at the normal path, in place of an earlier one.
     pub fn insert(&mut self, path: AbsPathBuf, text: Text) -> Result<(), AllocError>
-        ensures ok { OnOk result (self.new ≡ with_file path text self.old) }
+        ensures ok { OnOk result (self.new ≡ with_tree_file path text self.old) }
         ensures last_counts { OnOk result ((asked : List ℕ) → file_text self.new asked
             ≡ (if is_same_file asked path then Some text else file_text self.old asked)) }
         ensures one_more { OnOk result ((asked : List ℕ) → holds_path self.new asked
@@ -60,7 +60,7 @@ impl MemoryTree {
 
     /// Puts a file at the normal path, in place of an earlier one. Its text stays shared.
     pub fn insert_shared(&mut self, path: AbsPathBuf, text: SharedText) -> Result<(), AllocError>
-        ensures ok { OnOk result (self.new ≡ with_file path text self.old) }
+        ensures ok { OnOk result (self.new ≡ with_tree_file path text self.old) }
         ensures last_counts { OnOk result ((asked : List ℕ) → file_text self.new asked
             ≡ (if is_same_file asked path then Some text else file_text self.old asked)) }
         ensures one_more { OnOk result ((asked : List ℕ) → holds_path self.new asked

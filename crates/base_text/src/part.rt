@@ -1,7 +1,7 @@
 //! The part of a line that was read so far, as long as it is within the bound.
 
 ghost use Rattle.std.specs.Prelude.{◌≡◌, ◌≤◌, ◌++◌, ℕ, List, OnErr, OnOk, length, option_map};
-ghost use Rattle.base_text.specs.Part.{IsHeld, bytes_of, item_of, last_item_of, no_part};
+ghost use Rattle.base_text.specs.Part.{IsHeld, line_bytes, item_of, last_item_of, no_part};
 
 use crate::lines::Line;
 use base_text_paths::Items;
@@ -63,7 +63,7 @@ impl LinePart {
     /// The line, which is whole. What is held then is nothing of the next.
     pub(crate) fn finish(&mut self, alloc: Global) -> Line
         ensures line { (part : List ℕ) → IsHeld part self.old
-            → bytes_of result ≡ item_of self.old.max_line part }
+            → line_bytes result ≡ item_of self.old.max_line part }
         ensures next { self.new ≡ no_part self.old.max_line }
     {
         let bytes = mem::replace(&mut self.bytes, Vec::new(alloc));
@@ -77,7 +77,7 @@ impl LinePart {
     /// The last line, which no newline ends, unless there is nothing of it.
     pub(crate) fn finish_last(&mut self, alloc: Global) -> Option<Line>
         ensures line { (part : List ℕ) → IsHeld part self.old
-            → option_map bytes_of result ≡ last_item_of self.old.max_line part }
+            → option_map line_bytes result ≡ last_item_of self.old.max_line part }
         ensures next { self.new ≡ no_part self.old.max_line }
     {
         if !self.is_long && self.bytes.is_empty() {

@@ -1,7 +1,7 @@
 //! The toolchain that questions are asked of: which program answers, and with which variables.
 
 ghost use Rattle.std.specs.Prelude.{◌≡◌, [], IfOk, option_copied};
-ghost use Rattle.base_text.specs.Tools.{named_variables, tool_command, tool_path};
+ghost use Rattle.base_text.specs.Tools.{named_variables, tool_command, rooted_tool_path};
 
 use crate::tool::{Tool, Tools};
 use base_text_paths::{AbsPathBuf, ByText, CommandLine, Items, Text, TryClone};
@@ -42,7 +42,7 @@ impl ToolRoot {
 
     // The path that a tool is started by, where it has one.
     fn tool_path(&self, tool: Tool) -> Option<&AbsPathBuf>
-        ensures { option_copied result ≡ tool_path self.now tool }
+        ensures { option_copied result ≡ rooted_tool_path self.now tool }
     {
         match (tool, &self.root) {
             (Tool::Rustc, Some(_)) => self.rustc.as_ref(),

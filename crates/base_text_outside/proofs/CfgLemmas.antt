@@ -11,7 +11,7 @@ use Rattle.base_text_outside.specs.declared.cfg.CfgAtom.{CfgAtom}
 use Rattle.base_text_outside.specs.declared.cfg.CfgAtom.TheVariants.{Flag, KeyValue}
 use Rattle.base_text_outside.specs.declared.cfg.CfgError.{CfgError}
 use Rattle.base_text_outside.specs.declared.cfg.CfgError.TheVariants.{BadCfg, OutOfMemory}
-use Rattle.base_text_outside.specs.Cfg.{is_equals, unquote, atom_of, text_of}
+use Rattle.base_text_outside.specs.Cfg.{is_equals, unquote, atom_of, atom_text}
 use Rattle.base_values.proofs.Basics.{list_any-position}
 
 unquote-between : (value : List ℕ) → unquote (34 ∷ (value ++ 34 ∷ [])) ≡ Some value
@@ -61,8 +61,8 @@ unquote-cut text after (Some x) first cases =
 
 -- a name that a text without a `=` gave is the flag that the text names, and so is its own text
 pub names_flag : (text name : List ℕ) → position_or_len is_equals text ≡ length text → name ≡ text
-    → (atom_of text ≡ Some (Flag name)) × (atom_of (text_of (Flag name)) ≡ Some (Flag name))
-unfolding text_of
+    → (atom_of text ≡ Some (Flag name)) × (atom_of (atom_text (Flag name)) ≡ Some (Flag name))
+unfolding atom_text
 names_flag text name none same =
     let is : atom_of text ≡ Some (Flag name) = atom_of-flag text none ∙ ap (λ n. Some (Flag n)) (sym same) in
     (is, ap atom_of same ∙ is)
@@ -77,12 +77,12 @@ pub record SplitsAtEquals (text key quoted : List ℕ) : Type 0 where
 -- a key and a value that such a text gave are the atom that the text names, and so is its own text
 pub names_key : (text key quoted value : List ℕ) → SplitsAtEquals text key quoted → Some value ≡ unquote quoted → quoted ≡ 34 ∷ (value ++ 34 ∷ [])
     → (k v : List ℕ) → k ≡ key → v ≡ value
-    → (atom_of text ≡ Some (KeyValue k v)) × (atom_of (text_of (KeyValue k v)) ≡ Some (KeyValue k v))
-unfolding text_of
+    → (atom_of text ≡ Some (KeyValue k v)) × (atom_of (atom_text (KeyValue k v)) ≡ Some (KeyValue k v))
+unfolding atom_text
 names_key text key quoted value at found between k v same_key same_value =
     let is : atom_of text ≡ Some (KeyValue k v) =
     atom_of-key text value at.within (ap unquote (sym at.after) ∙ sym found) ∙ (λ i. Some (KeyValue ((sym (same_key ∙ at.before)) i) (sym same_value i))) in
-    let again : text_of (KeyValue k v) ≡ text = rw (same_key, same_value, at.whole, between) (simp append_assoc) in
+    let again : atom_text (KeyValue k v) ≡ text = rw (same_key, same_value, at.whole, between) (simp append_assoc) in
     (is, ap atom_of again ∙ is)
 
 -- such a text names no atom where its second part stands in no quotes

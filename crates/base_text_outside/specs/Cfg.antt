@@ -30,9 +30,9 @@ atom_of text =
     else Some (Flag text)
 
 -- the text that names an atom
-unfoldable pub text_of : CfgAtom → List ℕ
-text_of (Flag name) = name
-text_of (KeyValue key value) = key ++ codes "=\"" ++ value ++ codes "\""
+unfoldable pub atom_text : CfgAtom → List ℕ
+atom_text (Flag name) = name
+atom_text (KeyValue key value) = key ++ codes "=\"" ++ value ++ codes "\""
 
 -- an error prints its name
 abbrev pub cfg_error_text : CfgError → List ℕ

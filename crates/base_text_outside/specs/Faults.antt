@@ -34,9 +34,9 @@ pub record FaultCounts : Type 0 where
   pub faults : ℕ
 
 -- the number of the next call is listed
-abbrev pub is_listed : FaultCounts → Bool
-is_listed s = list_any (λ n. n == s.calls) s.failing
+abbrev pub is_failing_call : FaultCounts → Bool
+is_failing_call s = list_any (λ n. n == s.calls) s.failing
 
 -- after a call, which counts as a fault where its number is listed
 abbrev pub after_call : FaultCounts → FaultCounts
-after_call s = record s { calls = next_count s.calls; faults = if is_listed s then next_count s.faults else s.faults }
+after_call s = record s { calls = next_count s.calls; faults = if is_failing_call s then next_count s.faults else s.faults }

@@ -4,7 +4,7 @@ ghost use Rattle.std.specs.Prelude.{◌≡◌, ◌↔◌, ◌∷◌, [], ◌++�
 ghost use Rattle.std.specs.Prelude.{IfSome, IfOk, IsErrOf};
 ghost use Rattle.std.specs.Option.{option_copied};
 ghost use Rattle.base_text_outside.specs.declared.cfg.CfgError.TheVariants.{OutOfMemory};
-ghost use Rattle.base_text_outside.specs.Cfg.{atom_of, text_of, unquote};
+ghost use Rattle.base_text_outside.specs.Cfg.{atom_of, atom_text, unquote};
 
 use crate::symbol::Symbol;
 use base_values::TryClone;
@@ -81,7 +81,7 @@ fn unquote(text: &str) -> Option<&str>
 pub fn parse_cfg(alloc: Global, text: &str) -> Result<CfgAtom, CfgError>
     ensures ok { IfOk result (λ atom. atom_of text.now ≡ Some atom) }
     ensures bad { IsErrOf result CfgError.BadCfg ↔ (atom_of text.now ≡ None) }
-    ensures again { IfOk result (λ atom. atom_of (text_of atom) ≡ Some atom) }
+    ensures again { IfOk result (λ atom. atom_of (atom_text atom) ≡ Some atom) }
 {
     match text.split_once('=') {
         None => {
@@ -100,9 +100,9 @@ pub fn parse_cfg(alloc: Global, text: &str) -> Result<CfgAtom, CfgError>
 }
 
 /// The text that names an atom.
-#[tactic(auto, unfolding(crate::specs::Cfg::text_of))]
+#[tactic(auto, unfolding(crate::specs::Cfg::atom_text))]
 pub fn write_cfg(alloc: Global, atom: &CfgAtom) -> Result<String, AllocError>
-    ensures { IfOk result (λ text. string_bytes text ≡ text_of atom.now) }
+    ensures { IfOk result (λ text. string_bytes text ≡ atom_text atom.now) }
 {
     match atom {
         CfgAtom::Flag(name) => String::from_str(alloc, name.as_str()),

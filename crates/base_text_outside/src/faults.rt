@@ -2,7 +2,7 @@
 
 ghost use Rattle.std.specs.Prelude.{◌≡◌, ◌≤◌, IsTrue};
 ghost use Rattle.base_text_outside.specs.Causes.{Rose};
-ghost use Rattle.base_text_outside.specs.Faults.{FaultCounts, after_call, is_listed};
+ghost use Rattle.base_text_outside.specs.Faults.{FaultCounts, after_call, is_failing_call};
 
 use std::marker::Model;
 
@@ -36,7 +36,7 @@ impl Faults {
 
     /// Counts a call. Answers whether it fails.
     pub(crate) fn next_fails(&mut self) -> bool
-        ensures listed { result ≡ is_listed self.old }
+        ensures listed { result ≡ is_failing_call self.old }
         ensures counts { self.new ≡ after_call self.old }
         ensures later { self.old.faults ≤ self.new.faults }
         ensures rose { IsTrue result → Rose self.old.faults self.new.faults }

@@ -63,7 +63,7 @@ impl<K, T> Model for Arena<K, T> {
 }
 
 impl<K, T> Arena<K, T> {
-    ghost use Rattle.base_text_paths.specs.ArenaLends.{lends_value};
+    ghost use Rattle.base_text_paths.specs.ArenaLends.{lends_item};
 
     pub fn new(alloc: Global) -> Self
         ensures { result ≡ [] }
@@ -87,7 +87,7 @@ impl<K, T> Arena<K, T> {
     }
 
     pub fn get_mut(&mut self, id: Idx<K>) -> Option<&mut T>
-        ensures* writes_back { sem 𝓛 (lends_value K.row T.row self.entry (number_of id) result) }
+        ensures* writes_back { sem 𝓛 (lends_item K.row T.row self.entry (number_of id) result) }
         ensures value { option_copied_mut result ≡ slice_get self.old (number_of id) }
     {
         self.items.get_mut(id.raw as usize)

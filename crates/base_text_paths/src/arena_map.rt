@@ -34,7 +34,7 @@ impl<K, V> Model for ArenaMap<K, V> {
 }
 
 impl<K, V> ArenaMap<K, V> {
-    ghost use Rattle.base_text_paths.specs.ArenaMapLends.{lends_value};
+    ghost use Rattle.base_text_paths.specs.ArenaMapLends.{lends_entry};
 
     pub fn new(alloc: Global) -> Self
         ensures { result ≡ map.empty }
@@ -52,7 +52,7 @@ impl<K, V> ArenaMap<K, V> {
     }
 
     pub fn get_mut(&mut self, id: Idx<K>) -> Option<&mut V>
-        ensures* writes_back { sem 𝓛 (lends_value K.row V.row self.entry (number_of id) result) }
+        ensures* writes_back { sem 𝓛 (lends_entry K.row V.row self.entry (number_of id) result) }
         ensures value { option_copied_mut result ≡ map.get self.old (number_of id) }
     {
         self.values.get_mut(id.into_raw())

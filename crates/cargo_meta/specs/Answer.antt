@@ -43,10 +43,10 @@ of_answer line None = Err (Io (line_text line))
 of_answer line (Some output) = of_output output
 
 -- a call answers exactly that, unless memory ran out
-abbrev pub Answers : Result Metadata Error → Result Metadata Error → Type 0
-Answers (Ok m) wanted = wanted ≡ Ok m
-Answers (Err (CargoMetadata stderr)) wanted = wanted ≡ Err (CargoMetadata stderr)
-Answers (Err (Io line)) wanted = wanted ≡ Err (Io line)
-Answers (Err (Json field)) wanted = wanted ≡ Err (Json field)
-Answers (Err NoJson) wanted = wanted ≡ Err NoJson
-Answers (Err OutOfMemory) wanted = Unit {0}
+abbrev pub AnswersMetadata : Result Metadata Error → Result Metadata Error → Type 0
+AnswersMetadata (Ok m) wanted = wanted ≡ Ok m
+AnswersMetadata (Err (CargoMetadata stderr)) wanted = wanted ≡ Err (CargoMetadata stderr)
+AnswersMetadata (Err (Io line)) wanted = wanted ≡ Err (Io line)
+AnswersMetadata (Err (Json field)) wanted = wanted ≡ Err (Json field)
+AnswersMetadata (Err NoJson) wanted = wanted ≡ Err NoJson
+AnswersMetadata (Err OutOfMemory) wanted = Unit {0}

@@ -42,10 +42,10 @@ with_features NoDefaultFeatures s = record s { no_default_features = true }
 with_features (SomeFeatures names) s = record s { features = s.features ++ names }
 
 -- the flag was not given before
-abbrev pub IsFirst : CargoOpt → Settings → Type 0
-IsFirst AllFeatures s = s.all_features ≡ false
-IsFirst NoDefaultFeatures s = s.no_default_features ≡ false
-IsFirst (SomeFeatures names) s = Unit {0}
+abbrev pub IsFirstGiven : CargoOpt → Settings → Type 0
+IsFirstGiven AllFeatures s = s.all_features ≡ false
+IsFirstGiven NoDefaultFeatures s = s.no_default_features ≡ false
+IsFirstGiven (SomeFeatures names) s = Unit {0}
 
 -- a variable is set, or removed where it has no value, in place of what was said of it before
 abbrev pub with_env : List ℕ → Option (List ℕ) → Settings → Settings
@@ -72,8 +72,8 @@ words_of s =
     ++ s.other_options
 
 -- the command: its program is `cargo`, and it runs where it is asked, unless another is set
-abbrev pub command_of : Settings → CommandLine
-command_of s = record {
+abbrev pub metadata_command : Settings → CommandLine
+metadata_command s = record {
   program = unwrap_or s.cargo_path (codes "cargo");
   words = words_of s;
   dir = unwrap_or s.current_dir [];

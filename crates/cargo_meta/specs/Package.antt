@@ -47,8 +47,8 @@ of_head h = record (new_package h.name h.version h.id []) {
 }
 
 -- the first eight rows, read into a package
-unfoldable pub head_from : Members → Reading Package
-head_from ms = do
+unfoldable pub package_head_from : Members → Reading Package
+package_head_from ms = do
   head ← head_rows ms
   Ok (of_head head)
 
@@ -75,8 +75,8 @@ body_from p ms = do
   })
 
 -- the last eight rows of a package
-unfoldable pub tail_from : Package → Members → Reading Package
-tail_from p ms = do
+unfoldable pub package_tail_from : Package → Members → Reading Package
+package_tail_from p ms = do
   homepage ← optional_member (codes "homepage") text_at ms
   documentation ← optional_member (codes "documentation") text_at ms
   edition ← default_member (codes "edition") E2015 edition_at ms
@@ -99,17 +99,17 @@ tail_from p ms = do
 -- a package as its members have it
 unfoldable pub package_from : Members → Reading Package
 package_from ms = do
-  head ← head_from ms
+  head ← package_head_from ms
   body ← body_from head ms
-  tail_from body ms
+  package_tail_from body ms
 
 -- a package as its document has it
 unfoldable pub package_at : Data → Reading Package
 package_at d = members_at d >>= package_from
 
 -- the first eight members of a package, put among members
-unfoldable pub head_set : Package → Members → Members
-head_set p ms =
+unfoldable pub package_head_set : Package → Members → Members
+package_head_set p ms =
     set_member (codes "license") (option_data string p.license)
     (set_member (codes "dependencies") (list_data dependency_data p.dependencies)
     (set_member (codes "description") (option_data string p.description)
@@ -132,8 +132,8 @@ body_set p ms =
     (set_member (codes "license_file") (option_data string p.license_file) ms)))))))
 
 -- the last eight members, where null metadata is left out
-unfoldable pub tail_set : Package → Members → Members
-tail_set p ms =
+unfoldable pub package_tail_set : Package → Members → Members
+package_tail_set p ms =
     set_member (codes "rust_version") (option_data version_data p.rust_version)
     (set_member (codes "default_run") (option_data string p.default_run)
     (set_member (codes "publish") (option_data (list_data string) p.publish)
@@ -145,7 +145,7 @@ tail_set p ms =
 
 -- the members of a package
 unfoldable pub package_members : Package → Members
-package_members p = head_set p (body_set p (tail_set p no_members))
+package_members p = package_head_set p (body_set p (package_tail_set p no_members))
 
 -- the document of a package
 unfoldable pub package_data : Package → Data

@@ -31,10 +31,10 @@ abbrev pub package_in : List ℕ → List Package → Option Package
 package_in root packages = find (λ p. is_manifest_in root p.manifest_path) packages
 
 -- the package of the resolved graph's root, and without a graph the one in the workspace's root
-abbrev pub root_by : Option Resolve → Metadata → Option Package
-root_by (Some resolve) m = option_and_then (λ id. package_of_id id m.packages) resolve.root
-root_by None m = package_in m.workspace_root m.packages
+abbrev pub root_package_by : Option Resolve → Metadata → Option Package
+root_package_by (Some resolve) m = option_and_then (λ id. package_of_id id m.packages) resolve.root
+root_package_by None m = package_in m.workspace_root m.packages
 
 -- the root package of a document
 abbrev pub root_package_of : Metadata → Option Package
-root_package_of m = root_by m.resolve m
+root_package_of m = root_package_by m.resolve m

@@ -3,7 +3,7 @@
 ghost use Rattle.std.specs.Prelude.{◌≡◌, true, IfOk, OnErr, OnOk, Some, None};
 ghost use Rattle.std.specs.Borrow.{sem};
 ghost use Rattle.base_values.specs.ByText.{HasAscendingKeys};
-ghost use Rattle.cargo_meta.specs.Command.{IsFirst, command_of, nothing_set, with_features, with_env, words_of};
+ghost use Rattle.cargo_meta.specs.Command.{IsFirstGiven, metadata_command, nothing_set, with_features, with_env, words_of};
 
 use crate::words::{first_words, push_features, text_or, variables};
 use base_text_outside::CommandLine;
@@ -126,7 +126,7 @@ impl MetadataCommand {
 
     /// Names features behind those named before, or sets a flag, which is set once alone.
     pub fn add_features(&mut self, features: CargoOpt) -> Result<(), AllocError>
-        requires { IsFirst features self.old }
+        requires { IsFirstGiven features self.old }
         ensures ok { OnOk result (self.new ≡ with_features features self.old) }
         ensures err { OnErr result (self.new ≡ self.old) }
     {
@@ -140,7 +140,7 @@ impl MetadataCommand {
 
     /// As `add_features`, and gives the command back.
     pub fn features(&mut self, features: CargoOpt) -> Result<&mut MetadataCommand, AllocError>
-        requires { IsFirst features self.old }
+        requires { IsFirstGiven features self.old }
         ensures* err { sem 𝓛 (unchanged_if_refused self.entry result) }
         ensures same_command { IfOk result (λ command. command.ghost_name ≡ self.entry.ghost_name) }
         ensures set { IfOk result (λ command. command.now ≡ with_features features self.old) }
@@ -212,7 +212,7 @@ impl MetadataCommand {
 
     /// The command line that was set.
     pub fn cargo_command(&self, alloc: Global) -> Result<CommandLine, AllocError>
-        ensures command { IfOk result (λ line. line ≡ command_of self.now) }
+        ensures command { IfOk result (λ line. line ≡ metadata_command self.now) }
         ensures ascending { OnOk result (HasAscendingKeys self.now.env) }
     {
         Ok(CommandLine {

@@ -5,8 +5,8 @@ ghost use Rattle.base_text_outside.specs.Runner.{answer_of};
 ghost use Rattle.json_fields.specs.Document as documents;
 ghost use Rattle.json_fields.specs.Document.{IsWholeAgain};
 ghost use Rattle.cargo_meta.specs.Answer as spec;
-ghost use Rattle.cargo_meta.specs.Answer.{Answers, of_answer, of_output};
-ghost use Rattle.cargo_meta.specs.Command.{command_of};
+ghost use Rattle.cargo_meta.specs.Answer.{AnswersMetadata, of_answer, of_output};
+ghost use Rattle.cargo_meta.specs.Command.{metadata_command};
 ghost use Rattle.cargo_meta_values.specs.Errors.{GivesDocument};
 ghost use Rattle.cargo_meta.specs.Metadata.{metadata_at, metadata_data};
 
@@ -30,8 +30,8 @@ impl MetadataCommand {
 
     /// Asks the runner, and reads the first line of its answer that begins with `{`.
     pub fn exec<R: Runner>(&self, alloc: Global, runner: &R) -> Result<Metadata, Error>
-        ensures exact { Answers result (of_answer (command_of self.now)
-            (answer_of (R.answers runner.now) (command_of self.now))) }
+        ensures exact { AnswersMetadata result (of_answer (metadata_command self.now)
+            (answer_of (R.answers runner.now) (metadata_command self.now))) }
         ensures again { IfOk result (IsWholeAgain metadata_at metadata_data) }
     {
         let line = self.cargo_command(alloc)?;
@@ -60,7 +60,7 @@ fn line_text(alloc: Global, line: &CommandLine) -> Result<Text, AllocError>
 
 /// The document of what a command wrote, where it succeeded.
 fn read_output(alloc: Global, output: Output) -> Result<Metadata, Error>
-    ensures exact { Answers result (of_output output) }
+    ensures exact { AnswersMetadata result (of_output output) }
     ensures again { IfOk result (IsWholeAgain metadata_at metadata_data) }
 {
     if !output.ok {

@@ -3,7 +3,7 @@
 ghost use Rattle.std.specs.Prelude.{◌≡◌, OnOk};
 ghost use Rattle.serde_json.specs.View.{members_view};
 ghost use Rattle.json_fields.specs.Outcome.{Gives};
-ghost use Rattle.cargo_meta.specs.Package.{body_from, body_set, head_from, head_rows, head_set, of_head, tail_from, tail_set};
+ghost use Rattle.cargo_meta.specs.Package.{body_from, body_set, package_head_from, head_rows, package_head_set, of_head, package_tail_from, package_tail_set};
 
 use crate::package::{Package, new_package};
 use base_values::{Items, Text, Version};
@@ -67,9 +67,9 @@ fn of_head(alloc: Global, head: PackageHead) -> Package
     }
 }
 
-#[tactic(auto, unfolding(crate::specs::Package::head_from))]
+#[tactic(auto, unfolding(crate::specs::Package::package_head_from))]
 pub(crate) fn read_head(alloc: Global, fields: &Map<String, Value>) -> Result<Package, ReadError>
-    ensures exact { Gives result (head_from (members_view fields.now.entries)) }
+    ensures exact { Gives result (package_head_from (members_view fields.now.entries)) }
 {
     let rows = read_head_rows(alloc, fields)?;
     Ok(of_head(alloc, rows))
@@ -104,13 +104,13 @@ pub(crate) fn read_body(
     })
 }
 
-#[tactic(auto, unfolding(crate::specs::Package::tail_from, json_fields::specs::Fields::required_member, json_fields::specs::Fields::optional_member, json_fields::specs::Fields::default_member))]
+#[tactic(auto, unfolding(crate::specs::Package::package_tail_from, json_fields::specs::Fields::required_member, json_fields::specs::Fields::optional_member, json_fields::specs::Fields::default_member))]
 pub(crate) fn read_tail(
     alloc: Global,
     fields: &Map<String, Value>,
     body: Package,
 ) -> Result<Package, ReadError>
-    ensures exact { Gives result (tail_from body (members_view fields.now.entries)) }
+    ensures exact { Gives result (package_tail_from body (members_view fields.now.entries)) }
 {
     let homepage = optional_member(alloc, fields, "homepage")?;
     let documentation = optional_member(alloc, fields, "documentation")?;
@@ -142,14 +142,14 @@ fn version_of(bare: Option<BareVersion>) -> Option<Version>
     }
 }
 
-#[tactic(auto, unfolding(crate::specs::Package::head_set))]
+#[tactic(auto, unfolding(crate::specs::Package::package_head_set))]
 pub(crate) fn set_head(
     alloc: Global,
     fields: &mut Map<String, Value>,
     from: &Package,
 ) -> Result<(), AllocError>
     ensures { OnOk result (members_view fields.new.entries
-        ≡ head_set from.now (members_view fields.old.entries)) }
+        ≡ package_head_set from.now (members_view fields.old.entries)) }
 {
     set(alloc, fields, "name", &from.name)?;
     set(alloc, fields, "version", &from.version)?;
@@ -182,14 +182,14 @@ pub(crate) fn set_body(
     Ok(())
 }
 
-#[tactic(auto, unfolding(crate::specs::Package::tail_set))]
+#[tactic(auto, unfolding(crate::specs::Package::package_tail_set))]
 pub(crate) fn set_tail(
     alloc: Global,
     fields: &mut Map<String, Value>,
     from: &Package,
 ) -> Result<(), AllocError>
     ensures { OnOk result (members_view fields.new.entries
-        ≡ tail_set from.now (members_view fields.old.entries)) }
+        ≡ package_tail_set from.now (members_view fields.old.entries)) }
 {
     set(alloc, fields, "homepage", &from.homepage)?;
     set(alloc, fields, "documentation", &from.documentation)?;

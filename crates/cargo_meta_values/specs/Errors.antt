@@ -5,12 +5,12 @@ use Rattle.cargo_meta_values.specs.declared.errors.Error.{Error}
 use Rattle.cargo_meta_values.specs.declared.errors.Error.TheVariants.{CargoMetadata, Io, Json, NoJson, OutOfMemory}
 
 -- the text that is printed
-abbrev pub error_text : Error → List ℕ
-error_text (CargoMetadata stderr) = codes "`cargo metadata` exited with an error: " ++ stderr
-error_text (Io line) = codes "failed to start `cargo metadata`: " ++ line
-error_text (Json field) = codes "failed to interpret `cargo metadata`'s json: " ++ field
-error_text NoJson = codes "could not find any json in the output of `cargo metadata`"
-error_text OutOfMemory = codes "out of memory"
+abbrev pub metadata_error_text : Error → List ℕ
+metadata_error_text (CargoMetadata stderr) = codes "`cargo metadata` exited with an error: " ++ stderr
+metadata_error_text (Io line) = codes "failed to start `cargo metadata`: " ++ line
+metadata_error_text (Json field) = codes "failed to interpret `cargo metadata`'s json: " ++ field
+metadata_error_text NoJson = codes "could not find any json in the output of `cargo metadata`"
+metadata_error_text OutOfMemory = codes "out of memory"
 
 -- a call answers what the document's reader gives, unless memory ran out
 abbrev pub GivesDocument : {T : Type 0} → Result T Error → Reading T → Type 0

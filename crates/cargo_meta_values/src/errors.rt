@@ -56,9 +56,9 @@ impl error::Error for Error {}
 
 impl fmt::Display for Error {
     ghost use Rattle.std.specs.Prelude.{Some};
-    ghost use Rattle.cargo_meta_values.specs.Errors.{error_text};
+    ghost use Rattle.cargo_meta_values.specs.Errors.{metadata_error_text};
 
-    ghost output = { λ e. Some (error_text e) };
+    ghost output = { λ e. Some (metadata_error_text e) };
 
     fn fmt<W: fmt::Write>(&self, f: &mut fmt::Formatter<W>) -> fmt::Result {
         match self {

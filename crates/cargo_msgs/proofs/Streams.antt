@@ -7,12 +7,12 @@ use Rattle.std.specs.Prelude.{if◌then◌else◌}
 use Rattle.std.specs.Str.{IsUtf8, is_utf8}
 use Rattle.base_text.specs.Lines.{lines_of}
 use Rattle.base_text.specs.Part as lines
-use Rattle.base_text.specs.Reader.{Gave, IsFrontOf, Reader, lines_after, new_reader}
+use Rattle.base_text.specs.Reader.{GaveLines, IsFrontOf, Reader, lines_after, new_reader}
 use Rattle.base_text.specs.declared.lines.Line.{Line}
 use Rattle.base_text.specs.declared.lines.LineError.{LineError}
 use Rattle.base_text.proofs.Wholes.{Gave-all, Gave-fresh, Gave-front}
 use Rattle.cargo_msgs.specs.Messages.{message_of}
-use Rattle.cargo_msgs.specs.Stream.{GaveMessages, GivesItem, Item, Stream, Tells, is_out_of_memory, is_read_fault, GaveOneMore, item_of_bytes, item_of_line, item_of_read, items_after}
+use Rattle.cargo_msgs.specs.Stream.{GaveMessages, GivesItem, Item, Stream, TellsItem, is_out_of_memory, is_item_fault, GaveOneMore, item_of_bytes, item_of_line, item_of_read, items_after}
 use Rattle.cargo_msgs.specs.declared.message_iter.ItemFault.TheVariants.{NotUtf8, TooLong, ReadFault, OutOfMemory}
 
 -- nothing was given before the first read
@@ -37,7 +37,7 @@ module _ (bytes : List ℕ) (left : Option (List ℕ)) (given : List Item) (read
 
 -- one more line is one more item
 pub GaveMessages-more : (first left left' : Option (List ℕ)) (given : List Item) (reader reader' : Reader) (line : Option (List ℕ)) (item : Item)
-    → ((lines : List (Option (List ℕ))) → Gave first left lines reader → Gave first left' (lines ++ line ∷ []) reader') → item_of_read line ≡ item
+    → ((lines : List (Option (List ℕ))) → GaveLines first left lines reader → GaveLines first left' (lines ++ line ∷ []) reader') → item_of_read line ≡ item
     → GaveMessages first left given reader → GaveMessages first left' (given ++ item ∷ []) reader'
 GaveMessages-more first left left' given reader reader' line item step is before = record {
   lines = before.lines ++ line ∷ [];
@@ -47,13 +47,13 @@ GaveMessages-more first left left' given reader reader' line item step is before
 
 -- no line is no item
 pub GaveMessages-none : (first left left' : Option (List ℕ)) (given : List Item) (reader reader' : Reader)
-    → ((lines : List (Option (List ℕ))) → Gave first left lines reader → Gave first left' lines reader')
+    → ((lines : List (Option (List ℕ))) → GaveLines first left lines reader → GaveLines first left' lines reader')
     → GaveMessages first left given reader → GaveMessages first left' given reader'
 GaveMessages-none first left left' given reader reader' step before = record { lines = before.lines; gave = step before.lines before.gave; items = before.items }
 
 -- a line that was read is one item more
 pub GaveMessages-line : (bytes : List ℕ) (item : Item) → GivesItem item (item_of_bytes bytes) → (first left left' : Option (List ℕ)) (given : List Item) (reader reader' : Reader) → is_out_of_memory (Some item) ≡ false
-    → ((lines : List (Option (List ℕ))) → Gave first left lines reader → Gave first left' (lines ++ Some bytes ∷ []) reader')
+    → ((lines : List (Option (List ℕ))) → GaveLines first left lines reader → GaveLines first left' (lines ++ Some bytes ∷ []) reader')
     → GaveMessages first left given reader → GaveMessages first left' (items_after given (Some item)) reader'
 GaveMessages-line bytes (Ok m) is first left left' given reader reader' whole step before = GaveMessages-more first left left' given reader reader' (Some bytes) (Ok m) step is before
 GaveMessages-line bytes (Err NotUtf8) is first left left' given reader reader' whole step before = GaveMessages-more first left left' given reader reader' (Some bytes) (Err NotUtf8) step is before
@@ -62,7 +62,7 @@ GaveMessages-line bytes (Err ReadFault) is first left left' given reader reader'
 GaveMessages-line bytes (Err OutOfMemory) is first left left' given reader reader' whole step before = absurd (true≢false whole)
 
 -- an item of a line is no fault of the source
-pub no_read_fault : (bytes : List ℕ) (item : Item) → GivesItem item (item_of_bytes bytes) → is_read_fault (Some item) ≡ false
+pub no_read_fault : (bytes : List ℕ) (item : Item) → GivesItem item (item_of_bytes bytes) → is_item_fault (Some item) ≡ false
 no_read_fault bytes (Ok m) is = refl
 no_read_fault bytes (Err NotUtf8) is = refl
 no_read_fault bytes (Err TooLong) is = refl
@@ -71,17 +71,17 @@ no_read_fault bytes (Err OutOfMemory) is = refl
 
 -- an answer of a reader of lines is one line more, or none
 pub GaveOneMore-after : (first left : Option (List ℕ)) (given : List (Option (List ℕ))) (reader : Reader) (result : Result (Option Line) LineError)
-    → Gave first left (lines_after given result) reader → GaveOneMore first left given reader
-GaveOneMore-after first left given reader (Ok (Some line)) gave = record { more = lines.bytes_of line ∷ []; few = omega arith; gave = gave }
-GaveOneMore-after first left given reader (Ok None) gave = record { more = []; few = omega arith; gave = subst (λ ls. Gave first left ls reader) (sym (append-nil given)) gave }
-GaveOneMore-after first left given reader (Err error) gave = record { more = []; few = omega arith; gave = subst (λ ls. Gave first left ls reader) (sym (append-nil given)) gave }
+    → GaveLines first left (lines_after given result) reader → GaveOneMore first left given reader
+GaveOneMore-after first left given reader (Ok (Some line)) gave = record { more = lines.line_bytes line ∷ []; few = omega arith; gave = gave }
+GaveOneMore-after first left given reader (Ok None) gave = record { more = []; few = omega arith; gave = subst (λ ls. GaveLines first left ls reader) (sym (append-nil given)) gave }
+GaveOneMore-after first left given reader (Err error) gave = record { more = []; few = omega arith; gave = subst (λ ls. GaveLines first left ls reader) (sym (append-nil given)) gave }
 
 -- nothing more is one line more at most
-pub GaveOneMore-none : (first left : Option (List ℕ)) (given : List (Option (List ℕ))) (reader : Reader) → Gave first left given reader → GaveOneMore first left given reader
-GaveOneMore-none first left given reader gave = record { more = []; few = omega arith; gave = subst (λ ls. Gave first left ls reader) (sym (append-nil given)) gave }
+pub GaveOneMore-none : (first left : Option (List ℕ)) (given : List (Option (List ℕ))) (reader : Reader) → GaveLines first left given reader → GaveOneMore first left given reader
+GaveOneMore-none first left given reader gave = record { more = []; few = omega arith; gave = subst (λ ls. GaveLines first left ls reader) (sym (append-nil given)) gave }
 
 -- an item of a line means nothing more
-pub Tells-line : {S : Type 0} (bytes : List ℕ) (item : Item) → GivesItem item (item_of_bytes bytes) → (old new : Stream S) (before now : ℕ) → Tells (Some item) old new before now
+pub Tells-line : {S : Type 0} (bytes : List ℕ) (item : Item) → GivesItem item (item_of_bytes bytes) → (old new : Stream S) (before now : ℕ) → TellsItem (Some item) old new before now
 Tells-line bytes (Ok m) is old new before now = tt
 Tells-line bytes (Err NotUtf8) is old new before now = tt
 Tells-line bytes (Err TooLong) is old new before now = tt

@@ -3,7 +3,7 @@ use Rattle.std.specs.Prelude.{◌≡◌, ◌≤◌, if◌then◌else◌, ℕ, �
 use Rattle.std.specs.Str.{is_utf8}
 use Rattle.base_text_outside.specs.Causes.{Rose}
 use Rattle.base_text.specs.Part as lines
-use Rattle.base_text.specs.Reader.{Gave, IsSpent, Reader, new_reader}
+use Rattle.base_text.specs.Reader.{GaveLines, IsSpent, Reader, new_reader}
 use Rattle.cargo_msgs.specs.Messages.{message_of}
 use Rattle.cargo_msgs.specs.declared.message_iter.ItemFault.{ItemFault}
 use Rattle.cargo_msgs.specs.declared.message_iter.ItemFault.TheVariants.{NotUtf8, TooLong, ReadFault, OutOfMemory}
@@ -39,7 +39,7 @@ new_stream input max = record { input = input; lines = new_reader max; has_faile
 -- these are the items of the lines that a reader gave of a source
 pub record GaveMessages (first left : Option (List ℕ)) (given : List Item) (reader : Reader) : Type 0 where
   pub lines : List (Option (List ℕ))
-  pub gave : Gave first left lines reader
+  pub gave : GaveLines first left lines reader
   pub items : map item_of_read lines ≡ given
 
 -- what was given after an answer: one more item where it is that of a line
@@ -61,13 +61,13 @@ is_fatal (Some (Err ReadFault)) = true
 is_fatal (Some (Err OutOfMemory)) = true
 
 -- what an answer means: none is the end of the lines, or follows a fault; a fault of the source has its cause
-abbrev pub Tells : {S : Type 0} → Option Item → Stream S → Stream S → ℕ → ℕ → Type 0
-Tells None old new before now = IsSpent new.lines ⊎ (old.has_failed ≡ true)
-Tells (Some (Ok m)) old new before now = Unit {0}
-Tells (Some (Err NotUtf8)) old new before now = Unit {0}
-Tells (Some (Err TooLong)) old new before now = Unit {0}
-Tells (Some (Err ReadFault)) old new before now = Rose before now
-Tells (Some (Err OutOfMemory)) old new before now = Unit {0}
+abbrev pub TellsItem : {S : Type 0} → Option Item → Stream S → Stream S → ℕ → ℕ → Type 0
+TellsItem None old new before now = IsSpent new.lines ⊎ (old.has_failed ≡ true)
+TellsItem (Some (Ok m)) old new before now = Unit {0}
+TellsItem (Some (Err NotUtf8)) old new before now = Unit {0}
+TellsItem (Some (Err TooLong)) old new before now = Unit {0}
+TellsItem (Some (Err ReadFault)) old new before now = Rose before now
+TellsItem (Some (Err OutOfMemory)) old new before now = Unit {0}
 
 -- whether an answer reports that memory ran out
 abbrev pub is_out_of_memory : Option Item → Bool
@@ -79,23 +79,23 @@ is_out_of_memory (Some (Err ReadFault)) = false
 is_out_of_memory (Some (Err OutOfMemory)) = true
 
 -- whether an answer reports a fault of the source
-abbrev pub is_read_fault : Option Item → Bool
-is_read_fault None = false
-is_read_fault (Some (Ok m)) = false
-is_read_fault (Some (Err NotUtf8)) = false
-is_read_fault (Some (Err TooLong)) = false
-is_read_fault (Some (Err ReadFault)) = true
-is_read_fault (Some (Err OutOfMemory)) = false
+abbrev pub is_item_fault : Option Item → Bool
+is_item_fault None = false
+is_item_fault (Some (Ok m)) = false
+is_item_fault (Some (Err NotUtf8)) = false
+is_item_fault (Some (Err TooLong)) = false
+is_item_fault (Some (Err ReadFault)) = true
+is_item_fault (Some (Err OutOfMemory)) = false
 
 -- a reader gave these lines of a source, and at most one more
 pub record GaveOneMore (first left : Option (List ℕ)) (lines : List (Option (List ℕ))) (reader : Reader) : Type 0 where
   pub more : List (Option (List ℕ))
   pub few : length more ≤ 1
-  pub gave : Gave first left (lines ++ more) reader
+  pub gave : GaveLines first left (lines ++ more) reader
 
 -- what a call answers: what it means, whether it is the last, and that no fault is forgotten
-pub record Answers {S : Type 0} (result : Option Item) (old new : Stream S) (before now : ℕ) : Type 0 where
-  pub told : Tells result old new before now
+pub record AnswersItem {S : Type 0} (result : Option Item) (old new : Stream S) (before now : ℕ) : Type 0 where
+  pub told : TellsItem result old new before now
   pub fails : old.has_failed ≡ false → new.has_failed ≡ is_fatal result
   pub later : before ≤ now
 

@@ -2,8 +2,8 @@
 
 ghost use Rattle.std.specs.Prelude.{◌≡◌, ◌≤◌, false, ℕ, List, Option, None, IfOk, IsTrue};
 ghost use Rattle.base_text.specs.Calls.{ReadsAtOnce};
-ghost use Rattle.base_text.specs.Reader.{Gave};
-ghost use Rattle.cargo_msgs.specs.Stream.{Answers, GaveMessages, GaveOneMore, GivesItem, Item, Tells, is_fatal, is_out_of_memory, is_read_fault, item_of_bytes, items_after, new_stream};
+ghost use Rattle.base_text.specs.Reader.{GaveLines};
+ghost use Rattle.cargo_msgs.specs.Stream.{AnswersItem, GaveMessages, GaveOneMore, GivesItem, Item, TellsItem, is_fatal, is_out_of_memory, is_item_fault, item_of_bytes, items_after, new_stream};
 
 use crate::messages::Message;
 use base_text::{BoundedLines, ByteSource, Line, LineError};
@@ -72,11 +72,11 @@ impl<S: ByteSource> MessageIter<S> {
             → GaveMessages first (S.left self.old.input) given self.old.lines
             → GaveMessages first (S.left self.new.input) (items_after given result) self.new.lines }
         ensures taken { (first : Option (List ℕ)) (lines : List (Option (List ℕ)))
-            → Gave first (S.left self.old.input) lines self.old.lines
+            → GaveLines first (S.left self.old.input) lines self.old.lines
             → GaveOneMore first (S.left self.new.input) lines self.new.lines }
-        ensures reads { ReadsAtOnce S.read_gives (is_read_fault result) self.old.lines.piece
+        ensures reads { ReadsAtOnce S.read_gives (is_item_fault result) self.old.lines.piece
             self.old.input self.new.input }
-        ensures answers { Answers result self.old self.new
+        ensures answers { AnswersItem result self.old self.new
             (S.faults self.old.input) (S.faults self.new.input) }
         ensures ended { IsTrue self.old.has_failed → (result ≡ None) × (self.new ≡ self.old) }
     {
@@ -99,11 +99,11 @@ impl<S: ByteSource> MessageIter<S> {
             → GaveMessages first (S.left self.old.input) given self.old.lines
             → GaveMessages first (S.left self.new.input) (items_after given result) self.new.lines }
         ensures taken { (first : Option (List ℕ)) (lines : List (Option (List ℕ)))
-            → Gave first (S.left self.old.input) lines self.old.lines
+            → GaveLines first (S.left self.old.input) lines self.old.lines
             → GaveOneMore first (S.left self.new.input) lines self.new.lines }
-        ensures reads { ReadsAtOnce S.read_gives (is_read_fault result) self.old.lines.piece
+        ensures reads { ReadsAtOnce S.read_gives (is_item_fault result) self.old.lines.piece
             self.old.input self.new.input }
-        ensures told { Tells result self.old self.new
+        ensures told { TellsItem result self.old self.new
             (S.faults self.old.input) (S.faults self.new.input) }
         ensures faults { S.faults self.old.input ≤ S.faults self.new.input }
     {

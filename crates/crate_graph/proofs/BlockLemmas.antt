@@ -6,7 +6,7 @@ use Rattle.std.proofs.lemmas.Bool.{cases_lt, cases_order, false≢true}
 use Rattle.std.proofs.lemmas.List.{get_or_default}
 use Rattle.graph_base.specs.Edges.{IsInRange}
 use Rattle.graph_base.specs.Reach.{Reaches}
-use Rattle.graph_base.specs.Blocks.{AreListed, FitAbove, FitBelow, IsAmong, RearrangesAbove, RearrangesBelow}
+use Rattle.graph_base.specs.Blocks.{AreInRankOrder, FitAbove, FitBelow, IsAmong, RearrangesAbove, RearrangesBelow}
 use Rattle.graph_base.specs.Blocks as table
 use Rattle.graph_base.specs.Ranks.{AreRanks}
 use Rattle.crate_graph.specs.Blocks.{Block, IsMoved, IsOther, MovesBlock, block_of}

@@ -12,13 +12,13 @@ use Rattle.graph_base.proofs.ReachLemmas.{none_in}
 use Rattle.crate_graph_values.specs.declared.builder.CrateBuilder.{CrateBuilder}
 use Rattle.crate_graph_values.specs.declared.crate_data.Dependency.{Dependency}
 use Rattle.crate_graph.specs.Extend.{Id, Merge, before_merge, with_sorted_dependencies, with_new_ids, new_id_at, take_in, with_first_equal, with_crate_at, merge_of}
-use Rattle.crate_graph.specs.Graph.{edges, row_of, target_of}
+use Rattle.crate_graph.specs.Graph.{edges, dependency_row, target_of}
 use Rattle.crate_graph.proofs.GraphLemmas.{length-edges, row-at, slice_get_some}
 
 -- ---- crates and edges
 
 -- the crate from which an edge leads
-pub edge_crate : (crates : List CrateBuilder) (k b : ℕ) → HasEdge (edges crates) k b → (krate : CrateBuilder) × (slice_get crates k ≡ Some krate) × Contains (row_of krate) b
+pub edge_crate : (crates : List CrateBuilder) (k b : ℕ) → HasEdge (edges crates) k b → (krate : CrateBuilder) × (slice_get crates k ≡ Some krate) × Contains (dependency_row krate) b
 edge_crate crates k b e = elim (cases_lt k (length crates)) [
   | inl within ↦
       let at = slice_get_some crates k within in
@@ -26,17 +26,17 @@ edge_crate crates k b e = elim (cases_lt k (length crates)) [
   | inr past ↦ absurd (none_in b (subst (λ r. Contains r b) (get_or_past (edges crates) k [] (omega (arith, length-edges crates))) e))
 ]
 
-pub crate_edge : (crates : List CrateBuilder) (k b : ℕ) (krate : CrateBuilder) → slice_get crates k ≡ Some krate → Contains (row_of krate) b → HasEdge (edges crates) k b
+pub crate_edge : (crates : List CrateBuilder) (k b : ℕ) (krate : CrateBuilder) → slice_get crates k ≡ Some krate → Contains (dependency_row krate) b → HasEdge (edges crates) k b
 crate_edge crates k b krate is c = subst (λ r. Contains r b) (sym (row-at crates k krate is)) c
 
 -- the targets of a crate's dependencies are numbers of the graph
 pub targets_within : (crates : List CrateBuilder) (k : ℕ) (krate : CrateBuilder) (n : ℕ) → IsInRange (edges crates) → n ≡ length crates → slice_get crates k ≡ Some krate → All (λ dep. target_of dep < n) krate.basic.dependencies
 targets_within crates k krate n in_range long is = λ i d within.
-    let row : List ℕ = row_of krate in
+    let row : List ℕ = dependency_row krate in
     let inside : i < length (map target_of krate.basic.dependencies) = omega (arith, length-map krate.basic.dependencies target_of) in
     let target : get_or (map target_of krate.basic.dependencies) i 0 ≡ target_of (get_or krate.basic.dependencies i d) = get_or-map-at krate.basic.dependencies i d 0 within in
-    let edge = crate_edge crates k (get_or (row_of krate) i 0) krate is (Contains-get_or (row_of krate) i 0 inside) in
-    omega (arith, in_range k (get_or (row_of krate) i 0) edge, length-edges crates)
+    let edge = crate_edge crates k (get_or (dependency_row krate) i 0) krate is (Contains-get_or (dependency_row krate) i 0 inside) in
+    omega (arith, in_range k (get_or (dependency_row krate) i 0) edge, length-edges crates)
   where
     get_or-map-at : (deps : List (Dependency Id)) (i : ℕ) (d : Dependency Id) (z : ℕ) → i < length deps → get_or (map target_of deps) i z ≡ target_of (get_or deps i d)
     get_or-map-at [] i d z within = absurd (omega arith)

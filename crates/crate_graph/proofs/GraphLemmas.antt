@@ -11,11 +11,11 @@ use Rattle.graph_base.specs.Reach.{IsAcyclic}
 use Rattle.crate_graph_values.specs.declared.builder.CrateBuilder.{CrateBuilder}
 use Rattle.crate_graph_values.specs.declared.crate_data.CrateTag.{CrateTag}
 use Rattle.crate_graph_values.specs.declared.crate_data.Dependency.{Dependency}
-use Rattle.crate_graph_values.specs.Laws.{HasCleanPath}
-use Rattle.crate_graph.specs.Graph.{HasDependency, IsWellMade, edges, row_of, target_of, with_dependency}
+use Rattle.crate_graph_values.specs.Laws.{HasCleanMacroDirectory}
+use Rattle.crate_graph.specs.Graph.{HasDependency, IsWellMadeGraph, edges, dependency_row, target_of, with_dependency}
 
 pub length-edges : (crates : List CrateBuilder) → length (edges crates) ≡ length crates
-length-edges crates = length-map crates row_of
+length-edges crates = length-map crates dependency_row
 
 -- there is a value at each place within a list
 pub slice_get_some : {X : Type 0} (xs : List X) (i : ℕ) → i < length xs → (x : X) × (slice_get xs i ≡ Some x)
@@ -24,25 +24,25 @@ slice_get_some (x ∷ xs) zero within = (x, refl)
 slice_get_some (x ∷ xs) (suc i) within = slice_get_some xs i (omega arith)
 
 -- the row of a crate
-pub row-at : (crates : List CrateBuilder) (i : ℕ) (krate : CrateBuilder) → slice_get crates i ≡ Some krate → row (edges crates) i ≡ row_of krate
+pub row-at : (crates : List CrateBuilder) (i : ℕ) (krate : CrateBuilder) → slice_get crates i ≡ Some krate → row (edges crates) i ≡ dependency_row krate
 row-at [] i krate is = cc
-row-at (x ∷ xs) zero krate is = let same : x ≡ krate = cc in ap row_of same
+row-at (x ∷ xs) zero krate is = let same : x ≡ krate = cc in ap dependency_row same
 row-at (x ∷ xs) (suc i) krate is = row-at xs i krate is
 
 -- the path of each crate is clean
-pub clean_at : (crates : List CrateBuilder) (i : ℕ) (krate : CrateBuilder) → All (λ krate. HasCleanPath krate.basic) crates → slice_get crates i ≡ Some krate → HasCleanPath krate.basic
+pub clean_at : (crates : List CrateBuilder) (i : ℕ) (krate : CrateBuilder) → All (λ krate. HasCleanMacroDirectory krate.basic) crates → slice_get crates i ≡ Some krate → HasCleanMacroDirectory krate.basic
 clean_at crates i krate clean is =
     let within = slice_get_within crates i krate is in
     let at : slice_get crates i ≡ Some (get_or crates i krate) = slice_get-get_or crates i krate within in
     let same : get_or crates i krate ≡ krate = cc in
-    subst (λ (k : CrateBuilder). HasCleanPath k.basic) same (clean i krate within)
+    subst (λ (k : CrateBuilder). HasCleanMacroDirectory k.basic) same (clean i krate within)
 
 module _ (old new : List CrateBuilder) (from : ℕ) (dep : Dependency (Idx CrateTag)) (within : from < length old) (has : HasDependency old new from dep) where
   pub edges-with_dependency : edges new ≡ with_edge (edges old) from (target_of dep)
   edges-with_dependency =
       let at = slice_get_some old from within in
       let changed = has at.0 at.1 in
-      ap edges changed ∙ map-set row_of old from (with_dependency at.0 dep)
+      ap edges changed ∙ map-set dependency_row old from (with_dependency at.0 dep)
       ∙ ap (set (edges old) from) (map-append target_of at.0.basic.dependencies (dep ∷ []) ∙ ap (λ r. r ++ target_of dep ∷ []) (sym (row-at old from at.0 at.1)))
 
   pub length-with_dependency : length new ≡ length old
@@ -50,13 +50,13 @@ module _ (old new : List CrateBuilder) (from : ℕ) (dep : Dependency (Idx Crate
       let at = slice_get_some old from within in
       ap length (has at.0 at.1) ∙ length-set old from (with_dependency at.0 dep)
 
-  clean-with_dependency : All (λ krate. HasCleanPath krate.basic) old → All (λ krate. HasCleanPath krate.basic) new
+  clean-with_dependency : All (λ krate. HasCleanMacroDirectory krate.basic) old → All (λ krate. HasCleanMacroDirectory krate.basic) new
   clean-with_dependency clean =
       let at = slice_get_some old from within in
-      let here : HasCleanPath at.0.basic = clean_at old from at.0 clean at.1 in
-      subst (All (λ krate. HasCleanPath krate.basic)) (sym (has at.0 at.1)) (All-set (λ (krate : CrateBuilder). HasCleanPath krate.basic) old from (with_dependency at.0 dep) here clean)
+      let here : HasCleanMacroDirectory at.0.basic = clean_at old from at.0 clean at.1 in
+      subst (All (λ krate. HasCleanMacroDirectory krate.basic)) (sym (has at.0 at.1)) (All-set (λ (krate : CrateBuilder). HasCleanMacroDirectory krate.basic) old from (with_dependency at.0 dep) here clean)
 
-  pub well_made-with_dependency : (limit : ℕ) → IsWellMade old limit → IsInRange (with_edge (edges old) from (target_of dep)) → IsAcyclic (with_edge (edges old) from (target_of dep)) → IsWellMade new limit
+  pub well_made-with_dependency : (limit : ℕ) → IsWellMadeGraph old limit → IsInRange (with_edge (edges old) from (target_of dep)) → IsAcyclic (with_edge (edges old) from (target_of dep)) → IsWellMadeGraph new limit
   well_made-with_dependency limit made in_range acyclic = record {
     fits = made.fits;
     within = omega (arith, made.within, length-with_dependency);
@@ -67,10 +67,10 @@ module _ (old new : List CrateBuilder) (from : ℕ) (dep : Dependency (Idx Crate
 
 -- a crate that depends on nothing
 pub edges-with_crate : (old : List CrateBuilder) (krate : CrateBuilder) → krate.basic.dependencies ≡ [] → edges (old ++ krate ∷ []) ≡ with_node (edges old)
-edges-with_crate old krate none = map-append row_of old (krate ∷ []) ∙ ap (λ r. edges old ++ map target_of r ∷ []) none
+edges-with_crate old krate none = map-append dependency_row old (krate ∷ []) ∙ ap (λ r. edges old ++ map target_of r ∷ []) none
 
-pub well_made-with_crate : (old new : List CrateBuilder) (krate : CrateBuilder) (limit : ℕ) → new ≡ old ++ krate ∷ [] → krate.basic.dependencies ≡ [] → HasCleanPath krate.basic → length old < limit → IsWellMade old limit
-    → IsInRange (with_node (edges old)) → IsAcyclic (with_node (edges old)) → IsWellMade new limit
+pub well_made-with_crate : (old new : List CrateBuilder) (krate : CrateBuilder) (limit : ℕ) → new ≡ old ++ krate ∷ [] → krate.basic.dependencies ≡ [] → HasCleanMacroDirectory krate.basic → length old < limit → IsWellMadeGraph old limit
+    → IsInRange (with_node (edges old)) → IsAcyclic (with_node (edges old)) → IsWellMadeGraph new limit
 well_made-with_crate old new krate limit is none clean room made in_range acyclic =
     let same : edges new ≡ with_node (edges old) = ap edges is ∙ edges-with_crate old krate none in
     record {
@@ -78,18 +78,18 @@ well_made-with_crate old new krate limit is none clean room made in_range acycli
       within = omega (arith, ap length is, length_push old krate);
       in_range = subst IsInRange (sym same) in_range;
       acyclic = subst IsAcyclic (sym same) acyclic;
-      clean = subst (All (λ krate. HasCleanPath krate.basic)) (sym is) (All-append (λ (krate : CrateBuilder). HasCleanPath krate.basic) old (krate ∷ []) made.clean (All-cons (λ (krate : CrateBuilder). HasCleanPath krate.basic) krate [] clean (All-nil (λ (krate : CrateBuilder). HasCleanPath krate.basic))));
+      clean = subst (All (λ krate. HasCleanMacroDirectory krate.basic)) (sym is) (All-append (λ (krate : CrateBuilder). HasCleanMacroDirectory krate.basic) old (krate ∷ []) made.clean (All-cons (λ (krate : CrateBuilder). HasCleanMacroDirectory krate.basic) krate [] clean (All-nil (λ (krate : CrateBuilder). HasCleanMacroDirectory krate.basic))));
     }
 
 no_edge : (a b : ℕ) → HasEdge (edges []) a b → ⊥
 no_edge a b e = omega (arith, e.1)
 
 -- the graph with no crates
-pub well_made-none : (limit : ℕ) → limit < 2 ^ 32 → IsWellMade [] limit
+pub well_made-none : (limit : ℕ) → limit < 2 ^ 32 → IsWellMadeGraph [] limit
 well_made-none limit fits = record {
   fits = fits;
   within = omega arith;
   in_range = λ a b e. absurd (no_edge a b e);
   acyclic = λ a b e r. no_edge a b e;
-  clean = All-nil (λ (krate : CrateBuilder). HasCleanPath krate.basic);
+  clean = All-nil (λ (krate : CrateBuilder). HasCleanMacroDirectory krate.basic);
 }

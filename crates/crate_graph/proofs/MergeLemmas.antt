@@ -13,11 +13,11 @@ use Rattle.graph_base.specs.Edges.{HasEdge, IsInRange}
 use Rattle.graph_base.specs.Reach.{IsAcyclic}
 use Rattle.crate_graph_values.specs.declared.builder.CrateBuilder.{CrateBuilder}
 use Rattle.crate_graph.specs.Extend.{AreApart, PassesLimit, HasEquals, Id, Merge, before_merge, with_dependencies, with_sorted_dependencies, merge_of, moved_entry, new_id, with_new_ids, new_id_at, take_in, with_first_equal, with_crate_at}
-use Rattle.crate_graph_values.specs.Laws.{HasCleanPath}
+use Rattle.crate_graph_values.specs.Laws.{HasCleanMacroDirectory}
 use Rattle.graph_base.specs.Finish.{IsFinishOrder}
 use Rattle.graph_base.proofs.FinishLemmas.{visits_unique}
 use Rattle.crate_graph.specs.Order.{IsOrderOf, Ranking, with_next_nodes}
-use Rattle.crate_graph.specs.Graph.{Graph, IsWellMade, edges, row_of}
+use Rattle.crate_graph.specs.Graph.{Graph, IsWellMadeGraph, edges, dependency_row}
 use Rattle.crate_graph.proofs.RankLemmas.{ranked-with_more}
 use Rattle.crate_graph.proofs.ExtendLemmas.{before_merge-new_numbers, crate_edge, edge_crate, take_in-new_numbers}
 use Rattle.crate_graph.proofs.GraphLemmas.{clean_at, length-edges, slice_get_some}
@@ -87,36 +87,36 @@ module _ (cmp : Id → Id → Ordering) (ids : tree.BTreeMap Id Id) (new_numbers
 
 -- ---- the paths are clean
 
-with_crate_at-clean : (j : Merge) (n : ℕ) (krate : CrateBuilder) (o : Option ℕ) → HasCleanPath krate.basic → All (λ krate. HasCleanPath krate.basic) j.crates → All (λ krate. HasCleanPath krate.basic) (with_crate_at j n krate o).crates
+with_crate_at-clean : (j : Merge) (n : ℕ) (krate : CrateBuilder) (o : Option ℕ) → HasCleanMacroDirectory krate.basic → All (λ krate. HasCleanMacroDirectory krate.basic) j.crates → All (λ krate. HasCleanMacroDirectory krate.basic) (with_crate_at j n krate o).crates
 with_crate_at-clean j n krate (Some place) here clean = clean
 with_crate_at-clean j n krate None here clean =
-    All-append (λ (krate : CrateBuilder). HasCleanPath krate.basic) j.crates (krate ∷ []) clean (All-cons (λ (krate : CrateBuilder). HasCleanPath krate.basic) krate [] here (All-nil (λ (krate : CrateBuilder). HasCleanPath krate.basic)))
+    All-append (λ (krate : CrateBuilder). HasCleanMacroDirectory krate.basic) j.crates (krate ∷ []) clean (All-cons (λ (krate : CrateBuilder). HasCleanMacroDirectory krate.basic) krate [] here (All-nil (λ (krate : CrateBuilder). HasCleanMacroDirectory krate.basic)))
 
-with_new_ids-clean : (new : Id → Id) (krate : CrateBuilder) → HasCleanPath krate.basic → HasCleanPath (with_new_ids new krate).basic
+with_new_ids-clean : (new : Id → Id) (krate : CrateBuilder) → HasCleanMacroDirectory krate.basic → HasCleanMacroDirectory (with_new_ids new krate).basic
 unfolding with_dependencies
 with_new_ids-clean new krate clean = clean
 
-with_sorted_dependencies-clean : (krate : CrateBuilder) → HasCleanPath krate.basic → HasCleanPath (with_sorted_dependencies krate).basic
+with_sorted_dependencies-clean : (krate : CrateBuilder) → HasCleanMacroDirectory krate.basic → HasCleanMacroDirectory (with_sorted_dependencies krate).basic
 unfolding with_dependencies
 with_sorted_dependencies-clean krate clean = clean
 
-module _ (eq : CrateBuilder → CrateBuilder → Bool) (olds : ℕ) (others : List CrateBuilder) (clean_others : All (λ krate. HasCleanPath krate.basic) others) where
-  take_in-clean : (j : Merge) (n : ℕ) → All (λ krate. HasCleanPath krate.basic) j.crates → All (λ krate. HasCleanPath krate.basic) (take_in eq olds others j n).crates
+module _ (eq : CrateBuilder → CrateBuilder → Bool) (olds : ℕ) (others : List CrateBuilder) (clean_others : All (λ krate. HasCleanMacroDirectory krate.basic) others) where
+  take_in-clean : (j : Merge) (n : ℕ) → All (λ krate. HasCleanMacroDirectory krate.basic) j.crates → All (λ krate. HasCleanMacroDirectory krate.basic) (take_in eq olds others j n).crates
   unfolding take_in
   take_in-clean j n clean =
-      elim (slice_get others n) as (λ o. slice_get others n ≡ o → All (λ krate. HasCleanPath krate.basic) (unwrap_or (option_map (λ k. with_first_equal eq olds j n (with_new_ids (new_id_at j.new_numbers) k)) o) j).crates) [
+      elim (slice_get others n) as (λ o. slice_get others n ≡ o → All (λ krate. HasCleanMacroDirectory krate.basic) (unwrap_or (option_map (λ k. with_first_equal eq olds j n (with_new_ids (new_id_at j.new_numbers) k)) o) j).crates) [
         | Some krate ↦ λ is. with_crate_at-clean j n (with_new_ids (new_id_at j.new_numbers) krate) (position (λ old. eq old (with_new_ids (new_id_at j.new_numbers) krate)) (take olds j.crates)) (with_new_ids-clean (new_id_at j.new_numbers) krate (clean_at others n krate clean_others is)) clean
         | None ↦ λ is. clean
       ] refl
 
-  fold-clean : (j : Merge) (ns : List ℕ) → All (λ krate. HasCleanPath krate.basic) j.crates → All (λ krate. HasCleanPath krate.basic) (fold (take_in eq olds others) j ns).crates
+  fold-clean : (j : Merge) (ns : List ℕ) → All (λ krate. HasCleanMacroDirectory krate.basic) j.crates → All (λ krate. HasCleanMacroDirectory krate.basic) (fold (take_in eq olds others) j ns).crates
   fold-clean j [] clean = clean
   fold-clean j (n ∷ ns) clean = fold-clean (take_in eq olds others j n) ns (take_in-clean j n clean)
 
-pub merge_of-clean : (eq : CrateBuilder → CrateBuilder → Bool) (olds others : List CrateBuilder) (order : List ℕ) → All (λ krate. HasCleanPath krate.basic) olds → All (λ krate. HasCleanPath krate.basic) others
-    → All (λ krate. HasCleanPath krate.basic) (merge_of eq olds others order).crates
+pub merge_of-clean : (eq : CrateBuilder → CrateBuilder → Bool) (olds others : List CrateBuilder) (order : List ℕ) → All (λ krate. HasCleanMacroDirectory krate.basic) olds → All (λ krate. HasCleanMacroDirectory krate.basic) others
+    → All (λ krate. HasCleanMacroDirectory krate.basic) (merge_of eq olds others order).crates
 merge_of-clean eq olds others order clean_olds clean_others =
-    let start = All-map (λ (krate : CrateBuilder). HasCleanPath krate.basic) with_sorted_dependencies olds (All-weaker (λ (krate : CrateBuilder). HasCleanPath krate.basic) (λ (krate : CrateBuilder). HasCleanPath (with_sorted_dependencies krate).basic) with_sorted_dependencies-clean olds clean_olds) in
+    let start = All-map (λ (krate : CrateBuilder). HasCleanMacroDirectory krate.basic) with_sorted_dependencies olds (All-weaker (λ (krate : CrateBuilder). HasCleanMacroDirectory krate.basic) (λ (krate : CrateBuilder). HasCleanMacroDirectory (with_sorted_dependencies krate).basic) with_sorted_dependencies-clean olds clean_olds) in
     fold-clean eq (length olds) others clean_others (before_merge olds others) order start
 
 -- there is one finish order, so that a graph that has room for all crates passes its limit in none
@@ -126,13 +126,13 @@ room_for_all eq old other order is room passes =
     omega (arith, room, passes.past, ap (λ o. length (merge_of eq old.crates other.crates o).crates) same)
 
 -- the graph is acyclic and in range, since what is appended depends on lower numbers alone
-module _ (eq : CrateBuilder → CrateBuilder → Bool) (olds others : List CrateBuilder) (finished : List ℕ) (j : Merge) (limit : ℕ) (made : IsWellMade olds limit) (taken : IsTaken eq olds others finished j) where
+module _ (eq : CrateBuilder → CrateBuilder → Bool) (olds others : List CrateBuilder) (finished : List ℕ) (j : Merge) (limit : ℕ) (made : IsWellMadeGraph olds limit) (taken : IsTaken eq olds others finished j) where
   old_edge : (a b : ℕ) → a < length olds → HasEdge (edges j.crates) a b → HasEdge (edges olds) a b
   old_edge a b within e =
       let krate = slice_get_some olds a within in
       let from = edge_crate j.crates a b e in
       let is : from.0 ≡ with_sorted_dependencies krate.0 = cc (from.1, taken.kept a krate.0 krate.1) in
-      crate_edge olds a b krate.0 krate.1 (row-with_sorted_dependencies krate.0 b (subst (λ z. Contains (row_of z) b) is from.2))
+      crate_edge olds a b krate.0 krate.1 (row-with_sorted_dependencies krate.0 b (subst (λ z. Contains (dependency_row z) b) is from.2))
 
   in_range_then : IsInRange (edges j.crates)
   in_range_then a b e = elim (cases_lt a (length olds)) [
@@ -142,7 +142,7 @@ module _ (eq : CrateBuilder → CrateBuilder → Bool) (olds others : List Crate
         omega (arith, taken.lower a b new e, slice_get_within j.crates a from.0 from.1, length-edges j.crates)
   ]
 
-  pub well_made-merge_of : length j.crates ≤ limit → All (λ krate. HasCleanPath krate.basic) j.crates → ((g h : List (List ℕ)) → IsAcyclic g → IsInRange g → ((a b : ℕ) → a < length g → HasEdge h a b → HasEdge g a b) → ((a b : ℕ) → length g ≤ a → HasEdge h a b → b < a) → IsAcyclic h) → IsWellMade j.crates limit
+  pub well_made-merge_of : length j.crates ≤ limit → All (λ krate. HasCleanMacroDirectory krate.basic) j.crates → ((g h : List (List ℕ)) → IsAcyclic g → IsInRange g → ((a b : ℕ) → a < length g → HasEdge h a b → HasEdge g a b) → ((a b : ℕ) → length g ≤ a → HasEdge h a b → b < a) → IsAcyclic h) → IsWellMadeGraph j.crates limit
   well_made-merge_of room clean above = record {
     fits = made.fits;
     within = room;

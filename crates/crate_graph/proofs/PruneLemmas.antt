@@ -17,10 +17,10 @@ use Rattle.crate_graph.proofs.GraphLemmas.{length-edges}
 use Rattle.crate_graph_values.specs.declared.builder.CrateBuilder.{CrateBuilder}
 use Rattle.crate_graph_values.specs.declared.crate_data.CrateTag.{CrateTag}
 use Rattle.crate_graph_values.specs.declared.crate_data.Dependency.{Dependency}
-use Rattle.crate_graph.specs.Graph.{IsWellMade, edges, row_of, target_of}
-use Rattle.crate_graph_values.specs.Laws.{HasCleanPath, renamed_dependency}
+use Rattle.crate_graph.specs.Graph.{IsWellMadeGraph, edges, dependency_row, target_of}
+use Rattle.crate_graph_values.specs.Laws.{HasCleanMacroDirectory, renamed_dependency}
 use Rattle.crate_graph.specs.Suborder.{new_number}
-use Rattle.crate_graph.specs.Prune.{Stays, kept_crates, renumbered_crate, renumbered_id, number_at}
+use Rattle.crate_graph.specs.Prune.{Stays, kept_crates, renumbered_crate, renumbered_id, number_after_prune}
 
 -- each number of a list is named by it
 pub named_at : (keep : List ℕ) (k n : ℕ) → k < length keep → get_or keep k 0 ≡ n → is_named keep n ≡ true
@@ -136,7 +136,7 @@ module _ (keep : List ℕ) (ids : List (Option (Idx CrateTag))) (count : ℕ) (i
   is_some-id n within = same_some (slice_index_or ids n None) ∙ ap is_some (id_at n within) ∙ some_number keep n
 
 -- the new number of a crate, by the list of them
-number_at-kept : (keep numbers : List ℕ) (count n : ℕ) → numbers ≡ map (kept_below keep) (range_with_len 0 count) → n < count → number_at numbers n ≡ kept_below keep n
+number_at-kept : (keep numbers : List ℕ) (count n : ℕ) → numbers ≡ map (kept_below keep) (range_with_len 0 count) → n < count → number_after_prune numbers n ≡ kept_below keep n
 number_at-kept keep numbers count n are within =
     ap (λ ns. get_or ns n 0) are ∙ get_or-map-range_with_len (kept_below keep) 0 count n n 0 within (omega arith)
 
@@ -160,12 +160,12 @@ deps_same f g (d ∷ ds) agree =
     let later = deps_same f g ds (λ n at. agree n (suc at.0, omega (arith, at.1), at.2)) in
     ap (λ n. renumbered_dep n d ∷ map (renamed_dependency (renumbered_id f)) ds) here ∙ ap (λ more. renamed_dependency (renumbered_id g) d ∷ more) later
 
-pub renumbered_same : (f g : ℕ → ℕ) (krate : CrateBuilder) → ((n : ℕ) → Contains (row_of krate) n → f n ≡ g n) → renumbered_crate f krate ≡ renumbered_crate g krate
+pub renumbered_same : (f g : ℕ → ℕ) (krate : CrateBuilder) → ((n : ℕ) → Contains (dependency_row krate) n → f n ≡ g n) → renumbered_crate f krate ≡ renumbered_crate g krate
 renumbered_same f g krate agree =
     ap (λ ds. record krate { basic = record krate.basic { dependencies = ds } }) (deps_same f g krate.basic.dependencies agree)
 
-row_get : (crates : List CrateBuilder) (i : ℕ) (krate : CrateBuilder) → i < length crates → krate ≡ get_or crates i krate → row (edges crates) i ≡ row_of krate
-row_get crates i krate within at = get_or-map row_of crates i krate [] within ∙ ap row_of (sym at)
+row_get : (crates : List CrateBuilder) (i : ℕ) (krate : CrateBuilder) → i < length crates → krate ≡ get_or crates i krate → row (edges crates) i ≡ dependency_row krate
+row_get crates i krate within at = get_or-map dependency_row crates i krate [] within ∙ ap dependency_row (sym at)
 
 -- a crate that is kept depends on crates that are kept
 module _ (keep : List ℕ) (crates : List CrateBuilder) (ids : List (Option (Idx CrateTag))) (whole : IsClosed (edges crates) keep) (ids_are : map (option_map number_of) ids ≡ map (new_number keep) (range_with_len 0 (length crates)))
@@ -173,14 +173,14 @@ module _ (keep : List ℕ) (crates : List CrateBuilder) (ids : List (Option (Idx
   pub named_here : is_named keep k ≡ true
   named_here = sym (is_some-id keep ids (length crates) ids_are k within) ∙ some
 
-  named_all : (n : ℕ) → Contains (row_of krate) n → is_named keep n ≡ true
+  named_all : (n : ℕ) → Contains (dependency_row krate) n → is_named keep n ≡ true
   named_all n c = whole.closed k n named_here (subst (λ r. Contains r n) (sym (row_get crates k krate within at)) c)
 
-  known_all : (n : ℕ) → Contains (row_of krate) n → n < length crates
+  known_all : (n : ℕ) → Contains (dependency_row krate) n → n < length crates
   known_all n c = omega (arith, whole.known n (named_all n c), length-edges crates)
 
-  pub renumbered_kept : (numbers : List ℕ) → numbers ≡ map (kept_below keep) (range_with_len 0 (length crates)) → renumbered_crate (number_at numbers) krate ≡ renumbered_crate (kept_below keep) krate
-  renumbered_kept numbers are = renumbered_same (number_at numbers) (kept_below keep) krate (λ n c. number_at-kept keep numbers (length crates) n are (known_all n c))
+  pub renumbered_kept : (numbers : List ℕ) → numbers ≡ map (kept_below keep) (range_with_len 0 (length crates)) → renumbered_crate (number_after_prune numbers) krate ≡ renumbered_crate (kept_below keep) krate
+  renumbered_kept numbers are = renumbered_same (number_after_prune numbers) (kept_below keep) krate (λ n c. number_at-kept keep numbers (length crates) n are (known_all n c))
 
 -- one step over the crates
 module _ (keep : List ℕ) (crates done whole : List CrateBuilder) (k : ℕ) (c : CrateBuilder) (within : k < length crates) (at : c ≡ get_or crates k c) (so_far : done ++ kept_crates keep k (drop k crates) ≡ whole) where
@@ -211,8 +211,8 @@ edges_from : (keep : List ℕ) (n : ℕ) (crates : List CrateBuilder) → edges 
 edges_from keep n [] = refl
 edges_from keep n (c ∷ cs) =
     let later = edges_from keep (suc n) cs in
-    elim (is_named keep n) as (λ b. edges (cond b (renumbered_crate (kept_below keep) c ∷ kept_crates keep (suc n) cs) (kept_crates keep (suc n) cs)) ≡ cond b (map (kept_below keep) (row_of c) ∷ kept_rows keep (suc n) (edges cs)) (kept_rows keep (suc n) (edges cs))) [
-      | true ↦ ap (λ r. r ∷ edges (kept_crates keep (suc n) cs)) (row_moved (kept_below keep) c.basic.dependencies) ∙ ap (λ rs. map (kept_below keep) (row_of c) ∷ rs) later
+    elim (is_named keep n) as (λ b. edges (cond b (renumbered_crate (kept_below keep) c ∷ kept_crates keep (suc n) cs) (kept_crates keep (suc n) cs)) ≡ cond b (map (kept_below keep) (dependency_row c) ∷ kept_rows keep (suc n) (edges cs)) (kept_rows keep (suc n) (edges cs))) [
+      | true ↦ ap (λ r. r ∷ edges (kept_crates keep (suc n) cs)) (row_moved (kept_below keep) c.basic.dependencies) ∙ ap (λ rs. map (kept_below keep) (dependency_row c) ∷ rs) later
       | false ↦ later
     ]
 
@@ -223,20 +223,20 @@ fewer_from keep n (c ∷ cs) =
     elim (is_named keep n) as (λ b. length (cond b (renumbered_crate (kept_below keep) c ∷ kept_crates keep (suc n) cs) (kept_crates keep (suc n) cs)) ≤ suc (length cs)) [ true ↦ omega (arith, later) | false ↦ omega (arith, later) ]
 
 -- the paths of the crates that are kept are clean
-clean_from : (keep : List ℕ) (n : ℕ) (crates : List CrateBuilder) → All (λ krate. HasCleanPath krate.basic) crates → All (λ krate. HasCleanPath krate.basic) (kept_crates keep n crates)
-clean_from keep n [] clean = All-nil (λ (krate : CrateBuilder). HasCleanPath krate.basic)
+clean_from : (keep : List ℕ) (n : ℕ) (crates : List CrateBuilder) → All (λ krate. HasCleanMacroDirectory krate.basic) crates → All (λ krate. HasCleanMacroDirectory krate.basic) (kept_crates keep n crates)
+clean_from keep n [] clean = All-nil (λ (krate : CrateBuilder). HasCleanMacroDirectory krate.basic)
 clean_from keep n (c ∷ cs) clean =
-    let later = clean_from keep (suc n) cs (All-tail (λ (krate : CrateBuilder). HasCleanPath krate.basic) c cs clean) in
-    let here : HasCleanPath c.basic = All-head (λ (krate : CrateBuilder). HasCleanPath krate.basic) c cs clean in
-    elim (is_named keep n) as (λ b. All (λ (krate : CrateBuilder). HasCleanPath krate.basic) (cond b (renumbered_crate (kept_below keep) c ∷ kept_crates keep (suc n) cs) (kept_crates keep (suc n) cs))) [
-      | true ↦ All-cons (λ (krate : CrateBuilder). HasCleanPath krate.basic) (renumbered_crate (kept_below keep) c) (kept_crates keep (suc n) cs) here later
+    let later = clean_from keep (suc n) cs (All-tail (λ (krate : CrateBuilder). HasCleanMacroDirectory krate.basic) c cs clean) in
+    let here : HasCleanMacroDirectory c.basic = All-head (λ (krate : CrateBuilder). HasCleanMacroDirectory krate.basic) c cs clean in
+    elim (is_named keep n) as (λ b. All (λ (krate : CrateBuilder). HasCleanMacroDirectory krate.basic) (cond b (renumbered_crate (kept_below keep) c ∷ kept_crates keep (suc n) cs) (kept_crates keep (suc n) cs))) [
+      | true ↦ All-cons (λ (krate : CrateBuilder). HasCleanMacroDirectory krate.basic) (renumbered_crate (kept_below keep) c) (kept_crates keep (suc n) cs) here later
       | false ↦ later
     ]
 
 pub edges-kept : (keep : List ℕ) (crates : List CrateBuilder) → edges (kept_crates keep 0 crates) ≡ kept_rows keep 0 (edges crates)
 edges-kept keep crates = edges_from keep 0 crates
 
-pub well_made-kept : (old new : List CrateBuilder) (keep : List ℕ) (limit : ℕ) → new ≡ kept_crates keep 0 old → IsWellMade old limit → IsInRange (kept_rows keep 0 (edges old)) → IsAcyclic (kept_rows keep 0 (edges old)) → IsWellMade new limit
+pub well_made-kept : (old new : List CrateBuilder) (keep : List ℕ) (limit : ℕ) → new ≡ kept_crates keep 0 old → IsWellMadeGraph old limit → IsInRange (kept_rows keep 0 (edges old)) → IsAcyclic (kept_rows keep 0 (edges old)) → IsWellMadeGraph new limit
 well_made-kept old new keep limit is made in_range acyclic =
     let same : edges new ≡ kept_rows keep 0 (edges old) = ap edges is ∙ edges_from keep 0 old in
     record {
@@ -244,5 +244,5 @@ well_made-kept old new keep limit is made in_range acyclic =
       within = omega (arith, made.within, ap length is, fewer_from keep 0 old);
       in_range = subst IsInRange (sym same) in_range;
       acyclic = subst IsAcyclic (sym same) acyclic;
-      clean = subst (All (λ krate. HasCleanPath krate.basic)) (sym is) (clean_from keep 0 old made.clean);
+      clean = subst (All (λ krate. HasCleanMacroDirectory krate.basic)) (sym is) (clean_from keep 0 old made.clean);
     }

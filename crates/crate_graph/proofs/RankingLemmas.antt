@@ -9,7 +9,7 @@ use Rattle.std.proofs.lemmas.List.FromFn.{get_or-map-range_with_len, length-map-
 use Rattle.graph_base.specs.Listing.{HasEach, IsInverse}
 use Rattle.graph_base.specs.Ranks.{AreRanks}
 use Rattle.graph_base.proofs.ListingLemmas.{rank_there}
-use Rattle.crate_graph.specs.Order.{AreKept, IsOrder, Ranking, place_of, ranking, with_next_node}
+use Rattle.crate_graph.specs.Order.{AreKeptRanks, IsOrder, Ranking, place_of_number, ranking, with_next_node}
 use Rattle.crate_graph.specs.Suborder.{HasEachOnce}
 use Rattle.crate_graph.proofs.OrderLemmas.{order-with_next_node}
 
@@ -17,15 +17,15 @@ eqb_is : (x n : ℕ) → (x == n) ≡ true → x ≡ n
 eqb_is x n same = eqb-true x n same
 
 -- the place of a number that a list has is that of the number
-pub place_at : (xs : List ℕ) (n k : ℕ) → k < length xs → get_or xs k 0 ≡ n → (place_of xs n < length xs) × (get_or xs (place_of xs n) 0 ≡ n)
+pub place_at : (xs : List ℕ) (n k : ℕ) → k < length xs → get_or xs k 0 ≡ n → (place_of_number xs n < length xs) × (get_or xs (place_of_number xs n) 0 ≡ n)
 place_at [] n k there is = absurd (omega (arith, there))
 place_at (x ∷ xs) n zero there is =
-    elim (x == n) as (λ b. (x == n) ≡ b → (◌<◌ (cond b 0 (suc (place_of xs n))) (length (x ∷ xs))) × (◌≡◌ {A = ℕ} (get_or (x ∷ xs) (cond b 0 (suc (place_of xs n))) 0) n)) [
+    elim (x == n) as (λ b. (x == n) ≡ b → (◌<◌ (cond b 0 (suc (place_of_number xs n))) (length (x ∷ xs))) × (◌≡◌ {A = ℕ} (get_or (x ∷ xs) (cond b 0 (suc (place_of_number xs n))) 0) n)) [
       | true ↦ λ same. (omega arith, eqb_is x n same)
       | false ↦ λ other. absurd (false≢true (sym other ∙ (Decides-eqb x n).1 is))
     ] refl
 place_at (x ∷ xs) n (suc k) there is =
-    elim (x == n) as (λ b. (x == n) ≡ b → (◌<◌ (cond b 0 (suc (place_of xs n))) (length (x ∷ xs))) × (◌≡◌ {A = ℕ} (get_or (x ∷ xs) (cond b 0 (suc (place_of xs n))) 0) n)) [
+    elim (x == n) as (λ b. (x == n) ≡ b → (◌<◌ (cond b 0 (suc (place_of_number xs n))) (length (x ∷ xs))) × (◌≡◌ {A = ℕ} (get_or (x ∷ xs) (cond b 0 (suc (place_of_number xs n))) 0) n)) [
       | true ↦ λ same. (omega arith, eqb_is x n same)
       | false ↦ λ other.
           let rest = place_at xs n k (omega (arith, there)) is in
@@ -34,12 +34,12 @@ place_at (x ∷ xs) n (suc k) there is =
 
 module _ (ranks : List ℕ) (are : AreRanks ranks) where
   pub length-ranking : length (ranking ranks).nodes ≡ length ranks
-  length-ranking = length-map-range_with_len (place_of ranks) 0 (length ranks)
+  length-ranking = length-map-range_with_len (place_of_number ranks) 0 (length ranks)
 
-  node_at : (r : ℕ) → r < length ranks → get_or (ranking ranks).nodes r 0 ≡ place_of ranks r
-  node_at r there = get_or-map-range_with_len (place_of ranks) 0 (length ranks) r r 0 there (omega arith)
+  node_at : (r : ℕ) → r < length ranks → get_or (ranking ranks).nodes r 0 ≡ place_of_number ranks r
+  node_at r there = get_or-map-range_with_len (place_of_number ranks) 0 (length ranks) r r 0 there (omega arith)
 
-  place_is : (r : ℕ) → r < length ranks → (place_of ranks r < length ranks) × (get_or ranks (place_of ranks r) 0 ≡ r)
+  place_is : (r : ℕ) → r < length ranks → (place_of_number ranks r < length ranks) × (get_or ranks (place_of_number ranks r) 0 ≡ r)
   place_is r there = let n = rank_there ranks r are there in place_at ranks r n.node n.there n.rank_is
 
   pub ranking_is_order : length ranks < 2 ^ 32 → IsOrder (ranking ranks)
@@ -54,7 +54,7 @@ module _ (ranks : List ℕ) (are : AreRanks ranks) where
         let n_in : n < length ranks = omega (arith, there, length-ranking) in
         let r_in : get_or ranks n 0 < length ranks = are.within n n_in in
         let place = place_is (get_or ranks n 0) r_in in
-        node_at (get_or ranks n 0) r_in ∙ are.once (place_of ranks (get_or ranks n 0)) n place.0 n_in place.1;
+        node_at (get_or ranks n 0) r_in ∙ are.once (place_of_number ranks (get_or ranks n 0)) n place.0 n_in place.1;
     rank_of_node = λ r there.
         let r_in : r < length ranks = omega (arith, there, length-ranking) in
         ap (λ z. get_or ranks z 0) (node_at r r_in) ∙ (place_is r r_in).1;
@@ -81,7 +81,7 @@ ranking_next ranks are next short short_next =
     (order-with_next_node (ranking ranks) old (omega (arith, short, long))) (ap (λ z. ranks ++ z ∷ []) (sym long))
 
 -- nodes that are listed by their ranks are those of the ranking
-pub inverse_nodes : (nodes ranks : List ℕ) → AreKept ranks → IsInverse nodes ranks → nodes ≡ (ranking ranks).nodes
+pub inverse_nodes : (nodes ranks : List ℕ) → AreKeptRanks ranks → IsInverse nodes ranks → nodes ≡ (ranking ranks).nodes
 inverse_nodes nodes ranks kept is =
     let order = ranking_is_order ranks kept.ranked kept.short in
     let long : length nodes ≡ length (ranking ranks).nodes = sym is.long ∙ sym (length-ranking ranks kept.ranked) in

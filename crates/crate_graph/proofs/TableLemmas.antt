@@ -4,22 +4,22 @@ use Rattle.std.specs.Prelude.{OnErr, OnOk, slice_index}
 use Rattle.std.specs.List.{All, AllPairs}
 use Rattle.std.proofs.lemmas.Bool.{false≢true}
 use Rattle.std.proofs.lemmas.List.{get_or_default, length_push}
-use Rattle.graph_base.specs.Blocks.{AreListed, FitAbove, FitBelow, RearrangesAbove, RearrangesBelow}
+use Rattle.graph_base.specs.Blocks.{AreInRankOrder, FitAbove, FitBelow, RearrangesAbove, RearrangesBelow}
 use Rattle.graph_base.specs.Listing.{HasEach, IsInverse}
 use Rattle.graph_base.specs.Ranks.{AreRanks, with_next_rank}
-use Rattle.crate_graph.specs.Order.{AreKept, IsOrder, Ranking, ranking, with_next_node}
+use Rattle.crate_graph.specs.Order.{AreKeptRanks, IsOrder, Ranking, ranking, with_next_node}
 use Rattle.crate_graph.specs.Placing.{FitsOrder, Placement, Rearranges}
 use Rattle.crate_graph.specs.Suborder.{HasEachOnce}
 use Rattle.crate_graph.proofs.RankingLemmas.{length-ranking, ranking_is_order, ranking_next}
 use Rattle.graph_base.proofs.ListingLemmas.{few}
 
-pub none_kept : AreKept []
+pub none_kept : AreKeptRanks []
 none_kept = record {
   ranked = record { within = λ n there. absurd (omega (arith, there)); once = λ m n there _ same. absurd (omega (arith, there)) };
   short = omega arith;
 }
 
-module _ (ranks : List ℕ) (order : Ranking) (view : ranking ranks ≡ order) (kept : AreKept ranks) where
+module _ (ranks : List ℕ) (order : Ranking) (view : ranking ranks ≡ order) (kept : AreKeptRanks ranks) where
   pub is_order : IsOrder order
   is_order = subst IsOrder view (ranking_is_order ranks kept.ranked kept.short)
 
@@ -39,7 +39,7 @@ module _ (ranks : List ℕ) (order : Ranking) (view : ranking ranks ≡ order) (
   fits_above p is side = (fits p is).above side
 
   -- nodes that are listed are fewer than 2^32
-  pub listed_short : (nodes : List ℕ) → AreListed nodes ranks → length nodes < 2 ^ 32
+  pub listed_short : (nodes : List ℕ) → AreInRankOrder nodes ranks → length nodes < 2 ^ 32
   listed_short nodes is =
       let once : AllPairs (λ m n. m ≢ n) nodes = λ i j d before within same.
       let one : get_or nodes i 0 ≡ get_or nodes j 0 = get_or_default nodes i 0 d (omega (arith, before, within)) ∙ same ∙ get_or_default nodes j d 0 within in
@@ -73,17 +73,17 @@ fits_nothing p order view is = by p.above refl
     by false side = omega (arith, (fits_below [] order view none_kept p is side).marked)
 
 -- a table that has one more node, or none more
-pub pushed_kept : {T E : Type 0} (r : Result T E) (old new : List ℕ) → AreRanks new → length old + 1 < 2 ^ 32 → OnOk r (new ≡ with_next_rank old) → OnErr r (new ≡ old) → AreKept new
+pub pushed_kept : {T E : Type 0} (r : Result T E) (old new : List ℕ) → AreRanks new → length old + 1 < 2 ^ 32 → OnOk r (new ≡ with_next_rank old) → OnErr r (new ≡ old) → AreKeptRanks new
 pushed_kept (Ok x) old new are short ok err = record { ranked = are; short = omega (arith, ap length ok, length_push old (length old), short) }
 pushed_kept (Err e) old new are short ok err = record { ranked = are; short = omega (arith, ap length err, short) }
 
-pub next_is : (old new : List ℕ) (order : Ranking) → ranking old ≡ order → AreKept old → AreRanks new → length old + 1 < 2 ^ 32 → new ≡ with_next_rank old
+pub next_is : (old new : List ℕ) (order : Ranking) → ranking old ≡ order → AreKeptRanks old → AreRanks new → length old + 1 < 2 ^ 32 → new ≡ with_next_rank old
     → ranking new ≡ with_next_node order
 next_is old new order view kept are short is =
     let next : AreRanks (old ++ length old ∷ []) = subst AreRanks is are in
     ap ranking is ∙ ranking_next old kept.ranked next short (omega (arith, length_push old (length old), short)) ∙ ap with_next_node view
 
-pub pushed_ok : {T E : Type 0} (r : Result T E) (old new : List ℕ) (order : Ranking) → ranking old ≡ order → AreKept old → AreRanks new → length old + 1 < 2 ^ 32
+pub pushed_ok : {T E : Type 0} (r : Result T E) (old new : List ℕ) (order : Ranking) → ranking old ≡ order → AreKeptRanks old → AreRanks new → length old + 1 < 2 ^ 32
     → OnOk r (new ≡ with_next_rank old) → OnOk r (ranking new ≡ with_next_node order)
 pushed_ok (Ok x) old new order view kept are short ok = next_is old new order view kept are short ok
 pushed_ok (Err e) old new order view kept are short ok = ok
@@ -99,5 +99,5 @@ has_each nodes is = record {
   once = λ j k before below. is.once j k 0 before below;
 }
 
-pub inverse_kept : (nodes ranks : List ℕ) → length nodes < 2 ^ 32 → AreRanks ranks → IsInverse nodes ranks → AreKept ranks
+pub inverse_kept : (nodes ranks : List ℕ) → length nodes < 2 ^ 32 → AreRanks ranks → IsInverse nodes ranks → AreKeptRanks ranks
 inverse_kept nodes ranks short are is = record { ranked = are; short = omega (arith, is.long, short) }

@@ -18,7 +18,7 @@ use Rattle.graph_base.proofs.ReachLemmas.{none_in}
 use Rattle.crate_graph_values.specs.declared.builder.CrateBuilder.{CrateBuilder}
 use Rattle.crate_graph_values.specs.declared.crate_data.Dependency.{Dependency}
 use Rattle.crate_graph.specs.Extend.{Id, Merge, KeepsCrates, before_merge, by_number, with_dependencies, with_sorted_dependencies, merge_of, with_new_ids, new_id_at, take_in, with_crate_at}
-use Rattle.crate_graph.specs.Graph.{edges, row_of, target_of}
+use Rattle.crate_graph.specs.Graph.{edges, dependency_row, target_of}
 use Rattle.crate_graph_values.specs.Laws.{renamed_dependency}
 use Rattle.crate_graph.proofs.ExtendLemmas.{before_merge-long, before_merge-new_numbers, crate_edge, edge_crate, take_in-at}
 use Rattle.crate_graph.proofs.GraphLemmas.{length-edges, slice_get_some}
@@ -47,7 +47,7 @@ slice_get-pushed (z ∷ xs) y (suc i) x is = elim (slice_get-pushed xs y i x is)
 
 -- ---- the edges of a crate with other dependencies
 
-row-with_dependencies : (deps : List (Dependency Id)) (krate : CrateBuilder) (b : ℕ) → Contains (row_of (with_dependencies deps krate)) b → Contains (map target_of deps) b
+row-with_dependencies : (deps : List (Dependency Id)) (krate : CrateBuilder) (b : ℕ) → Contains (dependency_row (with_dependencies deps krate)) b → Contains (map target_of deps) b
 unfolding with_dependencies
 row-with_dependencies deps krate b c =
     let order = sorted-IsPermutation by_number deps in
@@ -66,7 +66,7 @@ row-renamed_deps new_numbers (dep ∷ deps) b c =
     ]
 
 -- an edge of a with_new_ids crate leads to the new number of a target
-row-with_new_ids : (new_numbers : List ℕ) (krate : CrateBuilder) (b : ℕ) → Contains (row_of (with_new_ids (new_id_at new_numbers) krate)) b → (d : ℕ) × Contains (row_of krate) d × (b ≡ get_or new_numbers d 0)
+row-with_new_ids : (new_numbers : List ℕ) (krate : CrateBuilder) (b : ℕ) → Contains (dependency_row (with_new_ids (new_id_at new_numbers) krate)) b → (d : ℕ) × Contains (dependency_row krate) d × (b ≡ get_or new_numbers d 0)
 row-with_new_ids new_numbers krate b c =
     row-renamed_deps new_numbers krate.basic.dependencies b (row-with_dependencies (map (renamed_dependency (new_id_at new_numbers)) krate.basic.dependencies) krate b c)
 
@@ -78,10 +78,10 @@ same_deps new other (dep ∷ deps) agree =
     let rest = same_deps new other deps (λ id c. agree id (Contains-append_right (target_of dep ∷ []) (map target_of deps) id.raw c)) in
     λ i. record { crate_id = first i; name = dep.name; prelude = dep.prelude; sysroot = dep.sysroot } ∷ rest i
 
-pub renamed_same : (new other : Id → Id) (krate : CrateBuilder) → ((id : Id) → Contains (row_of krate) id.raw → new id ≡ other id) → with_new_ids new krate ≡ with_new_ids other krate
+pub renamed_same : (new other : Id → Id) (krate : CrateBuilder) → ((id : Id) → Contains (dependency_row krate) id.raw → new id ≡ other id) → with_new_ids new krate ≡ with_new_ids other krate
 renamed_same new other krate agree = ap (λ deps. with_dependencies deps krate) (same_deps new other krate.basic.dependencies agree)
 
-renumbered_same : (new_numbers other : List ℕ) (krate : CrateBuilder) → ((b : ℕ) → Contains (row_of krate) b → get_or new_numbers b 0 ≡ get_or other b 0) → with_new_ids (new_id_at new_numbers) krate ≡ with_new_ids (new_id_at other) krate
+renumbered_same : (new_numbers other : List ℕ) (krate : CrateBuilder) → ((b : ℕ) → Contains (dependency_row krate) b → get_or new_numbers b 0 ≡ get_or other b 0) → with_new_ids (new_id_at new_numbers) krate ≡ with_new_ids (new_id_at other) krate
 renumbered_same new_numbers other krate agree =
     renamed_same (new_id_at new_numbers) (new_id_at other) krate (λ id c. ap (λ (n : ℕ). record id { raw = n }) (agree id.raw c))
 
@@ -117,7 +117,7 @@ taken_none eq olds others = record {
 
 -- one more crate is taken in: it becomes one at a place, or is appended
 module _ (eq : CrateBuilder → CrateBuilder → Bool) (olds others : List CrateBuilder) (done : List ℕ) (j : Merge) (n : ℕ) (krate : CrateBuilder) (old : IsTaken eq olds others done j)
-    (at : slice_get others n ≡ Some krate) (new : Contains done n → ⊥) (below : (b : ℕ) → Contains (row_of krate) b → Contains done b) (v : ℕ) where
+    (at : slice_get others n ≡ Some krate) (new : Contains done n → ⊥) (below : (b : ℕ) → Contains (dependency_row krate) b → Contains done b) (v : ℕ) where
   news_then : List ℕ
   news_then = set j.new_numbers n v
 
@@ -152,7 +152,7 @@ module _ (eq : CrateBuilder → CrateBuilder → Bool) (olds others : List Crate
     | inr same ↦
         let from = edge_crate others n b (subst (λ z. HasEdge (edges others) z b) (sym same) e) in
         let is : krate ≡ from.0 = cc (at, from.1) in
-        Contains-append_left done (n ∷ []) b (below b (subst (λ k. Contains (row_of k) b) (sym is) from.2))
+        Contains-append_left done (n ∷ []) b (below b (subst (λ k. Contains (dependency_row k) b) (sym is) from.2))
   ]
 
   equal_then : (crates : List CrateBuilder) → ((i : ℕ) (x : CrateBuilder) → slice_get j.crates i ≡ Some x → slice_get crates i ≡ Some x) → (there : CrateBuilder) → slice_get crates v ≡ Some there → eq there (with_new_ids (new_id_at j.new_numbers) krate) ≡ true
@@ -195,7 +195,7 @@ module _ (eq : CrateBuilder → CrateBuilder → Bool) (olds others : List Crate
 
 -- the crate becomes one of the old ones
 taken_found : (eq : CrateBuilder → CrateBuilder → Bool) (olds others : List CrateBuilder) (done : List ℕ) (j : Merge) (n : ℕ) (krate there : CrateBuilder) → IsTaken eq olds others done j → slice_get others n ≡ Some krate → (Contains done n → ⊥)
-    → ((b : ℕ) → Contains (row_of krate) b → Contains done b) → (place : ℕ) → place < length olds → slice_get j.crates place ≡ Some there → eq there (with_new_ids (new_id_at j.new_numbers) krate) ≡ true
+    → ((b : ℕ) → Contains (dependency_row krate) b → Contains done b) → (place : ℕ) → place < length olds → slice_get j.crates place ≡ Some there → eq there (with_new_ids (new_id_at j.new_numbers) krate) ≡ true
     → IsTaken eq olds others (done ++ n ∷ []) (record { crates = j.crates; new_numbers = set j.new_numbers n place })
 taken_found eq olds others done j n krate there old at new below place low is same = record {
   news_long = length-set j.new_numbers n place ∙ old.news_long;
@@ -210,7 +210,7 @@ taken_found eq olds others done j n krate there old at new below place low is sa
 
 -- the crate is appended
 taken_appended : (eq : CrateBuilder → CrateBuilder → Bool) (olds others : List CrateBuilder) (done : List ℕ) (j : Merge) (n : ℕ) (krate : CrateBuilder) → ((x : CrateBuilder) → eq x x ≡ true) → IsTaken eq olds others done j → slice_get others n ≡ Some krate
-    → (Contains done n → ⊥) → ((b : ℕ) → Contains (row_of krate) b → Contains done b) → IsTaken eq olds others (done ++ n ∷ []) (record { crates = j.crates ++ with_new_ids (new_id_at j.new_numbers) krate ∷ []; new_numbers = set j.new_numbers n (length j.crates) })
+    → (Contains done n → ⊥) → ((b : ℕ) → Contains (dependency_row krate) b → Contains done b) → IsTaken eq olds others (done ++ n ∷ []) (record { crates = j.crates ++ with_new_ids (new_id_at j.new_numbers) krate ∷ []; new_numbers = set j.new_numbers n (length j.crates) })
 taken_appended eq olds others done j n krate itself old at new below =
     let r = with_new_ids (new_id_at j.new_numbers) krate in
     let v = length j.crates in
@@ -227,7 +227,7 @@ taken_appended eq olds others done j n krate itself old at new below =
           elim (slice_get-pushed j.crates r k from.0 from.1) [
             | inl was ↦ old.lower k b past (crate_edge j.crates k b from.0 was from.2)
             | inr last ↦
-                let target = row-with_new_ids j.new_numbers krate b (subst (λ z. Contains (row_of z) b) (sym last.1) from.2) in
+                let target = row-with_new_ids j.new_numbers krate b (subst (λ z. Contains (dependency_row z) b) (sym last.1) from.2) in
                 omega (arith, old_number eq olds others done j n krate old at new below v target.0 (below target.0 target.1), target.2, last.0)
           ];
     }
@@ -240,7 +240,7 @@ taken_more eq olds others done j n itself old within new below =
     let krate = at.0 in
     let r = with_new_ids (new_id_at j.new_numbers) krate in
     let test : CrateBuilder → Bool = λ x. eq x r in
-    let targets : (b : ℕ) → Contains (row_of at.0) b → Contains done b = λ b c. below b (crate_edge others n b at.0 at.1 c) in
+    let targets : (b : ℕ) → Contains (dependency_row at.0) b → Contains done b = λ b c. below b (crate_edge others n b at.0 at.1 c) in
     let many : length olds ≤ length j.crates = old.longer in
     let cut : length (take (length olds) j.crates) ≡ length olds = length-take-le (length olds) j.crates many in
     let cases : (o : Option ℕ) → position test (take (length olds) j.crates) ≡ o → IsTaken eq olds others (done ++ n ∷ []) (with_crate_at j n r o) = λ o.
@@ -287,5 +287,5 @@ module _ (eq : CrateBuilder → CrateBuilder → Bool) (olds others : List Crate
       subst (λ done. IsTaken eq olds others done (fold (take_in eq (length olds) others) (before_merge olds others) done)) all (taken_upto (length order) (omega arith))
 
 -- a crate whose dependencies are sorted depends on what it did
-pub row-with_sorted_dependencies : (krate : CrateBuilder) (b : ℕ) → Contains (row_of (with_sorted_dependencies krate)) b → Contains (row_of krate) b
+pub row-with_sorted_dependencies : (krate : CrateBuilder) (b : ℕ) → Contains (dependency_row (with_sorted_dependencies krate)) b → Contains (dependency_row krate) b
 row-with_sorted_dependencies krate b c = row-with_dependencies krate.basic.dependencies krate b c

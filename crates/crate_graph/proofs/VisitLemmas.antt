@@ -21,7 +21,7 @@ use Rattle.graph_base.specs.Listing.{AreAscending}
 use Rattle.graph_base.specs.Ranks.{AreRanks}
 use Rattle.crate_graph.specs.Counting.{raised_by}
 use Rattle.crate_graph.specs.Insertion.{AreVisits, CountsVisits, GivesRoom, IsBetween, MakesRoom, most_visits}
-use Rattle.crate_graph.specs.Order.{AreKept, Descends, IsOrder, Ranking, ranking}
+use Rattle.crate_graph.specs.Order.{AreKeptRanks, Descends, IsOrder, Ranking, ranking}
 use Rattle.crate_graph.specs.Placing.{FitsOrder, Placement, Rearranges, placement_below}
 use Rattle.crate_graph.specs.Walking.{AreUnmarked, IsPlaced, bounded}
 use Rattle.crate_graph.proofs.BlockLemmas.{AreSplit, above_is_block, below_is_block}
@@ -45,7 +45,7 @@ eqb_flips m n = elim (eqb m n) as (λ b. eqb m n ≡ b → b ≡ eqb n m) [
 
 -- a search for room in an order: the graph's edges lead down, and the edge asked about does not
 pub record IsSearch (g : List (List ℕ)) (ranks : List ℕ) (from to : ℕ) : Type 0 where
-  pub kept : AreKept ranks
+  pub kept : AreKeptRanks ranks
   pub count : length ranks ≡ length g
   pub in_range : IsInRange g
   pub down : Descends ranks g

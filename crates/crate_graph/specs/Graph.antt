@@ -7,7 +7,7 @@ use Rattle.graph_base.specs.Edges.{IsInRange}
 use Rattle.graph_base.specs.Reach.{IsAcyclic}
 use Rattle.crate_graph.specs.Insertion.{MakesRoom}
 use Rattle.crate_graph.specs.Order.{IsOrderOf, Ranking, with_next_node}
-use Rattle.crate_graph_values.specs.Laws.{HasCleanPath}
+use Rattle.crate_graph_values.specs.Laws.{HasCleanMacroDirectory}
 use Rattle.crate_graph_values.specs.declared.builder.CrateBuilder.{CrateBuilder}
 use Rattle.crate_graph_values.specs.declared.crate_data.Dependency.{Dependency}
 use Rattle.crate_graph_values.specs.declared.crate_data.CrateTag.{CrateTag}
@@ -17,20 +17,20 @@ abbrev pub target_of : Dependency (Idx CrateTag) → ℕ
 target_of dep = number_of dep.crate_id
 
 -- the crates that a crate depends on, in the order of its list
-abbrev pub row_of : CrateBuilder → List ℕ
-row_of krate = map target_of krate.basic.dependencies
+abbrev pub dependency_row : CrateBuilder → List ℕ
+dependency_row krate = map target_of krate.basic.dependencies
 
 -- the edges of the graph: from each crate to those that it depends on
 abbrev pub edges : List CrateBuilder → List (List ℕ)
-edges crates = map row_of crates
+edges crates = map dependency_row crates
 
 -- what every graph keeps: no more crates than the limit, no dependency that leads out of it, no cycle, and clean paths
-pub record IsWellMade (crates : List CrateBuilder) (limit : ℕ) : Type 0 where
+pub record IsWellMadeGraph (crates : List CrateBuilder) (limit : ℕ) : Type 0 where
   pub fits : limit < 2 ^ 32
   pub within : length crates ≤ limit
   pub in_range : IsInRange (edges crates)
   pub acyclic : IsAcyclic (edges crates)
-  pub clean : All (λ krate. HasCleanPath krate.basic) crates
+  pub clean : All (λ krate. HasCleanMacroDirectory krate.basic) crates
 
 -- a graph: the limit of its crates, the crates, each under its number, and the order of their ranks
 pub record Graph : Type 0 where
@@ -40,7 +40,7 @@ pub record Graph : Type 0 where
 
 -- what every graph keeps with its ranks: each crate has one, and each dependency leads to a lower one
 pub record IsRanked (graph : Graph) : Type 0 where
-  pub well_made : IsWellMade graph.crates graph.limit
+  pub well_made : IsWellMadeGraph graph.crates graph.limit
   pub ranks : IsOrderOf graph.order (edges graph.crates)
 
 -- an attribute as code has it

@@ -48,15 +48,15 @@ pub record IsOrderOf (order : Ranking) (g : List (List ℕ)) : Type 0 where
   pub descends : Descends order.ranks g
 
 -- the place of a number in a list
-abbrev pub place_of : List ℕ → ℕ → ℕ
-place_of [] n = 0
-place_of (x ∷ xs) n = if x == n then 0 else suc (place_of xs n)
+abbrev pub place_of_number : List ℕ → ℕ → ℕ
+place_of_number [] n = 0
+place_of_number (x ∷ xs) n = if x == n then 0 else suc (place_of_number xs n)
 
 -- the order in which the nodes have some ranks
 abbrev pub ranking : List ℕ → Ranking
 ranking ranks = record {
   ranks = ranks;
-  nodes = map (place_of ranks) (range_with_len 0 (length ranks));
+  nodes = map (place_of_number ranks) (range_with_len 0 (length ranks));
 }
 
 -- the ranks that a table keeps: none where there is no table
@@ -65,6 +65,6 @@ ranks_in None = []
 ranks_in (Some ranks) = ranks
 
 -- ranks of fewer nodes than 2^32
-pub record AreKept (ranks : List ℕ) : Type 0 where
+pub record AreKeptRanks (ranks : List ℕ) : Type 0 where
   pub ranked : AreRanks ranks
   pub short : length ranks < 2 ^ 32

@@ -31,8 +31,8 @@ pub record KeepsNamed (old new : Graph) (keep : List ℕ) : Type 0 where
   pub order : new.order.nodes ≡ kept_nodes keep old.order.nodes
 
 -- the new number of a crate, by a list of them
-abbrev pub number_at : List ℕ → ℕ → ℕ
-number_at numbers n = slice_index_or numbers n 0
+abbrev pub number_after_prune : List ℕ → ℕ → ℕ
+number_after_prune numbers n = slice_index_or numbers n 0
 
 -- a crate that is of the graph and depends on named crates alone
 pub record Stays (g : List (List ℕ)) (keep : List ℕ) (n : ℕ) : Type 0 where

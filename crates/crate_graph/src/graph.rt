@@ -6,8 +6,8 @@ ghost use Rattle.std.specs.Iterator.{YieldsFirstBy, item_count};
 ghost use Rattle.std.specs.List.{range_with_len};
 ghost use Rattle.std.specs.Option.{option_map};
 ghost use Rattle.base_text_paths.specs.Arena.{number_of};
-ghost use Rattle.crate_graph_values.specs.Builder.{crate_of};
-ghost use Rattle.crate_graph.specs.Graph.{AddsCrate, IsWellMade, attribute, edges};
+ghost use Rattle.crate_graph_values.specs.Builder.{crate_of_parts};
+ghost use Rattle.crate_graph.specs.Graph.{AddsCrate, IsWellMadeGraph, attribute, edges};
 ghost use Rattle.crate_graph.specs.Order.{IsOrderOf, empty_order, with_next_node};
 ghost use Rattle.std.specs.Vec.{vec_capacity, vec_len};
 
@@ -105,7 +105,7 @@ impl CrateGraphBuilder {
     /// How many crates there are. Every graph is acyclic and within its limit, and its paths are clean.
     pub fn len(&self) -> usize
         ensures length { result ≡ length self.now.crates }
-        ensures well_made { IsWellMade self.now.crates self.now.limit }
+        ensures well_made { IsWellMadeGraph self.now.crates self.now.limit }
     {
         self.crates.len()
     }
@@ -162,7 +162,7 @@ impl CrateGraphBuilder {
         ws_data: Rc<CrateWorkspaceData>,
     ) -> Result<CrateBuilderId, GraphError>
         ensures next { IfOk result (λ id. number_of id ≡ length self.old.crates) }
-        ensures added { OnOk result (AddsCrate self.old self.new (crate_of (record {
+        ensures added { OnOk result (AddsCrate self.old self.new (crate_of_parts (record {
           root_file_id = root_file_id;
           edition = edition;
           dependencies = [];

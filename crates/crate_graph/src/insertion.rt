@@ -7,7 +7,7 @@ ghost use Rattle.graph_base.specs.Trail.{IsClearable, empty_trail};
 ghost use Rattle.graph_base.specs.Ranks.{AreRanks};
 ghost use Rattle.crate_graph.specs.Counting.{raised_by};
 ghost use Rattle.crate_graph.specs.Insertion.{CountsVisits, GivesRoom, most_visits};
-ghost use Rattle.crate_graph.specs.Order.{AreKept, Descends, ranking};
+ghost use Rattle.crate_graph.specs.Order.{AreKeptRanks, Descends, ranking};
 ghost use Rattle.crate_graph.specs.Walking.{IsPlaced};
 
 use crate::order::Order;
@@ -97,7 +97,7 @@ fn find_room<G: Graph, L: Ledger>(
     trail: &mut Trail,
     steps: &mut Steps<L>,
 ) -> Result<Result<Placement, Vec<u32>>, AllocError>
-    requires kept { AreKept table.now }
+    requires kept { AreKeptRanks table.now }
     requires count { length table.now ≡ length (G.rows graph.now) }
     requires in_range { IsInRange (G.rows graph.now) }
     requires descends { Descends table.now (G.rows graph.now) }

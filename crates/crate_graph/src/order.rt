@@ -1,7 +1,7 @@
 //! The order itself: a table keeps the nodes in the order of their ranks.
 
 ghost use Rattle.std.specs.Prelude.{◌≡◌, ◌+◌, ◌<◌, ◌^◌, length, slice_index, IfOk, OnErr, OnOk};
-ghost use Rattle.crate_graph.specs.Order.{AreKept, IsOrder, empty_order, ranking};
+ghost use Rattle.crate_graph.specs.Order.{AreKeptRanks, IsOrder, empty_order, ranking};
 ghost use Rattle.crate_graph.specs.Order.{with_next_node, with_next_nodes};
 
 use base_text_paths::TryClone;
@@ -24,7 +24,7 @@ impl Model for Order {
 
     ghost view = { λ a. seen.ranking (seen.ranks_in a.table) };
 
-    ghost invariant = { λ a. seen.AreKept (seen.ranks_in a.table) };
+    ghost invariant = { λ a. seen.AreKeptRanks (seen.ranks_in a.table) };
 }
 
 impl Order {
@@ -37,7 +37,7 @@ impl Order {
 
     // The order that a table keeps.
     pub(crate) fn of_table(alloc: Global, table: LabelTable) -> Order
-        requires { AreKept table }
+        requires { AreKeptRanks table }
         ensures { result ≡ ranking table }
     {
         Order {

@@ -14,7 +14,7 @@ use Rattle.crate_graph_values.specs.declared.crate_data.Dependency.{Dependency}
 use Rattle.crate_graph_values.specs.declared.origin.CrateOrigin.{CrateOrigin}
 use Rattle.crate_graph_values.specs.declared.target_kind.TargetKind.{TargetKind}
 use Rattle.base_values.specs.Equality.{IsContentEquality}
-use Rattle.crate_graph_values.specs.Laws.{HasCleanPath, IsContentEqualityOn}
+use Rattle.crate_graph_values.specs.Laws.{HasCleanMacroDirectory, IsContentEqualityOn}
 use Rattle.std.specs.Cmp.Lexicographic.{pointwise, pointwise_decides, bytes_decides}
 use Rattle.base_text_paths.specs.Paths.{IsClean, components, path_text}
 use Rattle.base_text_paths.specs.PathOrder.{path_eq}
@@ -93,8 +93,8 @@ module _ (data_eq : CrateData (Idx CrateTag) → CrateData (Idx CrateTag) → Bo
   abbrev builder_eq : CrateBuilder → CrateBuilder → Bool
   builder_eq x y = data_eq x.basic y.basic && (extra x.extra y.extra && (cfgs x.cfg_options y.cfg_options && (env x.env y.env && workspace x.ws_data y.ws_data)))
 
-  module _ (datas : IsContentEqualityOn HasCleanPath data_eq) (extras : IsContentEquality extra) (options : IsContentEquality cfgs) (environments : IsContentEquality env) (workspaces : IsContentEquality workspace) where
-    same_builders : (x y : CrateBuilder) → HasCleanPath x.basic → HasCleanPath y.basic → builder_eq x y ≡ true → x ≡ y
+  module _ (datas : IsContentEqualityOn HasCleanMacroDirectory data_eq) (extras : IsContentEquality extra) (options : IsContentEquality cfgs) (environments : IsContentEquality env) (workspaces : IsContentEquality workspace) where
+    same_builders : (x y : CrateBuilder) → HasCleanMacroDirectory x.basic → HasCleanMacroDirectory y.basic → builder_eq x y ≡ true → x ≡ y
     same_builders x y clean_x clean_y e =
         let past_data = and_second (data_eq x.basic y.basic) _ e in
         let past_extra = and_second (extra x.extra y.extra) _ past_data in
@@ -112,11 +112,11 @@ module _ (data_eq : CrateData (Idx CrateTag) → CrateData (Idx CrateTag) → Bo
           ws_data = same_workspace i;
         }
 
-    equal_builders : (x y : CrateBuilder) → HasCleanPath x.basic → HasCleanPath y.basic → x ≡ y → builder_eq x y ≡ true
+    equal_builders : (x y : CrateBuilder) → HasCleanMacroDirectory x.basic → HasCleanMacroDirectory y.basic → x ≡ y → builder_eq x y ≡ true
     equal_builders x y clean_x clean_y e =
         and_both _ _ ((datas x.basic y.basic clean_x clean_y).1 (ap (λ z. z.basic) e)) (and_both _ _ ((extras x.extra y.extra).1 (ap (λ z. z.extra) e))
         (and_both _ _ ((options x.cfg_options y.cfg_options).1 (ap (λ z. z.cfg_options) e))
         (and_both _ _ ((environments x.env y.env).1 (ap (λ z. z.env) e)) ((workspaces x.ws_data y.ws_data).1 (ap (λ z. z.ws_data) e)))))
 
-    pub builders_are_equal : (x y : CrateBuilder) → HasCleanPath x.basic → HasCleanPath y.basic → (builder_eq x y ≡ true) ↔ (x ≡ y)
+    pub builders_are_equal : (x y : CrateBuilder) → HasCleanMacroDirectory x.basic → HasCleanMacroDirectory y.basic → (builder_eq x y ≡ true) ↔ (x ≡ y)
     builders_are_equal x y clean_x clean_y = (same_builders x y clean_x clean_y, equal_builders x y clean_x clean_y)

@@ -7,5 +7,5 @@ abbrev pub prelude_of : {Id : Type 0} → Dependency Id → Bool
 prelude_of dep = dep.prelude
 
 -- whether the dependency comes with the language
-abbrev pub sysroot_of : {Id : Type 0} → Dependency Id → Bool
-sysroot_of dep = dep.sysroot
+abbrev pub is_of_sysroot : {Id : Type 0} → Dependency Id → Bool
+is_of_sysroot dep = dep.sysroot

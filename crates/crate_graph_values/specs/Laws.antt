@@ -9,8 +9,8 @@ abbrev pub IsContentEqualityOn : {A : Type 0} → (A → Type 0) → (A → A �
 IsContentEqualityOn {A} P eq = (x y : A) → P x → P y → (eq x y ≡ true) ↔ (x ≡ y)
 
 -- the directory in which the crate's procedural macros run is a clean path, as every `AbsPathBuf` is
-abbrev pub HasCleanPath : {Id : Type 0} → CrateData Id → Type 0
-HasCleanPath krate = IsClean krate.proc_macro_cwd
+abbrev pub HasCleanMacroDirectory : {Id : Type 0} → CrateData Id → Type 0
+HasCleanMacroDirectory krate = IsClean krate.proc_macro_cwd
 
 -- new names are equal exactly where the old ones are
 abbrev pub KeepsEquality : {A B : Type 0} → (A → A → Bool) → (B → B → Bool) → (A → B) → Type 0

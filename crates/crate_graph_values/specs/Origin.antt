@@ -14,11 +14,11 @@ is_local (Library repo name) = false
 is_local (Lang origin) = false
 
 -- a library that is no member
-abbrev pub is_lib : CrateOrigin → Bool
-is_lib (Rustc name) = false
-is_lib (Local repo name) = false
-is_lib (Library repo name) = true
-is_lib (Lang origin) = false
+abbrev pub is_library_origin : CrateOrigin → Bool
+is_library_origin (Rustc name) = false
+is_library_origin (Local repo name) = false
+is_library_origin (Library repo name) = true
+is_library_origin (Lang origin) = false
 
 -- a crate that comes with the language
 abbrev pub is_lang : CrateOrigin → Bool

@@ -1,7 +1,7 @@
 //! The data that identifies a crate, over any type of number by which it names others.
 
 ghost use Rattle.std.specs.Prelude.{◌≡◌, ◌↔◌, true, false, IfOk};
-ghost use Rattle.crate_graph_values.specs.CrateData.{prelude_of, sysroot_of};
+ghost use Rattle.crate_graph_values.specs.CrateData.{prelude_of, is_of_sysroot};
 
 use crate::names::CrateName;
 use crate::origin::CrateOrigin;
@@ -34,7 +34,7 @@ impl Dependency<CrateBuilderId> {
         ensures names { result.crate_id ≡ crate_id }
         ensures under { result.name ≡ name }
         ensures prelude { prelude_of result ≡ true }
-        ensures sysroot { sysroot_of result ≡ false }
+        ensures sysroot { is_of_sysroot result ≡ false }
     {
         Dependency {
             crate_id,
@@ -50,7 +50,7 @@ impl<Id> Dependency<Id> {
         ensures names { result.crate_id ≡ crate_id }
         ensures under { result.name ≡ name }
         ensures prelude { prelude_of result ≡ prelude }
-        ensures sysroot { sysroot_of result ≡ sysroot }
+        ensures sysroot { is_of_sysroot result ≡ sysroot }
     {
         Dependency {
             crate_id,
@@ -69,7 +69,7 @@ impl<Id> Dependency<Id> {
 
     /// Whether it comes with the language.
     pub fn is_sysroot(&self) -> bool
-        ensures { result ≡ sysroot_of self.now }
+        ensures { result ≡ is_of_sysroot self.now }
     {
         self.sysroot
     }

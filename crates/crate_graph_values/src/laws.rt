@@ -7,7 +7,7 @@ ghost use Rattle.std.specs.Ordering.{eq_by_cmp};
 ghost use Rattle.crate_graph_values.specs.declared.crate_data.CrateData.{CrateData};
 ghost use Rattle.crate_graph_values.specs.declared.crate_data.Dependency.{Dependency};
 ghost use Rattle.base_values.specs.Equality.{IsContentEquality};
-ghost use Rattle.crate_graph_values.specs.Laws.{HasCleanPath, IsContentEqualityOn, KeepsEquality};
+ghost use Rattle.crate_graph_values.specs.Laws.{HasCleanMacroDirectory, IsContentEqualityOn, KeepsEquality};
 ghost use Rattle.crate_graph_values.specs.Laws.{renamed_crate, renamed_dependency};
 
 use crate::builder::{CrateBuilder, ExtraCrateData};
@@ -58,7 +58,7 @@ pub fn equality_of_origins_is_content()
 /// path of each crate of a graph is clean.
 pub fn equality_of_crates_is_content<Id: PartialEq>()
     ensures { IsContentEquality Id.eq
-        → IsContentEqualityOn HasCleanPath ⟦<CrateData<Id> as PartialEq>⟧.eq }
+        → IsContentEqualityOn HasCleanMacroDirectory ⟦<CrateData<Id> as PartialEq>⟧.eq }
 {
     equality_of_dependencies_is_content::<Id>();
     base_text_paths::laws::equality_is_content();
@@ -101,7 +101,7 @@ pub fn equality_of_workspace_data_is_content()
 /// Two crates of builders are equal exactly where all that they hold is: their data, what is known of them
 /// beside that, their atoms, their environments and what they share with their workspaces.
 pub fn equality_of_crate_builders_is_content()
-    ensures { IsContentEqualityOn (λ krate. HasCleanPath krate.basic)
+    ensures { IsContentEqualityOn (λ krate. HasCleanMacroDirectory krate.basic)
         ⟦<CrateBuilder as PartialEq>⟧.eq }
 {
     equality_of_numbers_is_content();

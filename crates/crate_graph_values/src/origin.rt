@@ -1,7 +1,7 @@
 //! Where a crate comes from: the project, a library, the language or the compiler.
 
 ghost use Rattle.std.specs.Prelude.{◌≡◌, Some};
-ghost use Rattle.crate_graph_values.specs.Origin.{is_lang, is_lib, is_local, lang_origin_of, lang_text};
+ghost use Rattle.crate_graph_values.specs.Origin.{is_lang, is_library_origin, is_local, lang_origin_of, lang_text};
 
 use base_text_paths::{Symbol, Text, TryClone};
 use std::alloc::{AllocError, Global};
@@ -36,7 +36,7 @@ impl CrateOrigin {
     }
 
     pub fn is_lib(&self) -> bool
-        ensures { result ≡ is_lib self.now }
+        ensures { result ≡ is_library_origin self.now }
     {
         matches!(self, CrateOrigin::Library { .. })
     }

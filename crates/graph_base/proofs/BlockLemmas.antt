@@ -1,7 +1,7 @@
 -- One more node of a block goes where the block goes.
 use Rattle.std.proofs.Common.{◌≡◌, ℕ, zero, suc, ◌+◌, ◌-◌, ◌<◌, ◌≤◌, ◌≢◌, ◌⊎◌, inl, inr, List, length, refl, sym, ap, ◌∙◌, arith, subst}
 use Rattle.std.specs.Prelude.{slice_index}
-use Rattle.graph_base.specs.Blocks.{AreListed, FitAbove, FitBelow, IsAmong, IsOther, KeepEach, StandAbove, StandBelow}
+use Rattle.graph_base.specs.Blocks.{AreInRankOrder, FitAbove, FitBelow, IsAmong, IsOther, KeepEach, StandAbove, StandBelow}
 use Rattle.graph_base.specs.Ranks.{AreRanks, KeepsOthers, MovesAbove, MovesBelow}
 use Rattle.graph_base.proofs.RingLemmas.{decide_eq}
 
@@ -42,7 +42,7 @@ above_none mark nodes ranks = record {
   down = λ m n m_is n_is less. absurd (none_among nodes n n_is);
 }
 
-module _ (nodes old mid new : List ℕ) (count : ℕ) (listed : AreListed nodes old) (more : count < length nodes) (each : KeepEach nodes count old mid)
+module _ (nodes old mid new : List ℕ) (count : ℕ) (listed : AreInRankOrder nodes old) (more : count < length nodes) (each : KeepEach nodes count old mid)
     (keeps : KeepsOthers (slice_index nodes count) mid new) where
   abbrev x : ℕ
   x = slice_index nodes count

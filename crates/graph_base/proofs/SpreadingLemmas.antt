@@ -5,7 +5,7 @@ use Rattle.std.proofs.lemmas.List.{length-set}
 use Rattle.std.specs.Prelude.{nat_lt, slice_index, slice_set}
 use Rattle.std.proofs.lemmas.List.Sums.{count_by-le-length}
 use Rattle.graph_base.specs.Ring.{IsPosition, IsRing, IsRising, LeadBack, lower}
-use Rattle.graph_base.specs.Spreading.{AreApart, HasGaps, HasRun, IsFirstFrom, KeepsOrder, SpreadFits, follow}
+use Rattle.graph_base.specs.Spreading.{AreStepsApart, HasGaps, HasRun, IsFirstFrom, KeepsOrder, SpreadFits, follow}
 use Rattle.graph_base.specs.Ranks.{labels_below}
 use Rattle.graph_base.proofs.KeepingLemmas.{keeps_back, keeps_ring}
 use Rattle.graph_base.proofs.RankLemmas.{below_less}
@@ -222,7 +222,7 @@ run_position old next new first low step count k here rising fits is below =
 -- ---- all labels
 
 pub apart_of : (old next new : List ℕ) (first low step count here : ℕ) → IsSpread old next new first low step count here
-    → AreApart old new (follow next count first) count low step
+    → AreStepsApart old new (follow next count first) count low step
 apart_of old next new first low step count here is =
     let same : slice_index old here ≡ slice_index old (follow next count first) = ap (λ z. slice_index old z) is.here_is in
     record {
@@ -254,7 +254,7 @@ gaps_of_none labels next prev ring none p p_in =
 
 -- all labels are spread: each is a step above the one before it
 pub gaps_of_all : (old next prev new : List ℕ) (first count step : ℕ) → IsRing old next prev → KeepsOrder old new → HasRun old next first (2 ^ 63) count
-    → AreApart old new (follow next count first) count 0 step → 2 ≤ step → step * (count + 1) ≤ 2 ^ 63 → HasGaps prev new
+    → AreStepsApart old new (follow next count first) count 0 step → 2 ≤ step → step * (count + 1) ≤ 2 ^ 63 → HasGaps prev new
 gaps_of_all old next prev new first count step ring keeps run apart wide fits p p_in =
     let is_new = keeps_ring old next prev new ring keeps in
     let p_old : p < length old = omega (arith, p_in, keeps.long) in

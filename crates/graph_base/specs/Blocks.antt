@@ -3,20 +3,20 @@ use Rattle.std.specs.Prelude.{◌≡◌, ℕ, ◌<◌, ◌≤◌, List, length, 
 use Rattle.graph_base.specs.Ranks.{AreRanks}
 
 -- the nodes are there, in the order of their ranks
-pub record AreListed (nodes ranks : List ℕ) : Type 0 where
+pub record AreInRankOrder (nodes ranks : List ℕ) : Type 0 where
   pub ranked : AreRanks ranks
   pub within : (k : ℕ) → k < length nodes → slice_index nodes k < length ranks
   pub ascending : (j k : ℕ) → j < k → k < length nodes → slice_index ranks (slice_index nodes j) < slice_index ranks (slice_index nodes k)
 
 -- and lie above a node
 pub record FitBelow (mark : ℕ) (nodes ranks : List ℕ) : Type 0 where
-  pub listed : AreListed nodes ranks
+  pub listed : AreInRankOrder nodes ranks
   pub marked : mark < length ranks
   pub above : (k : ℕ) → k < length nodes → slice_index ranks mark < slice_index ranks (slice_index nodes k)
 
 -- or below it
 pub record FitAbove (mark : ℕ) (nodes ranks : List ℕ) : Type 0 where
-  pub listed : AreListed nodes ranks
+  pub listed : AreInRankOrder nodes ranks
   pub marked : mark < length ranks
   pub below : (k : ℕ) → k < length nodes → slice_index ranks (slice_index nodes k) < slice_index ranks mark
 

@@ -4,8 +4,8 @@ use Rattle.std.specs.declared.alloc.Global.{Global}
 use Rattle.graph_base.specs.Edges.{HasEdge, IsInRange}
 
 -- the rows of a graph that the code keeps as lists of targets
-abbrev pub rows_of : List (Vec ℕ Global) → List (List ℕ)
-rows_of rows = map (λ r. r.items) rows
+abbrev pub target_rows : List (Vec ℕ Global) → List (List ℕ)
+target_rows rows = map (λ r. r.items) rows
 
 -- rows are a graph: no more than can be counted, each edge to a node
 pub record IsGraph (rows : List (List ℕ)) : Type 0 where

@@ -37,7 +37,7 @@ pub record KeepsOrder (old new : List ℕ) : Type 0 where
   pub less : (p q : ℕ) → p < length old → q < length old → slice_index old p < slice_index old q → slice_index new p < slice_index new q
 
 -- labels from one up to that of a position are a step apart, the first of them from the one below
-pub record AreApart (old new : List ℕ) (last count low step : ℕ) : Type 0 where
+pub record AreStepsApart (old new : List ℕ) (last count low step : ℕ) : Type 0 where
   pub first : (p : ℕ) → p < length old → low ≤ slice_index old p → slice_index old p < slice_index old last → low + step ≤ slice_index new p
   pub most : (p : ℕ) → p < length old → low ≤ slice_index old p → slice_index old p < slice_index old last → slice_index new p ≤ low + step * count
   pub apart : (p q : ℕ) → p < length old → q < length old → low ≤ slice_index old p → slice_index old p < slice_index old q

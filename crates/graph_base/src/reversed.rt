@@ -18,13 +18,13 @@ pub struct Reversed {
 /// Contracts see the graph as its rows.
 impl Model for Reversed {
     ghost use Rattle.std.specs.Prelude.{ℕ, List};
-    ghost use Rattle.graph_base.specs.Reversed.{IsGraph, rows_of};
+    ghost use Rattle.graph_base.specs.Reversed.{IsGraph, target_rows};
 
     ghost Value = { List (List ℕ) };
 
-    ghost view = { λ a. rows_of a.rows.items };
+    ghost view = { λ a. target_rows a.rows.items };
 
-    ghost invariant = { λ a. IsGraph (rows_of a.rows.items) };
+    ghost invariant = { λ a. IsGraph (target_rows a.rows.items) };
 }
 
 impl Reversed {

@@ -2,7 +2,7 @@
 
 ghost use Rattle.std.specs.Prelude.{◌≡◌, ℕ, ◌+◌, ◌*◌, ◌<◌, ◌≤◌, ◌^◌, length, slice_index};
 ghost use Rattle.graph_base.specs.Ring.{IsPosition, IsRing, IsRising};
-ghost use Rattle.graph_base.specs.Spreading.{AreApart, HasRun, IsFirstFrom, KeepsOrder, SpreadFits, follow};
+ghost use Rattle.graph_base.specs.Spreading.{AreStepsApart, HasRun, IsFirstFrom, KeepsOrder, SpreadFits, follow};
 
 // The lowest position from a label on, reached down from another.
 pub(crate) fn first_from(labels: &[u64], next: &[u32], prev: &[u32], anchor: u32, low: u64) -> u32
@@ -43,7 +43,7 @@ pub(crate) fn spread(labels: &mut [u64], next: &[u32], first: u32, count: u64, l
     requires fits { SpreadFits labels.old next.now first count low step }
     ensures keeps { KeepsOrder labels.old labels.new }
     ensures apart { let last = follow next.now count first in
-        AreApart labels.old labels.new last count low step }
+        AreStepsApart labels.old labels.new last count low step }
 {
     let mut here = first;
     for k in 0..count {

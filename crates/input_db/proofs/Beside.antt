@@ -5,7 +5,7 @@ use Rattle.std.specs.declared.cmp.Ordering.{Ordering}
 use Rattle.crate_graph.specs.Graph.{Graph}
 use Rattle.input_db.specs.Change.{IsChanged, SetsCrates, text_after}
 use Rattle.input_db.specs.Database.{Database}
-use Rattle.input_db_files.specs.Files.{FileTables, file_root_of, root_of, text_of}
+use Rattle.input_db_files.specs.Files.{FileTables, file_root_of, source_root_at, text_of_file}
 use Rattle.crate_graph.specs.Extend.{Id}
 use Rattle.input_db.specs.SetInDb.{KeepsFiles}
 use Rattle.input_db.specs.declared.change.FileChange.{FileChange}
@@ -32,8 +32,8 @@ IsChanged_set change cmp graph old there new ids changed set =
       local = kept.local ∙ changed.local;
       library = kept.library ∙ changed.library;
       nonce = kept.nonce ∙ changed.nonce;
-      roots = λ number. ap (λ (f : FileTables). root_of f number) kept.files ∙ changed.roots number;
+      roots = λ number. ap (λ (f : FileTables). source_root_at f number) kept.files ∙ changed.roots number;
       places = λ file. ap (λ (f : FileTables). file_root_of f file) kept.files ∙ changed.places file;
-      texts = λ file. subst (λ (f : FileTables). text_of f file ≡ text_after change.files_changed old.files f file) (sym kept.files)
+      texts = λ file. subst (λ (f : FileTables). text_of_file f file ≡ text_after change.files_changed old.files f file) (sym kept.files)
           (changed.texts file);
     }

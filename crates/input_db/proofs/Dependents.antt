@@ -9,18 +9,18 @@ use Rattle.graph_base.proofs.KeptLemmas.{edge_within}
 use Rattle.graph_base.proofs.MarkLemmas.{mark_cases, mark_kept, unmarked_all}
 use Rattle.graph_base.proofs.ReachLemmas.{none_in}
 use Rattle.input_db.specs.Identity.{Table, crate_edges, named_in}
-use Rattle.input_db.specs.Queries.{AreListed, is_marked, others}
+use Rattle.input_db.specs.Queries.{AreMarksOf, is_marked, others}
 use Rattle.input_db.proofs.Filtered.{filtered_of}
 use Rattle.input_db.proofs.ItselfFirst.{contains_same}
 use Rattle.crate_graph.proofs.SuborderLemmas.{contains_filter as among_filtered}
 
 -- no mark is set for an empty list
-pub listed_none : (count : ℕ) → AreListed (replicate count false) []
+pub listed_none : (count : ℕ) → AreMarksOf (replicate count false) []
 listed_none count krate = (λ is. absurd (true≢false (sym is ∙ unmarked_all count krate)), λ c. absurd (none_in krate c))
 
 -- the mark of one crate more
 pub listed_more : (marks : List Bool) (listed : List ℕ) (place krate : ℕ) → place < length listed → krate ≡ get_or listed place krate
-    → krate < length marks → AreListed marks (take place listed) → AreListed (set marks krate true) (take (place + 1) listed)
+    → krate < length marks → AreMarksOf marks (take place listed) → AreMarksOf (set marks krate true) (take (place + 1) listed)
 listed_more marks listed place krate within is below before b =
     subst (λ l. (is_marked (set marks krate true) b ≡ true) ↔ Contains l b) (sym (take_more listed place krate within))
     (subst (λ n. (is_marked (set marks krate true) b ≡ true) ↔ Contains (take place listed ++ n ∷ []) b) is (from, to))
@@ -59,7 +59,7 @@ marks_fit g back start reaching nodes marks is found leads_back within long = λ
 -- the crate and the nodes that are on the list and reach it are the crate and those on the list that reach it
 pub dependents_same : (g back : List (List ℕ)) (krate : ℕ) (listed : List ℕ) (marks : List Bool) (reaching crates : List ℕ)
     → ((b : ℕ) → Contains reaching b ↔ Reaches back krate b) → ((a b : ℕ) → Reaches back b a ↔ Reaches g a b)
-    → AreListed marks listed → crates ≡ krate ∷ others krate (filter (is_marked marks) reaching)
+    → AreMarksOf marks listed → crates ≡ krate ∷ others krate (filter (is_marked marks) reaching)
     → (b : ℕ) → Contains crates b ↔ ((b ≡ krate) ⊎ (Contains listed b × Reaches g b krate))
 dependents_same g back krate listed marks reaching crates found leads_back are_listed is =
     contains_same krate (filter (is_marked marks) reaching) crates is

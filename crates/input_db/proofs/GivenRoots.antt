@@ -9,7 +9,7 @@ use Rattle.input_db.proofs.Numbers.{at_start, shift}
 use Rattle.input_db.specs.Applied.{with_given_root, with_members, with_roots_from}
 use Rattle.input_db.specs.Change.{place_after, place_given, root_after, root_given}
 use Rattle.input_db.specs.Database.{Database, with_files}
-use Rattle.input_db_files.specs.Files.{FileTables, file_root_of, root_of, stored_place, with_file_root}
+use Rattle.input_db_files.specs.Files.{FileTables, file_root_of, source_root_at, stored_place, with_file_root}
 use Rattle.input_db_files.specs.SourceRoot.{files_in, has_file, root_durability}
 use Rattle.input_db_files.specs.declared.durability.Durability.{Durability}
 use Rattle.input_db_files.specs.declared.source_root.SourceRoot.{SourceRoot}
@@ -71,7 +71,7 @@ given_root-texts : (files : FileTables) (n : ℕ) (root : SourceRoot)
 given_root-texts files n root = members-texts files (files_in root) n (root_durability root)
 
 given_root-roots : (files : FileTables) (n : ℕ) (root : SourceRoot) (q : ℕ)
-    → root_of (with_given_root files n root) q ≡ cond (q == n) (Some (root_given root)) (root_of files q)
+    → source_root_at (with_given_root files n root) q ≡ cond (q == n) (Some (root_given root)) (source_root_at files q)
 given_root-roots files n root q =
     get_set (with_members files (files_in root) n (root_durability root)).roots n (root_given root) q
     ∙ ap (λ m. cond (q == n) (Some (root_given root)) (map.get m q))
@@ -97,7 +97,7 @@ apart n q h e = omega arith
 
 -- no root below the first number changes
 roots_from-before : (n : ℕ) (files : FileTables) (roots : List SourceRoot) (q : ℕ) → q < n
-    → root_of (with_roots_from n files roots) q ≡ root_of files q
+    → source_root_at (with_roots_from n files roots) q ≡ source_root_at files q
 roots_from-before n files [] q h = refl
 roots_from-before n files (root ∷ roots) q h =
     roots_from-before (suc n) (with_given_root files n root) roots q (below_next n q h)
@@ -114,18 +114,18 @@ past n k e = omega arith
 
 -- a root from the first number on is the one that is given, or the one that was there
 roots_from-at : (n : ℕ) (files : FileTables) (roots : List SourceRoot) (k : ℕ)
-    → root_of (with_roots_from n files roots) (n + k)
-    ≡ option_or (option_map root_given (slice_get roots k)) (root_of files (n + k))
+    → source_root_at (with_roots_from n files roots) (n + k)
+    ≡ option_or (option_map root_given (slice_get roots k)) (source_root_at files (n + k))
 roots_from-at n files [] k = refl
 roots_from-at n files (root ∷ roots) zero =
     roots_from-before (suc n) (with_given_root files n root) roots (n + 0) (self_below n)
     ∙ given_root-roots files n root (n + 0) ∙ cond-true _ _ _ (eq-eqb (n + 0) n (self_is n))
 roots_from-at n files (root ∷ roots) (suc k) =
-    ap (λ (q : ℕ). root_of (with_roots_from (suc n) (with_given_root files n root) roots) q) (sym (shift n k))
+    ap (λ (q : ℕ). source_root_at (with_roots_from (suc n) (with_given_root files n root) roots) q) (sym (shift n k))
     ∙ roots_from-at (suc n) (with_given_root files n root) roots k
     ∙ ap
     (λ (q : ℕ). option_or (option_map root_given (slice_get roots k))
-    (root_of (with_given_root files n root) q))
+    (source_root_at (with_given_root files n root) q))
     (shift n k)
     ∙ ap (λ o. option_or (option_map root_given (slice_get roots k)) o)
     (given_root-roots files n root (n + suc k) ∙ cond-false _ _ _ (ne_eqb (n + suc k) n (past n k)))
@@ -134,11 +134,11 @@ from_zero : (q : ℕ) → 0 + q ≡ q
 from_zero q = omega arith
 
 pub roots_given : (files : FileTables) (roots : List SourceRoot) (q : ℕ)
-    → root_of (with_roots_from 0 files roots) q ≡ root_after roots files q
+    → source_root_at (with_roots_from 0 files roots) q ≡ root_after roots files q
 roots_given files roots q =
-    ap (λ (k : ℕ). root_of (with_roots_from 0 files roots) k) (sym (from_zero q))
+    ap (λ (k : ℕ). source_root_at (with_roots_from 0 files roots) k) (sym (from_zero q))
     ∙ roots_from-at 0 files roots q
-    ∙ ap (λ (k : ℕ). option_or (option_map root_given (slice_get roots q)) (root_of files k)) (from_zero q)
+    ∙ ap (λ (k : ℕ). option_or (option_map root_given (slice_get roots q)) (source_root_at files k)) (from_zero q)
 
 -- what a later root gives counts, else what this one gives, else what was there
 or_given : {X : Type 0} (later : Option X) (is_here : Bool) (here : X) (old : Option X)

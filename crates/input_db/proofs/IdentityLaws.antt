@@ -20,7 +20,7 @@ use Rattle.input_db.specs.Database.{Database}
 use Rattle.input_db.specs.Identity.{Table, crate_in, unique_eq, uniques_in}
 use Rattle.input_db.specs.Identity.{full_identity, data_of, identity_of, input_of, number_in, root_identity}
 use Rattle.input_db.specs.FinishSteps.{Progress, progress_after}
-use Rattle.input_db.specs.SetInDb.{AreAlike, HaveIdentities, ShareWhereAlike, crate_at, number_at, identity_at, is_first_at, is_of_root}
+use Rattle.input_db.specs.SetInDb.{AreAlike, HaveIdentities, ShareWhereAlike, finished_crate, finished_number, identity_at, is_first_at, is_of_root}
 use Rattle.input_db.proofs.ContentLaws.{full_identities}
 use Rattle.input_db.proofs.Equality.{unique_itself, unique_through, unique_turned}
 use Rattle.input_db.proofs.PlaceLemmas.{place_kept, place_put}
@@ -49,7 +49,7 @@ identities crates old order behind run stable k krate at =
     let numbers = final_numbers crates old order in
     let u = identity_at crates order numbers k krate in
     let v = input_of (number_in numbers) krate in
-    let n = number_at numbers order k in
+    let n = finished_number numbers order k in
     let within = place_within crates order k krate at in
     let start : crate_in (table_before crates old order (suc k)) u ≡ Some n =
     ap (λ (t : Table). crate_in t u) (table_put crates order behind old run k krate at)
@@ -65,8 +65,8 @@ identities crates old order behind run stable k krate at =
     (climbs (λ m. crate_in (table_before crates old order m) u ≡ Some n) (suc k) (length order) (omega arith) start kept)
 
 -- a crate behind another of its root file is not the first of that
-later_not_first : (crates : List CrateBuilder) (order : List ℕ) (i j : ℕ) (x y : CrateBuilder) → crate_at crates order i ≡ Some x
-    → crate_at crates order j ≡ Some y → x.basic.root_file_id ≡ y.basic.root_file_id → i < j
+later_not_first : (crates : List CrateBuilder) (order : List ℕ) (i j : ℕ) (x y : CrateBuilder) → finished_crate crates order i ≡ Some x
+    → finished_crate crates order j ≡ Some y → x.basic.root_file_id ≡ y.basic.root_file_id → i < j
     → is_first_at crates order j y ≡ true → ⊥
 later_not_first crates order i j x y at_i at_j roots below first =
     let file = y.basic.root_file_id in
@@ -83,7 +83,7 @@ later_not_first crates order i j x y at_i at_j roots below first =
 
 -- the crates of a graph run procedural macros in clean paths
 abbrev pub HaveCleanPaths : List CrateBuilder → List ℕ → Type 0
-HaveCleanPaths crates order = (k : ℕ) (krate : CrateBuilder) → crate_at crates order k ≡ Some krate
+HaveCleanPaths crates order = (k : ℕ) (krate : CrateBuilder) → finished_crate crates order k ≡ Some krate
     → IsClean krate.basic.proc_macro_cwd
 
 -- so they do where all crates of the graph do
@@ -116,7 +116,7 @@ AreLaterAlike crates order numbers i x j y =
 
 -- crates of equal identities are one, or are alike
 equal_alike : (crates : List CrateBuilder) (order numbers : List ℕ) (i j : ℕ) (x y : CrateBuilder)
-    → HaveCleanPaths crates order → crate_at crates order i ≡ Some x → crate_at crates order j ≡ Some y
+    → HaveCleanPaths crates order → finished_crate crates order i ≡ Some x → finished_crate crates order j ≡ Some y
     → unique_eq (identity_at crates order numbers i x) (identity_at crates order numbers j y) ≡ true
     → (i ≡ j) ⊎ AreLaterAlike crates order numbers i x j y
 equal_alike crates order numbers i j x y clean at_i at_j equal =
@@ -152,8 +152,8 @@ shared crates old order behind run stable clean i j x y at_i at_j =
     let keys = uniques_in (progress_after crates old order).db.crates in
     let u = identity_at crates order numbers i x in
     let w = identity_at crates order numbers j y in
-    let m = number_at numbers order i in
-    let n = number_at numbers order j in
+    let m = finished_number numbers order i in
+    let n = finished_number numbers order j in
     let first : position (unique_eq u) keys ≡ Some m = identities crates old order behind run stable i x at_i in
     let second : position (unique_eq w) keys ≡ Some n = identities crates old order behind run stable j y at_j in
     let to : m ≡ n → (i ≡ j) ⊎ AreLaterAlike crates order numbers i x j y = λ one.
@@ -168,5 +168,5 @@ shared crates old order behind run stable clean i j x y at_i at_j =
     ∙ sym (ap (λ b. identity_of b (number_in numbers) y) are.1) in
     same_Some m n (sym first ∙ ap (λ v. position (unique_eq v) keys) one ∙ second) in
     let from : (i ≡ j) ⊎ AreLaterAlike crates order numbers i x j y → m ≡ n = λ either.
-    elim either [ inl one ↦ ap (number_at numbers order) one | inr are ↦ same are ] in
+    elim either [ inl one ↦ ap (finished_number numbers order) one | inr are ↦ same are ] in
     (to, from)

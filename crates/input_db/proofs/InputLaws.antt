@@ -9,7 +9,7 @@ use Rattle.input_db.specs.Database.{Database}
 use Rattle.input_db.specs.Identity.{Table, input_in, unique_eq, uniques_in, with_entry}
 use Rattle.input_db.specs.Identity.{input_of, number_in}
 use Rattle.input_db.specs.FinishSteps.{Progress, progress_after}
-use Rattle.input_db.specs.SetInDb.{HoldLastInputs, KeepsOthers, number_at, identity_at}
+use Rattle.input_db.specs.SetInDb.{HoldLastInputs, KeepsOtherEntries, finished_number, identity_at}
 use Rattle.input_db.proofs.PlaceLemmas.{key_kept, put_last, put_longer, value_kept, value_put}
 use Rattle.input_db.proofs.Run.{IsRun, IsStable, final_numbers}
 use Rattle.input_db.proofs.RunSteps.{at_end, climbs, crate_some, given_is, place_within, table_before, table_put}
@@ -17,7 +17,7 @@ use Rattle.input_db.proofs.RunSteps.{at_end, climbs, crate_some, given_is, place
 -- a crate keeps the inputs of all numbers but its own
 input_kept : (crates : List CrateBuilder) (old : Database) (order : List ℕ) → IsBehindTargets (edges crates) order
     → IsRun crates old order → IsStable crates old order → (n m : ℕ) → m < length order
-    → (number_at (final_numbers crates old order) order m ≡ n → ⊥)
+    → (finished_number (final_numbers crates old order) order m ≡ n → ⊥)
     → input_in (table_before crates old order (suc m)) n ≡ input_in (table_before crates old order m) n
 input_kept crates old order behind run stable n m below other =
     let numbers = final_numbers crates old order in
@@ -34,7 +34,7 @@ inputs crates old order behind run stable k krate at last =
     let numbers = final_numbers crates old order in
     let u = identity_at crates order numbers k krate in
     let v = input_of (number_in numbers) krate in
-    let n = number_at numbers order k in
+    let n = finished_number numbers order k in
     let within = place_within crates order k krate at in
     let start : input_in (table_before crates old order (suc k)) n ≡ Some v =
     ap (λ (t : Table). input_in t n) (table_put crates order behind old run k krate at)
@@ -73,7 +73,7 @@ module _ (crates : List CrateBuilder) (old : Database) (order : List ℕ) (behin
 
   module _ (stable : IsStable crates old order) where
     -- no input of before is another, but of the numbers that are given
-    inputs_then : (n : ℕ) → ((k : ℕ) → k < length order → number_at (final_numbers crates old order) order k ≡ n → ⊥)
+    inputs_then : (n : ℕ) → ((k : ℕ) → k < length order → finished_number (final_numbers crates old order) order k ≡ n → ⊥)
         → (k : ℕ) → k ≤ length order → input_in (table_before crates old order k) n ≡ input_in old.crates n
     inputs_then n other zero within = refl
     inputs_then n other (suc k) within =
@@ -82,7 +82,7 @@ module _ (crates : List CrateBuilder) (old : Database) (order : List ℕ) (behin
 
     -- what is new is given
     fresh_then : (n k : ℕ) → k ≤ length order → length old.crates ≤ n → n < length (table_before crates old order k)
-        → (m : ℕ) × (m < length order) × (number_at (final_numbers crates old order) order m ≡ n)
+        → (m : ℕ) × (m < length order) × (finished_number (final_numbers crates old order) order m ≡ n)
     fresh_then n zero within past below = absurd (omega arith)
     fresh_then n (suc k) within past below = elim (cases_lt n (length (table_before crates old order k))) [
       | inl before ↦ fresh_then n k (omega arith) past before
@@ -99,11 +99,11 @@ module _ (crates : List CrateBuilder) (old : Database) (order : List ℕ) (behin
 -- the table keeps what it had, and what is new in it is given
 pub kept : (crates : List CrateBuilder) (old : Database) (order : List ℕ) → IsBehindTargets (edges crates) order
     → IsRun crates old order → IsStable crates old order
-    → KeepsOthers order (final_numbers crates old order) old.crates (progress_after crates old order).db.crates
+    → KeepsOtherEntries order (final_numbers crates old order) old.crates (progress_after crates old order).db.crates
 kept crates old order behind run stable =
     let top = length order in
     let whole : top ≤ length order = omega arith in
-    subst (λ (l : Progress). KeepsOthers order (final_numbers crates old order) old.crates l.db.crates) (at_end crates old order) (record {
+    subst (λ (l : Progress). KeepsOtherEntries order (final_numbers crates old order) old.crates l.db.crates) (at_end crates old order) (record {
       identities = λ n low. identities_then crates old order behind run n top low whole;
       inputs = λ n low other. inputs_then crates old order behind run stable n other top whole;
       longer = longer_then crates old order behind run top whole;

@@ -24,7 +24,7 @@ use Rattle.input_db.specs.FinishSteps.{Progress, finish, finish_crate, is_first_
 use Rattle.input_db.specs.Identity.{number_in}
 use Rattle.input_db.specs.SetInDb.{with_member}
 use Rattle.input_db.specs.FinishSteps.{initial_progress}
-use Rattle.input_db.specs.SetInDb.{crate_at, first_places}
+use Rattle.input_db.specs.SetInDb.{finished_crate, first_places}
 use Rattle.input_db.specs.declared.crate_input.CrateInput.{CrateInput}
 use Rattle.input_db.specs.declared.crate_input.UniqueCrateData.{UniqueCrateData}
 use Rattle.input_db.proofs.PlaceLemmas.{put_longer, put_within}
@@ -152,7 +152,7 @@ module _ (crates : List CrateBuilder) (old : Database) (order : List ℕ) (behin
       omega (arith, (behind.all n).0 (k, within, get_or_default order k n 0 within), length-edges crates)
 
   -- what a crate depends on has numbers of the table before it is finished
-  pub known : (k : ℕ) (krate : CrateBuilder) → crate_at crates order k ≡ Some krate
+  pub known : (k : ℕ) (krate : CrateBuilder) → finished_crate crates order k ≡ Some krate
       → All (λ named. named < length (before crates old order k).db.crates)
       (named_in (data_of (number_in (before crates old order k).finished.numbers) krate))
   known k krate is =

@@ -15,7 +15,7 @@ use Rattle.crate_graph_values.specs.declared.builder.CrateBuilder.{CrateBuilder}
 use Rattle.crate_graph_values.specs.declared.crate_data.CrateData.{CrateData}
 use Rattle.crate_graph_values.specs.declared.crate_data.Dependency.{Dependency}
 use Rattle.crate_graph_values.specs.Builder.{workspace_of}
-use Rattle.crate_graph.specs.Graph.{edges, row_of, target_of}
+use Rattle.crate_graph.specs.Graph.{edges, dependency_row, target_of}
 use Rattle.crate_graph_values.specs.Laws.{renamed_dependency}
 use Rattle.crate_graph.proofs.ExtendLemmas.{crate_edge}
 use Rattle.input_db.specs.Database.{Database}
@@ -23,7 +23,7 @@ use Rattle.crate_graph.specs.Extend.{Id}
 use Rattle.input_db.specs.Identity.{full_identity, data_of, number_in, root_identity}
 use Rattle.input_db.specs.FinishSteps.{Progress, finish, finish_crate, is_first_of_root, progress_after}
 use Rattle.input_db.specs.FinishSteps.{initial_progress, with_put_crate}
-use Rattle.input_db.specs.SetInDb.{crate_at}
+use Rattle.input_db.specs.SetInDb.{finished_crate}
 use Rattle.input_db_files.specs.declared.durability.Durability.TheVariants.{Medium}
 use Rattle.input_db.proofs.Run.{IsRun, IsStable, before, final_numbers}
 
@@ -126,7 +126,7 @@ data_with krate deps = record {
 }
 
 -- a crate is renamed alike where the numbers of those that it depends on are
-pub same_data : (new other : Id → ℕ) (krate : CrateBuilder) → ((id : Id) → Contains (row_of krate) id.raw → new id ≡ other id)
+pub same_data : (new other : Id → ℕ) (krate : CrateBuilder) → ((id : Id) → Contains (dependency_row krate) id.raw → new id ≡ other id)
     → data_of new krate ≡ data_of other krate
 same_data new other krate agree = ap (data_with krate) (same_dependencies new other krate.basic.dependencies agree)
 
@@ -146,7 +146,7 @@ finished_with l n krate data_there =
     })
 
 -- where the crate of a place is
-pub crate_place : (crates : List CrateBuilder) (order : List ℕ) (k : ℕ) (krate : CrateBuilder) → crate_at crates order k ≡ Some krate
+pub crate_place : (crates : List CrateBuilder) (order : List ℕ) (k : ℕ) (krate : CrateBuilder) → finished_crate crates order k ≡ Some krate
     → (k < length order) × (slice_get crates (get_or order k 0) ≡ Some krate)
 crate_place crates order k krate is = elim (cases_lt k (length order)) [
   | inl within ↦
@@ -163,7 +163,7 @@ crate_place crates order k krate is = elim (cases_lt k (length order)) [
 module _ (crates : List CrateBuilder) (old : Database) (order : List ℕ) (behind : IsBehindTargets (edges crates) order) where
   -- what a crate depends on has its number before it
   same_before : (k : ℕ) (krate : CrateBuilder) → k < length order → slice_get crates (get_or order k 0) ≡ Some krate
-      → (id : Id) → Contains (row_of krate) id.raw
+      → (id : Id) → Contains (dependency_row krate) id.raw
       → number_in (before crates old order k).finished.numbers id ≡ number_in (final_numbers crates old order) id
   same_before k krate within at id c =
       let target = behind.behind k id.raw within (crate_edge crates (get_or order k 0) id.raw krate at c) in

@@ -19,7 +19,7 @@ use Rattle.input_db.specs.Identity.{Table, crate_for, with_entry}
 use Rattle.input_db.specs.Identity.{identity_of, input_of, number_in}
 use Rattle.input_db.specs.SetInDb.{with_member}
 use Rattle.input_db.specs.FinishSteps.{Progress, is_first_of_root, progress_after}
-use Rattle.input_db.specs.SetInDb.{crate_at, number_at, identity_at, is_first_at, is_of_root}
+use Rattle.input_db.specs.SetInDb.{finished_crate, finished_number, identity_at, is_first_at, is_of_root}
 use Rattle.input_db.proofs.Run.{IsRun, IsStable, before, final_numbers}
 
 -- what each step keeps holds in the end
@@ -67,7 +67,7 @@ at_end crates old order = ap (progress_after crates old) (take_all (length order
 
 -- a crate stands within the order
 pub place_within : (crates : List CrateBuilder) (order : List ℕ) (k : ℕ) (krate : CrateBuilder)
-    → crate_at crates order k ≡ Some krate → k < length order
+    → finished_crate crates order k ≡ Some krate → k < length order
 place_within crates order k krate at = by (slice_get order k) refl at
   where
     by : (o : Option ℕ) → slice_get order k ≡ o → option_and_then (slice_get crates) o ≡ Some krate → k < length order
@@ -76,7 +76,7 @@ place_within crates order k krate at = by (slice_get order k) refl at
 
 -- it is the one of its number
 pub crate_there : (crates : List CrateBuilder) (order : List ℕ) (k : ℕ) (krate : CrateBuilder)
-    → crate_at crates order k ≡ Some krate → slice_get crates (slice_index_or order k 0) ≡ Some krate
+    → finished_crate crates order k ≡ Some krate → slice_get crates (slice_index_or order k 0) ≡ Some krate
 crate_there crates order k krate at =
     sym (ap (option_and_then (slice_get crates)) (slice_get-get_or order k 0 (place_within crates order k krate at))) ∙ at
 
@@ -89,7 +89,7 @@ module _ (crates : List CrateBuilder) (order : List ℕ) (behind : IsBehindTarge
       omega (arith, is_in, length-edges crates)
 
   -- there is a crate at each place
-  pub crate_some : (k : ℕ) → k < length order → (krate : CrateBuilder) × (crate_at crates order k ≡ Some krate)
+  pub crate_some : (k : ℕ) → k < length order → (krate : CrateBuilder) × (finished_crate crates order k ≡ Some krate)
   crate_some k within =
       let there = slice_get_some crates (slice_index_or order k 0) (number_within k within) in
       (there.0, ap (option_and_then (slice_get crates)) (slice_get-get_or order k 0 within) ∙ there.1)
@@ -115,14 +115,14 @@ module _ (crates : List CrateBuilder) (order : List ℕ) (behind : IsBehindTarge
         ∙ sym (ap (λ n. list_any (is_of_root crates file) (take n order)) (next k))
 
     -- a crate's root file is new where no crate before it is of that
-    pub first_is : (k : ℕ) (krate : CrateBuilder) → crate_at crates order k ≡ Some krate
+    pub first_is : (k : ℕ) (krate : CrateBuilder) → finished_crate crates order k ≡ Some krate
         → is_first_of_root (before crates old order k).finished.roots krate.basic.root_file_id ≡ is_first_at crates order k krate
     first_is k krate at =
         let within = place_within crates order k krate at in
         ap not (roots_are krate.basic.root_file_id k (omega arith))
 
     -- the table after a crate
-    pub table_put : (k : ℕ) (krate : CrateBuilder) → crate_at crates order k ≡ Some krate
+    pub table_put : (k : ℕ) (krate : CrateBuilder) → finished_crate crates order k ≡ Some krate
         → table_before crates old order (suc k)
         ≡ with_entry (table_before crates old order k) (identity_at crates order (final_numbers crates old order) k krate)
         (input_of (number_in (final_numbers crates old order)) krate)
@@ -144,8 +144,8 @@ module _ (crates : List CrateBuilder) (order : List ℕ) (behind : IsBehindTarge
         ∙ news_long k (omega arith)
 
     -- the number of a crate in the end is that of its identity when it is finished
-    pub given_is : IsStable crates old order → (k : ℕ) (krate : CrateBuilder) → crate_at crates order k ≡ Some krate
-        → number_at (final_numbers crates old order) order k
+    pub given_is : IsStable crates old order → (k : ℕ) (krate : CrateBuilder) → finished_crate crates order k ≡ Some krate
+        → finished_number (final_numbers crates old order) order k
         ≡ crate_for (table_before crates old order k) (identity_at crates order (final_numbers crates old order) k krate)
     given_is stable k krate at =
         let within = place_within crates order k krate at in

@@ -15,7 +15,7 @@ use Rattle.indexmap.specs.IndexMap.{insert_entry}
 use Rattle.graph_base.proofs.FinishLemmas.{visits_unique}
 use Rattle.graph_base.specs.Finish.{IsBehindTargets}
 use Rattle.crate_graph_values.specs.Builder.{workspace_of}
-use Rattle.crate_graph.specs.Graph.{edges, row_of}
+use Rattle.crate_graph.specs.Graph.{edges, dependency_row}
 use Rattle.crate_graph_values.specs.declared.builder.CrateBuilder.{CrateBuilder}
 use Rattle.crate_graph_values.specs.declared.crate_data.CrateData.{CrateData}
 use Rattle.input_db.specs.Database.{Database, with_crate_input, with_crate_list, writes_after}
@@ -23,8 +23,8 @@ use Rattle.input_db.specs.FinishSteps.{IsSetInSteps, Progress, progress_after, w
 use Rattle.crate_graph.specs.Extend.{Id}
 use Rattle.input_db.specs.Identity.{Table, crate_for, crate_in, data_of, full_identity, identity_of, input_in, input_of}
 use Rattle.input_db.specs.Identity.{input_under, number_in, root_identity, unique_eq, with_entry}
-use Rattle.input_db.specs.SetInDb.{HaveIdentities, HaveOwnNumbers, crate_at, first_places, identity_at, is_first_at, listed_crates}
-use Rattle.input_db.specs.SetInDb.{number_at}
+use Rattle.input_db.specs.SetInDb.{HaveIdentities, HaveOwnNumbers, finished_crate, first_places, identity_at, is_first_at, listed_crates}
+use Rattle.input_db.specs.SetInDb.{finished_number}
 use Rattle.input_db.specs.declared.crate_input.CrateInput.{CrateInput}
 use Rattle.input_db.specs.declared.crate_input.UniqueCrateData.{UniqueCrateData}
 use Rattle.input_db_files.specs.declared.durability.Durability.TheVariants.{Medium}
@@ -116,12 +116,12 @@ map_agree f g (x ∷ xs) agree =
 
 module _ (crates : List CrateBuilder) (mid : Database) (order : List ℕ) (behind : IsBehindTargets (edges crates) order)
     (numbers : List ℕ) (identities : HaveIdentities crates order numbers mid.crates)
-    (inputs : (k : ℕ) (krate : CrateBuilder) → crate_at crates order k ≡ Some krate
-    → input_in mid.crates (number_at numbers order k) ≡ Some (input_of (number_in numbers) krate)) where
+    (inputs : (k : ℕ) (krate : CrateBuilder) → finished_crate crates order k ≡ Some krate
+    → input_in mid.crates (finished_number numbers order k) ≡ Some (input_of (number_in numbers) krate)) where
   -- the database is as it was, and the crates before a place have the numbers that they had
   abbrev pub IsAsBefore : ℕ → Type 0
   IsAsBefore k = ((before crates mid order k).db ≡ mid)
-      × ((j : ℕ) → j < k → number_at (final_numbers crates mid order) order j ≡ number_at numbers order j)
+      × ((j : ℕ) → j < k → finished_number (final_numbers crates mid order) order j ≡ finished_number numbers order j)
 
   pub as_before : (k : ℕ) → k ≤ length order → IsAsBefore k
   as_before zero within = (refl, λ j below. absurd (omega arith))
@@ -132,7 +132,7 @@ module _ (crates : List CrateBuilder) (mid : Database) (order : List ℕ) (behin
       let past = as_before k (omega arith) in
       let c = crate_some crates order behind k here in
       let there = crate_there crates order k c.0 c.1 in
-      let agree : (id : Id) → Contains (row_of c.0) id.raw → number_in finals id ≡ number_in numbers id = λ id d.
+      let agree : (id : Id) → Contains (dependency_row c.0) id.raw → number_in finals id ≡ number_in numbers id = λ id d.
       let target = behind.behind k id.raw here (crate_edge crates (get_or order k 0) id.raw c.0 there d) in
       ap (λ n. get_or finals n 0) (sym target.2) ∙ past.1 target.0 target.1 ∙ ap (λ n. get_or numbers n 0) target.2 in
       let same : data_of (number_in finals) c.0 ≡ data_of (number_in numbers) c.0 =
@@ -142,7 +142,7 @@ module _ (crates : List CrateBuilder) (mid : Database) (order : List ℕ) (behin
       ap (λ (held : CrateData ℕ). if first then root_identity c.0.basic.root_file_id
       else full_identity c.0.basic.root_file_id held c.0.cfg_options) same in
       let input : input_of (number_in finals) c.0 ≡ input_of (number_in numbers) c.0 = ap (input_with c.0) same in
-      let known : crate_in mid.crates (identity_at crates order numbers k c.0) ≡ Some (number_at numbers order k) =
+      let known : crate_in mid.crates (identity_at crates order numbers k c.0) ≡ Some (finished_number numbers order k) =
       identities k c.0 c.1 in
       let put : (before crates mid order (suc k)).db
       ≡ with_crate_input (before crates mid order k).db (identity_at crates order finals k c.0) (input_of (number_in finals) c.0) =
@@ -153,18 +153,18 @@ module _ (crates : List CrateBuilder) (mid : Database) (order : List ℕ) (behin
       put ∙ ap (λ (d : Database). with_crate_input d (identity_at crates order finals k c.0) (input_of (number_in finals) c.0)) past.0
       ∙ ap (λ (u : UniqueCrateData). with_crate_input mid u (input_of (number_in finals) c.0)) identity
       ∙ ap (λ (v : CrateInput). with_crate_input mid (identity_at crates order numbers k c.0) v) input
-      ∙ holds_already mid (identity_at crates order numbers k c.0) (input_of (number_in numbers) c.0) (number_at numbers order k) known
+      ∙ holds_already mid (identity_at crates order numbers k c.0) (input_of (number_in numbers) c.0) (finished_number numbers order k) known
       (inputs k c.0 c.1) in
-      let own : number_at finals order k ≡ number_at numbers order k =
+      let own : finished_number finals order k ≡ finished_number numbers order k =
       given_is crates order behind mid is_run (stable crates mid order behind) k c.0 c.1
       ∙ ap (λ (d : Database). crate_for d.crates (identity_at crates order finals k c.0)) past.0
       ∙ ap (λ (u : UniqueCrateData). crate_for mid.crates u) identity
-      ∙ (of_place (unique_eq (identity_at crates order numbers k c.0)) (keys_of mid.crates) (number_at numbers order k) known).0 in (
+      ∙ (of_place (unique_eq (identity_at crates order numbers k c.0)) (keys_of mid.crates) (finished_number numbers order k) known).0 in (
         db,
         λ j below. elim (cases_lt j k) [
           | inl before_it ↦ past.1 j before_it
           | inr not_before ↦ let is : k ≡ j = omega arith in
-              subst (λ m. number_at finals order m ≡ number_at numbers order m) is own
+              subst (λ m. finished_number finals order m ≡ finished_number numbers order m) is own
         ],
       )
 
@@ -183,8 +183,8 @@ set_again cmp crates old mid new ids again first second own =
     let numbers = first.set.numbers in
     let finals = final_numbers crates mid order in
     let same_order : second.set.order ≡ order = visits_unique second.set.finish_order first.set.finish_order in
-    let inputs : (k : ℕ) (krate : CrateBuilder) → crate_at crates order k ≡ Some krate
-    → input_in mid.crates (number_at numbers order k) ≡ Some (input_of (number_in numbers) krate) = λ k krate at.
+    let inputs : (k : ℕ) (krate : CrateBuilder) → finished_crate crates order k ≡ Some krate
+    → input_in mid.crates (finished_number numbers order k) ≡ Some (input_of (number_in numbers) krate) = λ k krate at.
     first.set.inputs k krate at (λ later above below same.
     let one : later ≡ k = own later k below (place_within crates order k krate at) same in absurd (omega arith)) in
     let end = as_before crates mid order first.set.behind numbers first.set.identities inputs (length order) (omega arith) in

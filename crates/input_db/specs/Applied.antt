@@ -42,13 +42,13 @@ with_roots_if_any db None = db
 with_roots_if_any db (Some roots) = with_roots db roots
 
 -- one more file that changed: its text, and no bytes where it was deleted
-abbrev pub with_changed_file : FileTables → ℕ × Option (List ℕ) → FileTables
-with_changed_file files changed =
+abbrev pub with_file_change : FileTables → ℕ × Option (List ℕ) → FileTables
+with_file_change files changed =
     with_text files changed.0 (unwrap_or changed.1 []) (durability_of_file files changed.0)
 
 -- the files that changed, in order
 abbrev pub with_changed_files : FileTables → List (ℕ × Option (List ℕ)) → FileTables
-with_changed_files files changed = fold with_changed_file files changed
+with_changed_files files changed = fold with_file_change files changed
 
 -- what a change makes of a database: the roots that are given, then the files that changed
 abbrev pub database_after_change : FileChange → Database → Database

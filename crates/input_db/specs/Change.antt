@@ -10,8 +10,8 @@ use Rattle.std.specs.Option.{option_map, option_or, unwrap_or}
 use Rattle.std.specs.declared.cmp.Ordering.{Ordering}
 use Rattle.crate_graph.specs.Graph.{Graph}
 use Rattle.input_db.specs.Database.{Database, library_numbers, local_numbers}
-use Rattle.input_db_files.specs.Files.{FileTables, durability_of_file, file_root_of, root_of, stored_place, stored_root}
-use Rattle.input_db_files.specs.Files.{stored_text, text_of}
+use Rattle.input_db_files.specs.Files.{FileTables, durability_of_file, file_root_of, source_root_at, stored_place, stored_root}
+use Rattle.input_db_files.specs.Files.{stored_text, text_of_file}
 use Rattle.input_db.specs.FinishSteps.{IsSetInSteps}
 use Rattle.crate_graph.specs.Extend.{Id}
 use Rattle.input_db_files.specs.SourceRoot.{has_file, root_durability}
@@ -33,7 +33,7 @@ is_in_some roots file = list_any (λ root. has_file root file) roots
 
 -- whether a root is there, or is given
 abbrev pub is_root : FileTables → List SourceRoot → ℕ → Bool
-is_root files roots number = is_some (root_of files number) || nat_lt number (length roots)
+is_root files roots number = is_some (source_root_at files number) || nat_lt number (length roots)
 
 -- whether a file has a source root already that is there or is given
 abbrev pub keeps_root : FileTables → List SourceRoot → ℕ → Bool
@@ -76,7 +76,7 @@ root_given root = stored_root root (root_durability root)
 
 -- the root of a number: the one that is given, or the one that was there. No root goes
 abbrev pub root_after : List SourceRoot → FileTables → ℕ → Option SourceRootInput
-root_after roots old number = option_or (option_map root_given (slice_get roots number)) (root_of old number)
+root_after roots old number = option_or (option_map root_given (slice_get roots number)) (source_root_at old number)
 
 -- the place of a file by the last root that has it, of those that are given, numbered from here on
 abbrev pub place_given : ℕ → List SourceRoot → ℕ → Option FileSourceRootInput
@@ -100,16 +100,16 @@ abbrev pub text_after : List (ℕ × Option (List ℕ)) → FileTables → FileT
 text_after changed old new file =
     option_or
     (option_map (λ text. stored_text file text (durability_of_file new file)) (text_given changed file))
-    (text_of old file)
+    (text_of_file old file)
 
 -- what a change makes of a database beside its crates
 pub record IsChanged (change : FileChange) (old new : Database) : Type 0 where
   pub local : new.local ≡ local_after change.roots old.local
   pub library : new.library ≡ library_after change.roots old.library
   pub nonce : new.nonce ≡ old.nonce
-  pub roots : (number : ℕ) → root_of new.files number ≡ root_after (given_roots change) old.files number
+  pub roots : (number : ℕ) → source_root_at new.files number ≡ root_after (given_roots change) old.files number
   pub places : (file : ℕ) → file_root_of new.files file ≡ place_after (given_roots change) old.files file
-  pub texts : (file : ℕ) → text_of new.files file ≡ text_after change.files_changed old.files new.files file
+  pub texts : (file : ℕ) → text_of_file new.files file ≡ text_after change.files_changed old.files new.files file
 
 -- the crates of a graph are set in a database, where one is given, and the answer gives their numbers there
 abbrev pub SetsCrates : (Id → Id → Ordering) → Option Graph → Database → Database → Option (tree.BTreeMap Id ℕ) → Type 0

@@ -4,7 +4,7 @@ use Rattle.std.specs.Prelude.{ℕ, ◌<◌, List, [], Option, Some, None, if◌t
 use Rattle.std.specs.Coded.{Coded, code_by, coded×, coded_list, coded_ℕ}
 use Rattle.std.specs.List.{All}
 use Rattle.base_text_outside.specs.Causes.{next_count}
-use Rattle.input_db_files.specs.Files.{FileTables, file_tables_code, no_files}
+use Rattle.input_db_files.specs.Files.{FileTables, file_tables_code, no_file_tables}
 use Rattle.input_db.specs.Identity.{IsTable, Table, input_eq, input_under, with_entry}
 use Rattle.input_db.specs.contracts.crate_input.CrateInput as input
 use Rattle.input_db.specs.contracts.crate_input.UniqueCrateData as unique
@@ -76,7 +76,7 @@ library_numbers numbers = record { roots = record { keys = numbers } }
 -- a database of no files and no crates
 abbrev pub empty_database : ℕ → Database
 empty_database nonce = record {
-  files = no_files;
+  files = no_file_tables;
   local = local_numbers [];
   library = library_numbers [];
   nonce = nonce;

@@ -33,8 +33,8 @@ abbrev pub none_finished : ℕ → FinishedCrates
 none_finished count = record { numbers = replicate count 0; roots = []; given = [] }
 
 -- a crate of the graph, of a root file, is finished under a number in the database
-abbrev pub with_finished : FinishedCrates → ℕ → ℕ → ℕ → FinishedCrates
-with_finished f n file krate = record {
+abbrev pub with_finished_crate : FinishedCrates → ℕ → ℕ → ℕ → FinishedCrates
+with_finished_crate f n file krate = record {
   numbers = slice_set f.numbers n krate;
   roots = with_member f.roots file;
   given = with_member f.given krate;
@@ -48,7 +48,7 @@ is_first_of_root roots file = not (list_any (nat_eq file) roots)
 abbrev pub with_put_crate : Progress → ℕ → CrateBuilder → UniqueCrateData → CrateInput → Progress
 with_put_crate l n krate unique input = record {
   db = with_crate_input l.db unique input;
-  finished = with_finished l.finished n krate.basic.root_file_id (crate_for l.db.crates unique);
+  finished = with_finished_crate l.finished n krate.basic.root_file_id (crate_for l.db.crates unique);
 }
 
 -- a crate of the graph is finished, under the number that it has there

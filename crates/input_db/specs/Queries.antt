@@ -24,5 +24,5 @@ abbrev pub is_marked : List Bool → ℕ → Bool
 is_marked marks place = slice_index_or marks place false
 
 -- the marks at the places of the crates of a list are set, and no others
-abbrev pub AreListed : List Bool → List ℕ → Type 0
-AreListed marks listed = (krate : ℕ) → (is_marked marks krate ≡ true) ↔ Contains listed krate
+abbrev pub AreMarksOf : List Bool → List ℕ → Type 0
+AreMarksOf marks listed = (krate : ℕ) → (is_marked marks krate ≡ true) ↔ Contains listed krate

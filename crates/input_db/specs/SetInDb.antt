@@ -17,12 +17,12 @@ use Rattle.input_db.specs.Identity.{IsTable, Table, crate_in, data_of, identity_
 use Rattle.input_db.specs.declared.crate_input.UniqueCrateData.{UniqueCrateData}
 
 -- the crate of the graph that is finished at a place of the order
-abbrev pub crate_at : List CrateBuilder → List ℕ → ℕ → Option CrateBuilder
-crate_at crates order k = option_and_then (slice_get crates) (slice_get order k)
+abbrev pub finished_crate : List CrateBuilder → List ℕ → ℕ → Option CrateBuilder
+finished_crate crates order k = option_and_then (slice_get crates) (slice_get order k)
 
 -- the number in the database of the crate that is finished at a place of the order
-abbrev pub number_at : List ℕ → List ℕ → ℕ → ℕ
-number_at numbers order k = slice_index_or numbers (slice_index_or order k 0) 0
+abbrev pub finished_number : List ℕ → List ℕ → ℕ → ℕ
+finished_number numbers order k = slice_index_or numbers (slice_index_or order k 0) 0
 
 -- whether a crate of the graph is of a root file
 abbrev pub is_of_root : List CrateBuilder → ℕ → ℕ → Bool
@@ -55,36 +55,36 @@ pub record AreAlike (numbers : List ℕ) (x y : CrateBuilder) : Type 0 where
 
 -- each crate of the graph has the number of its identity
 abbrev pub HaveIdentities : List CrateBuilder → List ℕ → List ℕ → Table → Type 0
-HaveIdentities crates order numbers table = (k : ℕ) (krate : CrateBuilder) → crate_at crates order k ≡ Some krate
-    → crate_in table (identity_at crates order numbers k krate) ≡ Some (number_at numbers order k)
+HaveIdentities crates order numbers table = (k : ℕ) (krate : CrateBuilder) → finished_crate crates order k ≡ Some krate
+    → crate_in table (identity_at crates order numbers k krate) ≡ Some (finished_number numbers order k)
 
 -- two crates of the graph have one number exactly where they are one, or where neither is the first of its root file and
 -- both are alike
 abbrev pub ShareWhereAlike : List CrateBuilder → List ℕ → List ℕ → Type 0
-ShareWhereAlike crates order numbers = (i j : ℕ) (x y : CrateBuilder) → crate_at crates order i ≡ Some x
-    → crate_at crates order j ≡ Some y
-    → (number_at numbers order i ≡ number_at numbers order j)
+ShareWhereAlike crates order numbers = (i j : ℕ) (x y : CrateBuilder) → finished_crate crates order i ≡ Some x
+    → finished_crate crates order j ≡ Some y
+    → (finished_number numbers order i ≡ finished_number numbers order j)
     ↔ ((i ≡ j) ⊎ ((is_first_at crates order i x ≡ false) × (is_first_at crates order j y ≡ false) × AreAlike numbers x y))
 
 -- no two crates of the graph have one number
 abbrev pub HaveOwnNumbers : List ℕ → List ℕ → Type 0
 HaveOwnNumbers order numbers = (i j : ℕ) → i < length order → j < length order
-    → number_at numbers order i ≡ number_at numbers order j → i ≡ j
+    → finished_number numbers order i ≡ finished_number numbers order j → i ≡ j
 
 -- what is held under a number is of the last crate of the graph that has it
 abbrev pub HoldLastInputs : List CrateBuilder → List ℕ → List ℕ → Table → Type 0
-HoldLastInputs crates order numbers table = (k : ℕ) (krate : CrateBuilder) → crate_at crates order k ≡ Some krate
-    → ((later : ℕ) → k < later → later < length order → number_at numbers order later ≡ number_at numbers order k → ⊥)
-    → input_in table (number_at numbers order k) ≡ Some (input_of (number_in numbers) krate)
+HoldLastInputs crates order numbers table = (k : ℕ) (krate : CrateBuilder) → finished_crate crates order k ≡ Some krate
+    → ((later : ℕ) → k < later → later < length order → finished_number numbers order later ≡ finished_number numbers order k → ⊥)
+    → input_in table (finished_number numbers order k) ≡ Some (input_of (number_in numbers) krate)
 
 -- the table keeps what it had: every identity its number, and every input but those of the numbers that are given. What is
 -- new in it is given
-pub record KeepsOthers (order numbers : List ℕ) (old new : Table) : Type 0 where
+pub record KeepsOtherEntries (order numbers : List ℕ) (old new : Table) : Type 0 where
   pub identities : (n : ℕ) → n < length old → slice_get (uniques_in new) n ≡ slice_get (uniques_in old) n
-  pub inputs : (n : ℕ) → n < length old → ((k : ℕ) → k < length order → number_at numbers order k ≡ n → ⊥)
+  pub inputs : (n : ℕ) → n < length old → ((k : ℕ) → k < length order → finished_number numbers order k ≡ n → ⊥)
       → input_in new n ≡ input_in old n
   pub longer : length old ≤ length new
-  pub fresh : (n : ℕ) → length old ≤ n → n < length new → (k : ℕ) × (k < length order) × (number_at numbers order k ≡ n)
+  pub fresh : (n : ℕ) → length old ≤ n → n < length new → (k : ℕ) × (k < length order) × (finished_number numbers order k ≡ n)
 
 -- what is no crate is as it was
 pub record KeepsFiles (old new : Database) : Type 0 where
@@ -107,7 +107,7 @@ pub record IsSetInDb (cmp : Id → Id → Ordering) (crates : List CrateBuilder)
   pub shared : ShareWhereAlike crates order numbers
   -- what is held under them
   pub inputs : HoldLastInputs crates order numbers new.crates
-  pub kept : KeepsOthers order numbers old.crates new.crates
+  pub kept : KeepsOtherEntries order numbers old.crates new.crates
   pub table : IsTable new.crates
   -- the list
   pub listed : new.listed ≡ listed_crates order numbers

@@ -5,10 +5,10 @@ ghost use Rattle.std.specs.List.{All, Contains};
 ghost use Rattle.std.specs.Option.{option_map};
 ghost use Rattle.graph_base.specs.Reach.{Reaches};
 ghost use Rattle.input_db.specs.Database.{with_crate_list};
-ghost use Rattle.input_db_files.specs.EditionedFileId.{edition_of, file_of};
+ghost use Rattle.input_db_files.specs.EditionedFileId.{edition_of_file, file_of};
 ghost use Rattle.input_db.specs.Identity.{crate_edges, input_in};
 ghost use Rattle.input_db.specs.Channel.{channel_in};
-ghost use Rattle.input_db.specs.Queries.{AreListed, IsListedDependent, IsWithItselfFirst, is_marked, others};
+ghost use Rattle.input_db.specs.Queries.{AreMarksOf, IsListedDependent, IsWithItselfFirst, is_marked, others};
 
 use crate::crate_input::{BuiltCrateData, Crate};
 use crate::source_database::SourceDatabase;
@@ -97,7 +97,7 @@ impl Crate {
         ensures file { option_map (λ input. input.crate_data.root_file_id)
             (input_in (D.seen db.now).crates self) ≡ Some (file_of result) }
         ensures edition { option_map (λ input. input.crate_data.edition)
-            (input_in (D.seen db.now).crates self) ≡ Some (edition_of result) }
+            (input_in (D.seen db.now).crates self) ≡ Some (edition_of_file result) }
     {
         let data = &db.crate_input(self).crate_data;
         EditionedFileId::new(data.root_file_id, data.edition)
@@ -145,7 +145,7 @@ impl Crate {
 fn listed_marks(alloc: Global, count: usize, listed: &[Crate]) -> Result<Vec<bool>, AllocError>
     requires { All (λ krate. krate < count) listed.now }
     ensures count { IfOk result (λ marks. length marks.items ≡ count) }
-    ensures listed { IfOk result (λ marks. AreListed marks.items listed.now) }
+    ensures listed { IfOk result (λ marks. AreMarksOf marks.items listed.now) }
 {
     let mut marks = vec![in alloc; false; count]?;
     for krate in listed {

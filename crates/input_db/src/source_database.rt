@@ -5,7 +5,7 @@ ghost use Rattle.std.specs.List.{All};
 ghost use Rattle.input_db.specs.Database.{Database, with_crate_input, with_crate_list, with_files, with_lists};
 ghost use Rattle.input_db_files.specs.Files.{SetsFileRoot, SetsRoot, SetsText, kept_durability, stored_place};
 ghost use Rattle.input_db_files.specs.Files.{stored_root, stored_text};
-ghost use Rattle.input_db_files.specs.Files.{file_root_of, resolved_from, root_of, root_of_file, text_of};
+ghost use Rattle.input_db_files.specs.Files.{file_root_of, resolved_from, source_root_at, root_of_file, text_of_file};
 ghost use Rattle.input_db_files.specs.Files.{with_file_root, with_root, with_same_durability, with_text};
 ghost use Rattle.input_db.specs.Identity.{IsTable, PutsCrate, crate_for, input_in, named_in, names_of};
 
@@ -29,13 +29,13 @@ pub trait SourceDatabase {
 
     /// The text of a file that has one, as `has_text` of `files` reports.
     fn file_text(&self, id: FileId) -> &FileText
-        requires { IsSome (text_of (seen self.now).files id) }
-        ensures { text_of (seen self.now).files id ≡ Some result.now };
+        requires { IsSome (text_of_file (seen self.now).files id) }
+        ensures { text_of_file (seen self.now).files id ≡ Some result.now };
 
     /// A source root that is there, as `has_root` of `files` reports.
     fn source_root(&self, id: SourceRootId) -> &SourceRootInput
-        requires { IsSome (root_of (seen self.now).files id) }
-        ensures { root_of (seen self.now).files id ≡ Some result.now };
+        requires { IsSome (source_root_at (seen self.now).files id) }
+        ensures { source_root_at (seen self.now).files id ≡ Some result.now };
 
     /// The source root of a file that has one, as `has_file_root` of `files` reports.
     fn file_source_root(&self, id: FileId) -> &FileSourceRootInput
@@ -66,7 +66,7 @@ pub trait SourceDatabase {
         ensures ok { OnOk result (seen self.new
             ≡ with_files (seen self.old) (with_same_durability (seen self.old).files id text.now)) }
         ensures alone { OnOk result (SetsText (seen self.old).files (seen self.new).files id
-            (stored_text id text.now (kept_durability (text_of (seen self.old).files id)))) }
+            (stored_text id text.now (kept_durability (text_of_file (seen self.old).files id)))) }
         ensures err { OnErr result (seen self.new ≡ seen self.old) };
 
     fn set_file_text_with_durability(

@@ -8,5 +8,5 @@ abbrev pub file_of : EditionedFileId → ℕ
 file_of file = file.file_id
 
 -- the edition that it is read in
-abbrev pub edition_of : EditionedFileId → Edition
-edition_of file = file.edition
+abbrev pub edition_of_file : EditionedFileId → Edition
+edition_of_file file = file.edition

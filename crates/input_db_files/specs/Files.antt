@@ -39,16 +39,16 @@ file_tables_code =
     (λ p. record { texts = p.0; roots = p.1.0; file_roots = p.1.1 }) (λ _. refl)
 
 -- no texts and no roots
-abbrev pub no_files : FileTables
-no_files = record { texts = map.empty; roots = map.empty; file_roots = map.empty }
+abbrev pub no_file_tables : FileTables
+no_file_tables = record { texts = map.empty; roots = map.empty; file_roots = map.empty }
 
 -- the text of a file, where it has one
-abbrev pub text_of : FileTables → ℕ → Option FileText
-text_of files file = map.get files.texts file
+abbrev pub text_of_file : FileTables → ℕ → Option FileText
+text_of_file files file = map.get files.texts file
 
 -- a source root, where it is there
-abbrev pub root_of : FileTables → ℕ → Option SourceRootInput
-root_of files root = map.get files.roots root
+abbrev pub source_root_at : FileTables → ℕ → Option SourceRootInput
+source_root_at files root = map.get files.roots root
 
 -- the source root of a file, where it has one
 abbrev pub file_root_of : FileTables → ℕ → Option FileSourceRootInput
@@ -57,7 +57,7 @@ file_root_of files file = map.get files.file_roots file
 -- the source root that a file is in, where it is there
 abbrev pub root_of_file : FileTables → ℕ → Option SourceRoot
 root_of_file files file =
-    option_and_then (λ place. option_map (λ input. input.source_root) (root_of files place.source_root_id))
+    option_and_then (λ place. option_map (λ input. input.source_root) (source_root_at files place.source_root_id))
     (file_root_of files file)
 
 -- how durable the text of a file is to be: by the root that it is in, where that is there
@@ -93,7 +93,7 @@ kept_durability (Some text) = text.durability
 
 -- the files, with a text for a file, as durable as the one that was there
 abbrev pub with_same_durability : FileTables → ℕ → List ℕ → FileTables
-with_same_durability files file text = with_text files file text (kept_durability (text_of files file))
+with_same_durability files file text = with_text files file text (kept_durability (text_of_file files file))
 
 -- the files, with a source root
 abbrev pub with_root : FileTables → ℕ → SourceRoot → Durability → FileTables
@@ -108,12 +108,12 @@ with_file_root files file root durability =
 -- one text is set, and each other is as it was
 abbrev pub SetsText : FileTables → FileTables → ℕ → FileText → Type 0
 SetsText old new file text =
-    (other : ℕ) → text_of new other ≡ (if other == file then Some text else text_of old other)
+    (other : ℕ) → text_of_file new other ≡ (if other == file then Some text else text_of_file old other)
 
 -- one source root is set, and each other is as it was
 abbrev pub SetsRoot : FileTables → FileTables → ℕ → SourceRootInput → Type 0
 SetsRoot old new root input =
-    (other : ℕ) → root_of new other ≡ (if other == root then Some input else root_of old other)
+    (other : ℕ) → source_root_at new other ≡ (if other == root then Some input else source_root_at old other)
 
 -- the source root of one file is set, and that of each other is as it was
 abbrev pub SetsFileRoot : FileTables → FileTables → ℕ → FileSourceRootInput → Type 0

@@ -2,7 +2,7 @@
 
 ghost use Rattle.std.specs.Prelude.{◌≡◌};
 ghost use Rattle.base_text_paths.specs.declared.edition.Edition.TheVariants.{Edition2024};
-ghost use Rattle.input_db_files.specs.EditionedFileId.{edition_of, file_of};
+ghost use Rattle.input_db_files.specs.EditionedFileId.{edition_of_file, file_of};
 
 use base_text_paths::{Edition, FileId, TryClone};
 use std::alloc::{AllocError, Global};
@@ -17,7 +17,7 @@ pub struct EditionedFileId {
 impl EditionedFileId {
     pub fn new(file_id: FileId, edition: Edition) -> Self
         ensures file { file_of result ≡ file_id }
-        ensures edition { edition_of result ≡ edition }
+        ensures edition { edition_of_file result ≡ edition }
     {
         EditionedFileId { file_id, edition }
     }
@@ -25,7 +25,7 @@ impl EditionedFileId {
     /// A file of which nothing is said: it is read in the current edition.
     pub fn current_edition(file_id: FileId) -> Self
         ensures file { file_of result ≡ file_id }
-        ensures edition { edition_of result ≡ Edition2024 }
+        ensures edition { edition_of_file result ≡ Edition2024 }
     {
         EditionedFileId {
             file_id,
@@ -40,14 +40,14 @@ impl EditionedFileId {
     }
 
     pub fn edition(self) -> Edition
-        ensures { result ≡ edition_of self }
+        ensures { result ≡ edition_of_file self }
     {
         self.edition
     }
 
     /// Both.
     pub fn unpack(self) -> (FileId, Edition)
-        ensures { result ≡ (file_of self, edition_of self) }
+        ensures { result ≡ (file_of self, edition_of_file self) }
     {
         (self.file_id, self.edition)
     }

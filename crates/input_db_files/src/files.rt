@@ -2,7 +2,7 @@
 
 ghost use Rattle.std.specs.Prelude.{◌≡◌, IsSome, OnErr, OnOk, Some, is_some};
 ghost use Rattle.input_db_files.specs.Files.{SetsFileRoot, SetsRoot, SetsText, file_root_of, kept_durability};
-ghost use Rattle.input_db_files.specs.Files.{no_files, root_of, text_of};
+ghost use Rattle.input_db_files.specs.Files.{no_file_tables, source_root_at, text_of_file};
 ghost use Rattle.input_db_files.specs.Files.{stored_place, stored_root, stored_text};
 ghost use Rattle.input_db_files.specs.Files.{with_file_root, with_root, with_same_durability, with_text};
 
@@ -35,7 +35,7 @@ impl Model for Files {
 impl Files {
     /// No texts and no roots.
     pub fn new(alloc: Global) -> Self
-        ensures { result ≡ no_files }
+        ensures { result ≡ no_file_tables }
     {
         Files {
             alloc,
@@ -47,14 +47,14 @@ impl Files {
 
     /// Whether a file has a text.
     pub fn has_text(&self, id: FileId) -> bool
-        ensures { result ≡ is_some (text_of self.now id) }
+        ensures { result ≡ is_some (text_of_file self.now id) }
     {
         self.texts.get(id.index()).is_some()
     }
 
     /// Whether a source root is there.
     pub fn has_root(&self, id: SourceRootId) -> bool
-        ensures { result ≡ is_some (root_of self.now id) }
+        ensures { result ≡ is_some (source_root_at self.now id) }
     {
         self.roots.get(id.0).is_some()
     }
@@ -68,16 +68,16 @@ impl Files {
 
     /// The text of a file that has one, as `has_text` reports.
     pub fn file_text(&self, id: FileId) -> &FileText
-        requires { IsSome (text_of self.now id) }
-        ensures { text_of self.now id ≡ Some result.now }
+        requires { IsSome (text_of_file self.now id) }
+        ensures { text_of_file self.now id ≡ Some result.now }
     {
         self.texts.get(id.index()).unwrap()
     }
 
     /// A source root that is there, as `has_root` reports.
     pub fn source_root(&self, id: SourceRootId) -> &SourceRootInput
-        requires { IsSome (root_of self.now id) }
-        ensures { root_of self.now id ≡ Some result.now }
+        requires { IsSome (source_root_at self.now id) }
+        ensures { source_root_at self.now id ≡ Some result.now }
     {
         self.roots.get(id.0).unwrap()
     }
@@ -94,7 +94,7 @@ impl Files {
     pub fn set_file_text(&mut self, id: FileId, text: &str) -> Result<(), AllocError>
         ensures ok { OnOk result (self.new ≡ with_same_durability self.old id text.now) }
         ensures alone { OnOk result (SetsText self.old self.new id
-            (stored_text id text.now (kept_durability (text_of self.old id)))) }
+            (stored_text id text.now (kept_durability (text_of_file self.old id)))) }
         ensures err { OnErr result (self.new ≡ self.old) }
     {
         let durability = match self.texts.get(id.index()) {

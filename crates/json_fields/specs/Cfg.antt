@@ -1,7 +1,7 @@
 -- an atom of conditional compilation as tables read and write it: a text that `parse_cfg` reads
 use Rattle.std.specs.Prelude.{ℕ, List, [], Option, Some, None, Ok, Err}
 use Rattle.serde_json.specs.Data.{Data}
-use Rattle.base_text_outside.specs.Cfg.{atom_of, text_of}
+use Rattle.base_text_outside.specs.Cfg.{atom_of, atom_text}
 use Rattle.base_text_outside.specs.declared.cfg.CfgAtom.{CfgAtom}
 use Rattle.json_fields.specs.Outcome.{Reading}
 use Rattle.json_fields.specs.TextJson.{text_form_at, text_form_data}
@@ -21,4 +21,4 @@ cfg_at = text_form_at cfg_of
 
 -- an atom as its text
 abbrev pub cfg_data : CfgAtom → Data
-cfg_data = text_form_data text_of
+cfg_data = text_form_data atom_text

@@ -14,7 +14,7 @@ use std::alloc::{AllocError, Global};
 impl TextJson for CfgAtom {
     ghost of_text = { cfg_of };
 
-    ghost text_of = { atoms.text_of };
+    ghost text_of = { atoms.atom_text };
 
     fn read_text(alloc: Global, text: &str) -> Result<CfgAtom, ReadError> {
         match parse_cfg(alloc, text) {

@@ -8,7 +8,7 @@ use Rattle.base_text.specs.Lines.{last_line, lines_of, partial_line, whole_lines
 use Rattle.base_text.specs.Reader.{IsCut, IsFrontOf}
 use Rattle.base_text.proofs.Cuts.{whole_lines-append}
 use Rattle.base_text.proofs.LineEnds.{lines_of-whole}
-use Rattle.live_page.specs.Reader.{Gave, Reader}
+use Rattle.live_page.specs.Reader.{GaveScriptLines, ScriptReader}
 use Rattle.live.specs.Session.{lines_within}
 
 -- the lines of a script within its limit, and of a longer one
@@ -45,7 +45,7 @@ first-of limit front behind small =
     ] refl
 
 -- the lines that a reader gave are the first of the script
-pub Gave-first : (limit : ℕ) (left₀ left : Option (List ℕ)) (given : List (List ℕ)) (reader : Reader) → Gave limit left₀ left given reader → (all : List ℕ) → left₀ ≡ Some all
+pub Gave-first : (limit : ℕ) (left₀ left : Option (List ℕ)) (given : List (List ℕ)) (reader : ScriptReader) → GaveScriptLines limit left₀ left given reader → (all : List ℕ) → left₀ ≡ Some all
     → IsFrontOf given (lines_within limit all)
 Gave-first limit left₀ left given reader gave all known =
     let small : length gave.front ≤ limit = omega (arith, gave.within) in

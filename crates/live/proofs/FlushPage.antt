@@ -15,14 +15,14 @@ use Rattle.vfs_core.specs.Texts.{BringsTo, all_pass}
 use Rattle.vfs_core.specs.VfsPath.{PathContent, vfs_path_eq}
 use Rattle.crate_graph.specs.Graph.{Graph}
 use Rattle.crate_graph_values.specs.declared.builder.CrateBuilder.{CrateBuilder}
-use Rattle.live_page.specs.Entries.{Node, entries_of, entries_shown, node_of, path_in}
+use Rattle.live_page.specs.Entries.{Node, entries_of, entries_shown, entry_node, path_in}
 use Rattle.live_page.specs.Page.{page_of}
 use Rattle.live_page.proofs.Alike.{entries_alike}
 use Rattle.live_page.proofs.GraphEntries.{entries_after_set}
 use Rattle.live_page.proofs.Pages.{no_entries}
 use Rattle.pm_lower_crates.specs.Lowering.{Crate, crate_seen}
 use Rattle.live_page.specs.FlushPage as placed
-use Rattle.live_page.specs.Refresh.{GivesCrates, KeepsCrates}
+use Rattle.live_page.specs.Refresh.{GivesCrates, KeepsDatabaseCrates}
 use Rattle.live_page.specs.Shape.{base_image, base_shape, file_image, file_shape, files_sorted, image, texts_known}
 use Rattle.vfs_sets.specs.declared.file_root.FileRoot.{FileRoot}
 use Rattle.live_page.proofs.FlushShown.{base_is, page_is, path_is, place_is, text_is}
@@ -57,7 +57,7 @@ pub record IsStored (old new : Live) (last : LastFlush) : Type 0 where
 -- ---- the crates of a graph
 
 -- a crate of a graph is seen by its entry as the definition has it
-pub nodes-seen : (crates : List CrateBuilder) → map node_of crates ≡ map node_seen (map crate_seen crates)
+pub nodes-seen : (crates : List CrateBuilder) → map entry_node crates ≡ map node_seen (map crate_seen crates)
 nodes-seen [] = refl
 nodes-seen (krate ∷ crates) =
     let rest = nodes-seen crates in
@@ -74,12 +74,12 @@ graph-crates (Some p) files (Some graph) is = (map crate_seen graph.crates, is.c
 -- a node whose root file exists has one path in both
 nodes-alike : (paths others : ℕ → Option (List ℕ)) (files : List (ℕ × PathContent)) (crates : List CrateBuilder)
     → ((file : ℕ) (path : PathContent) → lookup (nat_eq file) files ≡ Some path → paths file ≡ others file)
-    → BeginIn files crates → All (λ node. paths node.root_file ≡ others node.root_file) (map node_of crates)
+    → BeginIn files crates → All (λ node. paths node.root_file ≡ others node.root_file) (map entry_node crates)
 nodes-alike paths others files [] same begin = All-nil (λ node. paths node.root_file ≡ others node.root_file)
 nodes-alike paths others files (krate ∷ crates) same begin =
     let Begins : CrateBuilder → Type 0 = λ k. (path : PathContent) × (lookup (nat_eq k.basic.root_file_id) files ≡ Some path) in
     let first = All-head Begins krate crates begin in
-    All-cons (λ (node : Node). paths node.root_file ≡ others node.root_file) (node_of krate) (map node_of crates)
+    All-cons (λ (node : Node). paths node.root_file ≡ others node.root_file) (entry_node krate) (map entry_node crates)
     (same krate.basic.root_file_id first.0 first.1) (nodes-alike paths others files crates same (All-tail Begins krate crates begin))
 
 -- nothing is found in no list
@@ -163,7 +163,7 @@ module _ (live live' : Live) (r : RefreshesLive live live') (s : State) (h : Hol
   entries-split : (p : Option ProjectContent) (graph : Option Graph) → live.project ≡ p → IsGraphBy p (existing_files live.files) graph → GivesCrates r.cmp graph live.db live'.db
       → (crates : List Crate) → crates_by p (existing_files live.files) ≡ Ok crates → entries_shown live'.db ≡ entries flush crates
   entries-split None graph is none given crates are =
-      let kept : KeepsCrates live.db live'.db = subst (λ g. GivesCrates r.cmp g live.db live'.db) none given in
+      let kept : KeepsDatabaseCrates live.db live'.db = subst (λ g. GivesCrates r.cmp g live.db live'.db) none given in
       let empty : [] ≡ crates = cc in
       no_entries live'.db (kept.listed ∙ current.crates is) ∙ sym (entries-none (path_by (numbers_of_flush flush)))
       ∙ ap (λ (cs : List Crate). entries_of (path_by (numbers_of_flush flush)) (map node_seen cs)) empty
@@ -171,7 +171,7 @@ module _ (live live' : Live) (r : RefreshesLive live live') (s : State) (h : Hol
   entries-split (Some p) (Some graph) is lowers given crates are =
       let same : map crate_seen graph.crates ≡ crates = let both : Ok (map crate_seen graph.crates) ≡ Ok crates = sym lowers.crates ∙ are in cc in
       entries_after_set r.cmp graph.crates given.before live'.db given.ids given.set.set (path_in live'.db.files)
-      ∙ entries_alike (path_in live'.db.files) (path_by (numbers_of_flush flush)) (map node_of graph.crates)
+      ∙ entries_alike (path_in live'.db.files) (path_by (numbers_of_flush flush)) (map entry_node graph.crates)
       (nodes-alike (path_in live'.db.files) (path_by (numbers_of_flush flush)) (existing_files live.files) graph.crates path-same lowers.begins)
       ∙ ap (entries_of (path_by (numbers_of_flush flush))) (nodes-seen graph.crates ∙ ap (map node_seen) same)
 
@@ -185,7 +185,7 @@ module _ (live live' : Live) (r : RefreshesLive live live') (s : State) (h : Hol
   pub page_shown : page_of live'.db ≡ page flush made.0
   unfolding page
   page_shown = page_is roots live.files live.db live'.db r.refreshes
-      ∙ (λ i. placed.page (same_roots i) (same-paths i) (entries-are i))
+      ∙ (λ i. placed.page_of_entries (same_roots i) (same-paths i) (entries-are i))
 
   -- so the turn writes it
   pub turn_is : flush_turn s ≡ flushed_turn s flush (Ok made.0)
@@ -198,7 +198,7 @@ module _ (live live' : Live) (r : RefreshesLive live live') (s : State) (h : Hol
       → ListsInOrder live'.db × ShowsCrates live'.db p (existing_files live.files)
   unfolding IsDistinct
   listed-split None graph is none given =
-      let kept : KeepsCrates live.db live'.db = subst (λ g. GivesCrates r.cmp g live.db live'.db) none given in
+      let kept : KeepsDatabaseCrates live.db live'.db = subst (λ g. GivesCrates r.cmp g live.db live'.db) none given in
       let empty : live'.db.listed ≡ [] = kept.listed ∙ current.crates is in
       (record { once = rw empty tt; behind = λ place krate dep input at. absurd (none-there place krate (ap (λ l. slice_get l place) (sym empty) ∙ at)) }, empty)
   listed-split (Some p) None is none given = absurd none

@@ -10,7 +10,7 @@ use Rattle.crate_graph.specs.Extend.{Id}
 use Rattle.live_page.specs.declared.event.Event.TheVariants.{Flush as FlushEvent}
 use Rattle.live_page.specs.Page.{page_of}
 use Rattle.live_page.proofs.Stable.{same_identities}
-use Rattle.live_page.specs.Refresh.{GivesCrates, KeepsCrates, KeepsIdentities, Refreshes}
+use Rattle.live_page.specs.Refresh.{GivesCrates, KeepsDatabaseCrates, KeepsIdentities, Refreshes}
 use Rattle.vfs_sets.specs.declared.file_root.FileRoot.{FileRoot}
 use Rattle.live_project.specs.Project.{ProjectContent}
 use Rattle.live.specs.declared.fault.LiveError.{LiveError}
@@ -132,7 +132,7 @@ refreshes_live live live' given graph cmp same lowers crates brings stable files
 
 -- without a project no crate is made or changed: the same by what was given
 keeps-split : (p : Option ProjectContent) (files : List (ℕ × PathContent)) (graph : Option Graph) (cmp : Id → Id → Ordering) (old new : Database) → IsGraphBy p files graph → p ≡ None
-    → GivesCrates cmp graph old new → KeepsCrates old new
+    → GivesCrates cmp graph old new → KeepsDatabaseCrates old new
 keeps-split None files graph cmp old new none is given = subst (λ g. GivesCrates cmp g old new) none given
 keeps-split (Some p) files graph cmp old new lowers is given = absurd (cc)
 

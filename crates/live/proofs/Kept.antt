@@ -12,7 +12,7 @@ use Rattle.vfs_core.specs.Marks.{live_files, live_text, mentioned_paths}
 use Rattle.vfs_core.specs.VfsPath.{PathContent, vfs_path_eq}
 use Rattle.live_project.specs.Sources.{kept_files, with_kept_file}
 use Rattle.live.specs.declared.last_flush.LastFlush.{LastFlush}
-use Rattle.live.specs.LiveTexts.{KeepsTexts, kept_by, text_at, with_row}
+use Rattle.live.specs.LiveTexts.{KeepsTexts, kept_by, row_text, with_row}
 use Rattle.live.specs.Page.{Flush}
 use Rattle.live.specs.Turn.{KeepsFlush}
 use Rattle.live.proofs.Existing.{existing_numbered, file_by, live_of, numbered}
@@ -22,7 +22,7 @@ use Rattle.live.proofs.TextRows.{kept_more}
 
 -- one more file, by its row
 abbrev put_row : List (Option (List ℕ)) → tree.TreeFiles → ℕ × PathContent → tree.TreeFiles
-put_row rows kept file = with_row kept file.1 (text_at rows file.0)
+put_row rows kept file = with_row kept file.1 (row_text rows file.0)
 
 -- files put in by their rows are those with a text: the same by whether the first has one
 rows-split : (text_of : PathContent → Option (List ℕ)) (rows : List (Option (List ℕ))) (number : ℕ) (place : PathContent) (places : List PathContent) (kept : tree.TreeFiles) (text : Option (List ℕ))
@@ -55,7 +55,7 @@ kept_tree files rows marks keeps =
     ∙ slice_get-map (live_text marks) (mentioned_paths marks) k ∙ ap (option_map (live_text marks)) at)
 
 -- one more file
-pub kept_by-more : (rows : List (Option (List ℕ))) (files : List (ℕ × PathContent)) (file : ℕ × PathContent) → kept_by rows (files ++ file ∷ []) ≡ with_row (kept_by rows files) file.1 (text_at rows file.0)
+pub kept_by-more : (rows : List (Option (List ℕ))) (files : List (ℕ × PathContent)) (file : ℕ × PathContent) → kept_by rows (files ++ file ∷ []) ≡ with_row (kept_by rows files) file.1 (row_text rows file.0)
 unfolding kept_by
 kept_by-more rows files file = fold-append (put_row rows) [] files (file ∷ [])
 

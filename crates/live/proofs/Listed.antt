@@ -17,7 +17,7 @@ use Rattle.crate_graph_values.specs.Laws.{renamed_dependency}
 use Rattle.crate_graph_values.specs.declared.builder.CrateBuilder.{CrateBuilder}
 use Rattle.crate_graph_values.specs.declared.crate_data.CrateData.{CrateData}
 use Rattle.crate_graph_values.specs.declared.crate_data.Dependency.{Dependency}
-use Rattle.crate_graph.specs.Graph.{Graph, edges, row_of, target_of}
+use Rattle.crate_graph.specs.Graph.{Graph, edges, dependency_row, target_of}
 use Rattle.crate_graph.proofs.ExtendLemmas.{crate_edge, edge_crate}
 use Rattle.crate_graph.proofs.GraphLemmas.{slice_get_some}
 use Rattle.input_db.proofs.TableLemmas as rows
@@ -33,8 +33,8 @@ use Rattle.pm_lower_crates.specs.WantedEdges.{Dep}
 use Rattle.vfs_core.specs.VfsPath.{PathContent}
 use Rattle.live_project.specs.Crates.{project_edges}
 use Rattle.live_project.specs.Project.{ProjectContent}
-use Rattle.live.specs.Crates.{AreListed, LacksCyclesIn, ListsInOrder, ShowsProject, crate_held, crate_renamed, dep_held, input_at, number_at, renamed_dep}
-use Rattle.live.specs.Refresh.{IsGraphOf}
+use Rattle.live.specs.Crates.{AreInDatabase, LacksCyclesIn, ListsInOrder, ShowsProject, crate_held, crate_renamed, dep_held, input_at, database_number, renamed_dep}
+use Rattle.live.specs.Refresh.{IsProjectGraph}
 
 -- ---- lists
 
@@ -171,7 +171,7 @@ module _ (cmp : Id → Id → Ordering) (crates : List CrateBuilder) (old new : 
   input-data (Some other) content input is at = let same : other ≡ input = cc in ap (λ i. i.crate_data) (sym same) ∙ same_Some other.crate_data content is
 
   -- the data of a crate names the numbers of its targets
-  names-targets : (krate : CrateBuilder) → named_in (data_of (number_in numbers) krate) ≡ map (λ target. get_or numbers target 0) (row_of krate)
+  names-targets : (krate : CrateBuilder) → named_in (data_of (number_in numbers) krate) ≡ map (λ target. get_or numbers target 0) (dependency_row krate)
   names-targets krate =
       map-map (λ (dep : Dependency ℕ). dep.crate_id) (renamed_dependency (number_in numbers)) krate.basic.dependencies
       ∙ sym (map-map (λ target. get_or numbers target 0) target_of krate.basic.dependencies)
@@ -186,7 +186,7 @@ module _ (cmp : Id → Id → Ordering) (crates : List CrateBuilder) (old new : 
       let krate = slice_get_some crates m (below_crates crates order numbers set.behind m (place, within, get_or_default order place m 0 within)) in
       let content : wants.0.crate_data ≡ data_of (number_in numbers) krate.0 =
       input-data (input_in new.crates n) (data_of (number_in numbers) krate.0) wants.0 (ap (λ k. option_map (λ i. i.crate_data) (input_in new.crates k)) (sym of) ∙ held-data m krate.0 krate.1) wants.1 in
-      let named = mapped_from (λ target. get_or numbers target 0) (row_of krate.0) need (subst (λ l. Contains l need) (ap named_in content ∙ names-targets krate.0) wants.2) in
+      let named = mapped_from (λ target. get_or numbers target 0) (dependency_row krate.0) need (subst (λ l. Contains l need) (ap named_in content ∙ names-targets krate.0) wants.2) in
       let before = set.behind.behind place named.0 within (crate_edge crates m named.0 krate.0 krate.1 named.1) in
       subst (λ l. Contains l need) (take-map (λ k. get_or numbers k 0) place order)
       (subst (Contains (map (λ k. get_or numbers k 0) (take place order))) named.2
@@ -204,7 +204,7 @@ module _ (cmp : Id → Id → Ordering) (crates : List CrateBuilder) (old new : 
 
   -- ---- the crates of a project
 
-  module _ (p : ProjectContent) (files : List (ℕ × PathContent)) (graph : Graph) (same : graph.crates ≡ crates) (is : IsGraphOf p files graph) where
+  module _ (p : ProjectContent) (files : List (ℕ × PathContent)) (graph : Graph) (same : graph.crates ≡ crates) (is : IsProjectGraph p files graph) where
     -- a crate of the project is one of the graph
     seen-at : (place : ℕ) (krate : Crate) → slice_get (map crate_seen crates) place ≡ Some krate → (builder : CrateBuilder) × (slice_get crates place ≡ Some builder) × (krate ≡ crate_seen builder)
     seen-at place krate at = by (slice_get crates place) refl
@@ -233,7 +233,7 @@ module _ (cmp : Id → Id → Ordering) (crates : List CrateBuilder) (old new : 
         ∙ held-by-data (input_in new.crates (get_or numbers place 0)) (data_of (number_in numbers) builder) (held-data place builder at)
         ∙ ap (λ deps. Some (builder.basic.root_file_id, deps)) (held-deps builder.basic.dependencies)
 
-    pub are_listed : AreListed new numbers (map crate_seen crates)
+    pub are_listed : AreInDatabase new numbers (map crate_seen crates)
     are_listed = record {
       every = set.every ∙ sym (length-map crates crate_seen);
       listed = λ krate. (
@@ -268,24 +268,24 @@ module _ (cmp : Id → Id → Ordering) (crates : List CrateBuilder) (old new : 
         (later.0, omega (arith, first.1, later.1), later.2)
 
     -- an edge of the graph is one of the database
-    step-map : (a c : ℕ) → HasEdge (edges crates) a c → HasEdge (crate_edges new.crates) (number_at numbers a) (number_at numbers c)
+    step-map : (a c : ℕ) → HasEdge (edges crates) a c → HasEdge (crate_edges new.crates) (database_number numbers a) (database_number numbers c)
     step-map a c edge =
         let from = edge_crate crates a c edge in
         let held = input-found (input_in new.crates (get_or numbers a 0)) (data_of (number_in numbers) from.0) (held-data a from.0 from.1) in
-        let named : Contains (named_in held.0.crate_data) (number_at numbers c) =
-        subst (λ l. Contains l (number_at numbers c)) (sym (ap named_in held.2 ∙ names-targets from.0)) (mapped_to (λ target. get_or numbers target 0) (row_of from.0) c from.2) in
-        input-edge new.crates (get_or numbers a 0) held.0 (number_at numbers c) held.1 named
+        let named : Contains (named_in held.0.crate_data) (database_number numbers c) =
+        subst (λ l. Contains l (database_number numbers c)) (sym (ap named_in held.2 ∙ names-targets from.0)) (mapped_to (λ target. get_or numbers target 0) (dependency_row from.0) c from.2) in
+        input-edge new.crates (get_or numbers a 0) held.0 (database_number numbers c) held.1 named
 
     -- and so is a path
-    reach-map : {a b : ℕ} → Reaches (edges crates) a b → Reaches (crate_edges new.crates) (number_at numbers a) (number_at numbers b)
+    reach-map : {a b : ℕ} → Reaches (edges crates) a b → Reaches (crate_edges new.crates) (database_number numbers a) (database_number numbers b)
     reach-map itself = itself
     reach-map (further edge rest) = further (step-map _ _ edge) (reach-map rest)
 
     -- the source of an edge that is held has a number
-    source-at : (krate : ℕ) (input : CrateInput) → input_at new.crates numbers krate ≡ Some input → (krate < length numbers) × (input_in new.crates (number_at numbers krate) ≡ Some input)
+    source-at : (krate : ℕ) (input : CrateInput) → input_at new.crates numbers krate ≡ Some input → (krate < length numbers) × (input_in new.crates (database_number numbers krate) ≡ Some input)
     source-at krate input is = by (slice_get numbers krate) refl
       where
-        by : (found : Option ℕ) → slice_get numbers krate ≡ found → (krate < length numbers) × (input_in new.crates (number_at numbers krate) ≡ Some input)
+        by : (found : Option ℕ) → slice_get numbers krate ≡ found → (krate < length numbers) × (input_in new.crates (database_number numbers krate) ≡ Some input)
         by None none = let both : None ≡ Some input = sym (ap (option_and_then (input_in new.crates)) none) ∙ is in absurd (cc)
         by (Some number) at = (
           slice_get_within numbers krate number at,
@@ -296,13 +296,13 @@ module _ (cmp : Id → Id → Ordering) (crates : List CrateBuilder) (old new : 
     lacks_cycles e wants = (
       λ has reaches.
           let source = source-at e.source has.input has.source in
-          let listed : Contains new.listed (number_at numbers e.source) =
-          (are_listed.listed (number_at numbers e.source)).1 (e.source, source.0, get_or_default numbers e.source (number_at numbers e.source) 0 source.0) in
-          let place = found-in new.listed (number_at numbers e.source) listed in
+          let listed : Contains new.listed (database_number numbers e.source) =
+          (are_listed.listed (database_number numbers e.source)).1 (e.source, source.0, get_or_default numbers e.source (database_number numbers e.source) 0 source.0) in
+          let place = found-in new.listed (database_number numbers e.source) listed in
           let named = dep-named has.input.crate_data.dependencies (renamed_dep numbers e.dep) has.has in
-          let before = lists_in_order.behind place.0 (number_at numbers e.source) (number_at numbers e.dep.target) has.input place.2 source.1 named in
+          let before = lists_in_order.behind place.0 (database_number numbers e.source) (database_number numbers e.dep.target) has.input place.2 source.1 named in
           let back = reach-back before.0 before.2 reaches in
-          let one = once-place new.listed lists_in_order.once back.0 place.0 (number_at numbers e.source) back.2 place.2 in
+          let one = once-place new.listed lists_in_order.once back.0 place.0 (database_number numbers e.source) back.2 place.2 in
           omega (arith, back.1, before.1, one),
       λ apart.
           let has : HasDep crates e = subst (λ cs. HasDep cs e) same ((is.missing e wants).1 (λ reaches. apart (reach-map (subst (λ cs. Reaches (edges cs) e.dep.target e.source) same reaches)))) in
@@ -326,5 +326,5 @@ module _ (cmp : Id → Id → Ordering) (crates : List CrateBuilder) (old new : 
 
 -- as a flush has it
 pub shows_project : (cmp : Id → Id → Ordering) (p : ProjectContent) (files : List (ℕ × PathContent)) (graph : Graph) (old new : Database) (ids : tree.BTreeMap Id ℕ)
-    → IsSetInDb cmp graph.crates old new ids → IsGraphOf p files graph → ShowsProject new p files
+    → IsSetInDb cmp graph.crates old new ids → IsProjectGraph p files graph → ShowsProject new p files
 shows_project cmp p files graph old new ids set is = shows_project_in cmp graph.crates old new ids set p files graph refl is

@@ -19,7 +19,7 @@ use Rattle.live_page.specs.declared.event.Event.TheVariants.{Answer, Flush, Load
 use Rattle.live.specs.declared.fault.LiveError.{LiveError}
 use Rattle.live.specs.declared.fault.LiveError.TheVariants.{OutOfMemory, TooMany, WriteFault}
 use Rattle.live.specs.declared.session.Live.{Live}
-use Rattle.live.specs.Fault.{IsOneOf, IsRefusal, of_load_error, of_project_error, status_of, turn_statuses}
+use Rattle.live.specs.Fault.{IsOneOf, IsRefusal, live_error_of_load, of_project_error, status_of, turn_statuses}
 use Rattle.live.specs.Marked.{AddsAnswer, FailsLoad, IsLoadRefusal, LoadsProject, TakesProject, sources_kept}
 use Rattle.live.specs.Session.{State, load_turn, loaded_turn, sources_of, state_after_failure, turn}
 use Rattle.live.specs.Turn.{EndsTurn, Holds, LeavesAsWas, TakesTurn}
@@ -147,7 +147,7 @@ refused_ends live live' path s error held h same r =
       holds = holds;
     })
   where
-    no-load_fault : (error : LoadError) → of_load_error error ≡ WriteFault → ⊥
+    no-load_fault : (error : LoadError) → live_error_of_load error ≡ WriteFault → ⊥
     no-load_fault (load.NoSuchFile path) e = cc
     no-load_fault (load.CargoMetadata stderr) e = cc
     no-load_fault (load.Io line) e = cc
@@ -177,7 +177,7 @@ fails_load live live' path (Err error) held event is (inr refused) same = λ s h
 
 -- ---- causes
 
-refusal-status : (error : LoadError) → IsOneOf turn_statuses (status_of (of_load_error error))
+refusal-status : (error : LoadError) → IsOneOf turn_statuses (status_of (live_error_of_load error))
 refusal-status (load.NoSuchFile path) = refl
 refusal-status (load.CargoMetadata stderr) = refl
 refusal-status (load.Io line) = refl
@@ -195,7 +195,7 @@ project-status (project.Refused error) = refusal-status error
 project-status project.OutOfMemory = refl
 
 -- the limit of bytes is none of a load's
-load-limit : (error : LoadError) → NamesLoadLimit (project.Refused error) → of_load_error error ≡ TooMany Bytes → ⊥
+load-limit : (error : LoadError) → NamesLoadLimit (project.Refused error) → live_error_of_load error ≡ TooMany Bytes → ⊥
 load-limit (load.NoSuchFile path) names e = cc
 load-limit (load.CargoMetadata stderr) names e = cc
 load-limit (load.Io line) names e = cc

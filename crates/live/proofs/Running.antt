@@ -8,7 +8,7 @@ use Rattle.base_text_outside.specs.declared.limits.Limit.TheVariants.{Bytes}
 use Rattle.base_text.specs.Lines.{has_newline, partial_line, whole_lines}
 use Rattle.base_text.specs.Reader.{IsCut, IsFrontOf}
 use Rattle.base_text.proofs.LineEnds.{lines_of-whole, whole_lines-uncut}
-use Rattle.live_page.specs.Reader.{Breaks, Gave, IsPast, Reader, Tells, bytes_ahead, fresh}
+use Rattle.live_page.specs.Reader.{BreaksScript, GaveScriptLines, IsPast, ScriptReader, TellsScriptLine, bytes_ahead, fresh}
 use Rattle.live_page.specs.declared.lines.LineError.{LineError}
 use Rattle.live_page.specs.declared.lines.LineError.TheVariants.{ReadFault as ReadFault', TooMany as TooMany', OutOfMemory as OutOfMemory', Ended}
 use Rattle.live_page.proofs.Gaves.{Gave-fresh}
@@ -17,7 +17,7 @@ use Rattle.live.specs.declared.fault.LiveError.{LiveError}
 use Rattle.live.specs.declared.fault.LiveError.TheVariants.{OutOfMemory, Usage, ReadFault, WriteFault, Script, BadManifest, NoSuchFile, Io, CargoMetadata, NoJson, Json, NotAbsolute, UnknownPackage, BadCrateName, NoParent, NoCargoProject, TooMany}
 use Rattle.live_page.specs.Event.{event}
 use Rattle.live.specs.Fault.{IsOneOf, IsRefusal, fault_of, line_statuses, run_statuses, status_of}
-use Rattle.live.specs.Run.{Completes, EndsRun, Fails, Finishes, HasCause, Leaves, Ran, Stops, TakesAtMost, WereWhole}
+use Rattle.live.specs.Run.{Completes, EndsRun, Fails, Finishes, HasStatusCause, LeavesRun, Ran, Stops, TakesAtMost, WereWhole}
 use Rattle.live.specs.Session.{State, Outcome, lines_within, session, state_after_line, turn_of, turns}
 use Rattle.live.specs.Turn.{EndsLine, EndsTurn, FailsTurn, Holds, KeepsNames, TakesTurn}
 use Rattle.live.specs.Written.{AppendsFront, HasWriteCause}
@@ -28,9 +28,9 @@ use Rattle.live.proofs.Statuses.{among}
 use Rattle.live.proofs.Deciding.{Front-session, Ran-within, Stops-limit, Stops-session, session-within}
 
 -- between two lines: these lines were given, and their turns were taken
-pub record Running (lives : Live × Live) (left held : Option (List ℕ) × Option (List ℕ)) (limit : ℕ) (lines : Reader × ℕ) : Type 0 where
+pub record Running (lives : Live × Live) (left held : Option (List ℕ) × Option (List ℕ)) (limit : ℕ) (lines : ScriptReader × ℕ) : Type 0 where
   pub given : List (List ℕ)
-  pub gave : Gave limit left.0 left.1 given lines.0
+  pub gave : GaveScriptLines limit left.0 left.1 given lines.0
   pub ran : (s : State) → Holds lives.0 s → Ran (turns s given) lives.1 held
   pub numbered : (s : State) → Holds lives.0 s → lines.1 ≡ (turns s given).lines
   pub few : lines.1 + bytes_ahead lines.0 ≤ limit
@@ -40,7 +40,7 @@ pub record Running (lives : Live × Live) (left held : Option (List ℕ) × Opti
   pub small : limit ≤ 2 ^ 30
   pub names : KeepsNames ⊥ lives.0 lives.1
 
-module _ (limit : ℕ) (left₀ left : Option (List ℕ)) (given : List (List ℕ)) (reader : Reader) (gave : Gave limit left₀ left given reader) where
+module _ (limit : ℕ) (left₀ left : Option (List ℕ)) (given : List (List ℕ)) (reader : ScriptReader) (gave : GaveScriptLines limit left₀ left given reader) where
   -- at most one byte past the limit was taken
   beyond_few : (past : Bool) → IsPast past reader.room gave.beyond → length gave.beyond ≤ 1
   beyond_few false none = omega (arith, ap length none)
@@ -54,7 +54,7 @@ module _ (limit : ℕ) (left₀ left : Option (List ℕ)) (given : List (List �
   }
 
   -- where a read failed, the lines that were given are those that were whole in the bytes taken
-  pub Whole-gave : (before now : ℕ) → Breaks reader before now → WereWhole given (left₀, left)
+  pub Whole-gave : (before now : ℕ) → BreaksScript reader before now → WereWhole given (left₀, left)
   Whole-gave before now breaks =
       let cut : IsCut false gave.front (reader.waiting ++ gave.beyond) left = subst (λ d. IsCut d gave.front (reader.waiting ++ gave.beyond) left) breaks.not_done gave.cut in
       let none : IsPast false reader.room gave.beyond = subst (λ p. IsPast p reader.room gave.beyond) breaks.not_past gave.past in
@@ -143,8 +143,8 @@ Running-start live left held limit same small = record {
 }
 
 -- the one refusal of a reader is that of too many bytes
-refusal_of : (P : LiveError → Type 0) (Z : Type 0) (fault : LineError) (error : LiveError) (old new : Reader) (before now : ℕ) → fault_of fault ≡ Some error
-    → Tells {Z = Z} (Err fault) old new before now → ((new.is_past ≡ true) × (has_newline new.waiting ≡ false) → P (TooMany Bytes)) → IsRefusal error → P error
+refusal_of : (P : LiveError → Type 0) (Z : Type 0) (fault : LineError) (error : LiveError) (old new : ScriptReader) (before now : ℕ) → fault_of fault ≡ Some error
+    → TellsScriptLine {Z = Z} (Err fault) old new before now → ((new.is_past ≡ true) × (has_newline new.waiting ≡ false) → P (TooMany Bytes)) → IsRefusal error → P error
 refusal_of P Z ReadFault' error old new before now is told past refusal =
     let same : ReadFault ≡ error = cc in let r : IsRefusal ReadFault = subst IsRefusal (sym same) refusal in absurd (omega (arith, r))
 refusal_of P Z TooMany' error old new before now is told past refusal = let same : TooMany Bytes ≡ error = cc in subst P same (past told)
@@ -153,19 +153,19 @@ refusal_of P Z OutOfMemory' error old new before now is told past refusal =
 refusal_of P Z Ended error old new before now is told past refusal = let none : None ≡ Some error = is in absurd (cc)
 
 -- the cause of a line that was not given
-pub cause_next : (Z : Type 0) (fault : LineError) (error : LiveError) (old new : Reader) (before now reads writes writes' : ℕ) → fault_of fault ≡ Some error
-    → Tells {Z = Z} (Err fault) old new before now → reads ≤ before → HasCause run_statuses (status_of error) (reads, now) (writes, writes')
+pub cause_next : (Z : Type 0) (fault : LineError) (error : LiveError) (old new : ScriptReader) (before now reads writes writes' : ℕ) → fault_of fault ≡ Some error
+    → TellsScriptLine {Z = Z} (Err fault) old new before now → reads ≤ before → HasStatusCause run_statuses (status_of error) (reads, now) (writes, writes')
 cause_next Z ReadFault' error old new before now reads writes writes' is told later =
     let same : ReadFault ≡ error = cc in
-    subst (λ e. HasCause run_statuses (status_of e) (reads, now) (writes, writes')) same
+    subst (λ e. HasStatusCause run_statuses (status_of e) (reads, now) (writes, writes')) same
     (record { only = refl; read = λ _. Rose-after reads before now later told.rose; write = λ e. absurd (omega arith) })
 cause_next Z TooMany' error old new before now reads writes writes' is told later =
     let same : TooMany Bytes ≡ error = cc in
-    subst (λ e. HasCause run_statuses (status_of e) (reads, now) (writes, writes')) same
+    subst (λ e. HasStatusCause run_statuses (status_of e) (reads, now) (writes, writes')) same
     (record { only = refl; read = λ e. absurd (omega arith); write = λ e. absurd (omega arith) })
 cause_next Z OutOfMemory' error old new before now reads writes writes' is told later =
     let same : OutOfMemory ≡ error = cc in
-    subst (λ e. HasCause run_statuses (status_of e) (reads, now) (writes, writes')) same
+    subst (λ e. HasStatusCause run_statuses (status_of e) (reads, now) (writes, writes')) same
     (record { only = refl; read = λ e. absurd (omega arith); write = λ e. absurd (omega arith) })
 cause_next Z Ended error old new before now reads writes writes' is told later = let none : None ≡ Some error = is in absurd (cc)
 
@@ -196,7 +196,7 @@ write_fault NoCargoProject e = absurd (omega arith)
 write_fault (TooMany limit) e = absurd (omega arith)
 
 pub cause_line : (error : LiveError) (reads reads' writes mid writes' : ℕ) → HasWriteCause {T = Unit {0}} (Err error) line_statuses (mid, writes') → writes ≤ mid
-    → HasCause run_statuses (status_of error) (reads, reads') (writes, writes')
+    → HasStatusCause run_statuses (status_of error) (reads, reads') (writes, writes')
 cause_line error reads reads' writes mid writes' cause later = record {
   only = wider error cause.only;
   read = λ e. absurd (no_read error cause.only e);
@@ -204,8 +204,8 @@ cause_line error reads reads' writes mid writes' cause later = record {
 }
 
 -- a read fault is that of a read that failed
-broken : (Z : Type 0) (fault : LineError) (error : LiveError) (old new : Reader) (before now : ℕ) → fault_of fault ≡ Some error → Tells {Z = Z} (Err fault) old new before now
-    → error ≡ ReadFault → Breaks new before now
+broken : (Z : Type 0) (fault : LineError) (error : LiveError) (old new : ScriptReader) (before now : ℕ) → fault_of fault ≡ Some error → TellsScriptLine {Z = Z} (Err fault) old new before now
+    → error ≡ ReadFault → BreaksScript new before now
 broken Z ReadFault' error old new before now is told e = told
 broken Z TooMany' error old new before now is told e = let both : Some (TooMany Bytes) ≡ Some ReadFault = is ∙ ap Some e in cc
 broken Z OutOfMemory' error old new before now is told e = let both : Some OutOfMemory ≡ Some ReadFault = is ∙ ap Some e in cc
@@ -220,7 +220,7 @@ no_write_next Ended error is e = let none : None ≡ Some WriteFault = is ∙ ap
 
 -- with no fault an error is out of memory or the session's refusal
 pub completes_err : (o : Outcome) (error : LiveError) (live : Live) (old new : Option (List ℕ)) (reads reads' writes writes' : ℕ) → Fails o error live (old, new)
-    → HasCause run_statuses (status_of error) (reads, reads') (writes, writes') → (Rose reads reads' → ⊥) → (Rose writes writes' → ⊥) → Completes o.refusal (Err error)
+    → HasStatusCause run_statuses (status_of error) (reads, reads') (writes, writes') → (Rose reads reads' → ⊥) → (Rose writes writes' → ⊥) → Completes o.refusal (Err error)
 completes_err o OutOfMemory live old new reads reads' writes writes' fails cause read write = inl refl
 completes_err o Usage live old new reads reads' writes writes' fails cause read write = let only : false ≡ true = cause.only in absurd (cc)
 completes_err o ReadFault live old new reads reads' writes writes' fails cause read write = absurd (read (cause.read refl))
@@ -244,12 +244,12 @@ pub completes_ok : (s : State) (all : List ℕ) (live : Live) (left₀ left held
 completes_ok s all live left₀ left held₀ held known finishes =
     subst (λ bs. (session s bs).refusal ≡ None) (sym (Knows-all left₀ left all finishes.bytes known finishes.read finishes.at_end)) finishes.ran.accepted
 
-module _ (live₀ : Live) (left₀ left held₀ held : Option (List ℕ)) (limit : ℕ) (reader : Reader) (number : ℕ) (live : Live) (run : Running (live₀, live) (left₀, left) (held₀, held) limit (reader, number)) where
+module _ (live₀ : Live) (left₀ left held₀ held : Option (List ℕ)) (limit : ℕ) (reader : ScriptReader) (number : ℕ) (live : Live) (run : Running (live₀, live) (left₀, left) (held₀, held) limit (reader, number)) where
   limit_of : (s : State) → Holds live₀ s → limit ≡ s.config.limits.bytes
   limit_of s h = run.is_limit ∙ ap (λ c. c.limits.bytes) h.config
 
   -- the end of the source
-  module _ (left' : Option (List ℕ)) (reader' : Reader) (gave' : Gave limit left₀ left' run.given reader') where
+  module _ (left' : Option (List ℕ)) (reader' : ScriptReader) (gave' : GaveScriptLines limit left₀ left' run.given reader') where
     pub Takes-next : TakesAtMost (live₀.config.limits.bytes + 1) (left₀, left')
     Takes-next = subst (λ n. TakesAtMost (n + 1) (left₀, left')) run.is_limit (Takes-gave limit left₀ left' run.given reader' gave')
 
@@ -257,7 +257,7 @@ module _ (live₀ : Live) (left₀ left held₀ held : Option (List ℕ)) (limit
     Finishes-end done s h = Finishes-gave limit left₀ left' run.given reader' gave' s live held₀ held done (limit_of s h) (run.ran s h)
 
     -- a line that was not given
-    Fails-next : (Z : Type 0) (fault : LineError) (error : LiveError) (before now : ℕ) → fault_of fault ≡ Some error → Tells {Z = Z} (Err fault) reader reader' before now
+    Fails-next : (Z : Type 0) (fault : LineError) (error : LiveError) (before now : ℕ) → fault_of fault ≡ Some error → TellsScriptLine {Z = Z} (Err fault) reader reader' before now
         → (s : State) → Holds live₀ s → (all : List ℕ) → left₀ ≡ Some all → Fails (session s all) error live (held₀, held)
     Fails-next Z fault error before now is told s h all known =
         let front = Front-gave limit left₀ left' run.given reader' gave' s all live held₀ held known (limit_of s h) (AppendsFront-all held₀ held _ (run.ran s h).appended) in
@@ -267,7 +267,7 @@ module _ (live₀ : Live) (left₀ left held₀ held : Option (List ℕ)) (limit
 
     -- the lines before it are those of the script, and their state is held
     Leaves-next : (error : LiveError) → (error ≡ WriteFault → ⊥) → (error ≡ ReadFault → WereWhole run.given (left₀, left')) → (s : State) → Holds live₀ s → (all : List ℕ) → left₀ ≡ Some all
-        → Leaves s all error live (left₀, left') (held₀, held)
+        → LeavesRun s all error live (left₀, left') (held₀, held)
     Leaves-next error other whole s h all known =
         let ran = run.ran s h in record {
           taken = run.given;
@@ -283,7 +283,7 @@ module _ (live₀ : Live) (left₀ left held₀ held : Option (List ℕ)) (limit
           read = λ e. (refl, whole e);
         }
 
-    pub Ends-next : (Z : Type 0) (fault : LineError) (error : LiveError) (before now : ℕ) → fault_of fault ≡ Some error → Tells {Z = Z} (Err fault) reader reader' before now
+    pub Ends-next : (Z : Type 0) (fault : LineError) (error : LiveError) (before now : ℕ) → fault_of fault ≡ Some error → TellsScriptLine {Z = Z} (Err fault) reader reader' before now
         → (s : State) → Holds live₀ s → (all : List ℕ) → left₀ ≡ Some all → EndsRun s all error live (left₀, left') (held₀, held)
     Ends-next Z fault error before now is told s h all known = record {
       fails = Fails-next Z fault error before now is told s h all known;
@@ -292,7 +292,7 @@ module _ (live₀ : Live) (left₀ left held₀ held : Option (List ℕ)) (limit
     }
 
   -- a line that was given
-  module _ (left' : Option (List ℕ)) (reader' : Reader) (line : List ℕ) (gave' : Gave limit left₀ left' (run.given ++ line ∷ []) reader') where
+  module _ (left' : Option (List ℕ)) (reader' : ScriptReader) (line : List ℕ) (gave' : GaveScriptLines limit left₀ left' (run.given ++ line ∷ []) reader') where
     pub Takes-line : TakesAtMost (live₀.config.limits.bytes + 1) (left₀, left')
     Takes-line = subst (λ n. TakesAtMost (n + 1) (left₀, left')) run.is_limit (Takes-gave limit left₀ left' (run.given ++ line ∷ []) reader' gave')
 

@@ -7,20 +7,20 @@ use Rattle.std.specs.Str.{is_utf8}
 use Rattle.vfs_core.specs.declared.marks.Mark.{Mark}
 use Rattle.vfs_core.specs.declared.marks.MarkKind.TheVariants.{Out}
 use Rattle.vfs_core.specs.Texts.{all_pass, contents_pass}
-use Rattle.vfs_core.specs.Files.{Files, is_change_at, kind_of, number_of}
+use Rattle.vfs_core.specs.Files.{Files, is_change_at, kind_of, path_number}
 use Rattle.vfs_core.specs.VfsPath.{PathContent}
-use Rattle.live.specs.LiveTexts.{AddsMark, KeepsTexts, TakesContents, TakesExclusion, with_text}
+use Rattle.live.specs.LiveTexts.{AddsMark, KeepsTexts, TakesContents, TakesExclusion, with_row_text}
 use Rattle.live.proofs.TextRows.{KeepsTexts_out, KeepsTexts_put}
 
 module _ (old new : Files) (rows after : List (Option (List ℕ))) (path : PathContent) where
   -- a text, or none, that came for a path, by what was done to the files and to the rows
   pub put_adds : (text bytes shared : Option (List ℕ)) → bytes ≡ text → shared ≡ text
-      → after ≡ with_text rows (number_of old path) (is_change_at old path bytes) shared → TakesContents old new path bytes
+      → after ≡ with_row_text rows (path_number old path) (is_change_at old path bytes) shared → TakesContents old new path bytes
       → contents_pass is_utf8 bytes ≡ true → AddsMark old new rows after (record { path = path; kind = kind_of text })
   put_adds text bytes shared same_bytes same_text rows_are takes valid =
-      let is : after ≡ with_text rows (number_of old path) (is_change_at old path text) text =
-      rows_are ∙ ap (λ t. with_text rows (number_of old path) (is_change_at old path t) shared) same_bytes
-      ∙ ap (λ t. with_text rows (number_of old path) (is_change_at old path text) t) same_text in
+      let is : after ≡ with_row_text rows (path_number old path) (is_change_at old path text) text =
+      rows_are ∙ ap (λ t. with_row_text rows (path_number old path) (is_change_at old path t) shared) same_bytes
+      ∙ ap (λ t. with_row_text rows (path_number old path) (is_change_at old path text) t) same_text in
       let takes_text : TakesContents old new path text = subst (TakesContents old new path) same_bytes takes in
       record {
         limit = takes.limit;
@@ -33,7 +33,7 @@ module _ (old new : Files) (rows after : List (Option (List ℕ))) (path : PathC
       }
 
   -- a path that was left out
-  pub exclude_adds : after ≡ with_text rows (number_of old path) true None → TakesExclusion old new path
+  pub exclude_adds : after ≡ with_row_text rows (path_number old path) true None → TakesExclusion old new path
       → AddsMark old new rows after (record { path = path; kind = Out })
   exclude_adds rows_are takes = record {
     limit = takes.limit;

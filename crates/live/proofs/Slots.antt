@@ -3,7 +3,7 @@ use Rattle.std.proofs.Common.{◌≡◌, ℕ, zero, suc, List, [], ◌∷◌, So
 use Rattle.std.specs.List.{IsDistinct}
 use Rattle.std.specs.Map.{keys_of}
 use Rattle.vfs_core.specs.declared.file_state.FileState.{FileState}
-use Rattle.vfs_core.specs.Files.{Files, number_of, paths_of}
+use Rattle.vfs_core.specs.Files.{Files, path_number, paths_of}
 use Rattle.vfs_core.specs.VfsPath.{PathContent, vfs_path_eq}
 use Rattle.vfs_core.proofs.NumberLemmas.{keys_at, number_of_path, path_of_number}
 
@@ -22,11 +22,11 @@ entry_at (first ∷ rest) (suc number) path h =
     let later = entry_at rest number path h in record { state = later.state; entry = later.entry }
 
 -- the number of a path is the place of an entry of it
-pub slot_of : (files : Files) (path : PathContent) (number : ℕ) → number_of files path ≡ Some number → HasEntry files.entries number path
+pub slot_of : (files : Files) (path : PathContent) (number : ℕ) → path_number files path ≡ Some number → HasEntry files.entries number path
 slot_of files path number h = entry_at files.entries number path (path_of_number path (paths_of files) number h)
 
 -- so the place of an entry is the number of its path
 pub number_is : (files : Files) (number : ℕ) (entry : PathContent × FileState) → IsDistinct vfs_path_eq (paths_of files)
-    → slice_get files.entries number ≡ Some entry → number_of files entry.0 ≡ Some number
+    → slice_get files.entries number ≡ Some entry → path_number files entry.0 ≡ Some number
 number_is files number entry distinct h =
     number_of_path (paths_of files) number entry.0 distinct (keys_at files.entries number entry.0 entry.1 h)

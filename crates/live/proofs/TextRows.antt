@@ -12,7 +12,7 @@ use Rattle.vfs_core.specs.declared.marks.Mark.{Mark}
 use Rattle.vfs_core.specs.declared.marks.MarkKind.{MarkKind}
 use Rattle.vfs_core.specs.declared.marks.MarkKind.TheVariants.{Out}
 use Rattle.vfs_core.specs.FileState.{is_change, state_of}
-use Rattle.vfs_core.specs.Files.{Files, Follows, is_change_at, kind_of, number_of, paths_of, state_at}
+use Rattle.vfs_core.specs.Files.{Files, Follows, is_change_at, kind_of, path_number, paths_of, state_at}
 use Rattle.vfs_core.specs.Hash.{content_hash}
 use Rattle.vfs_core.specs.Marks.{is_out, kept_text, live_text_after, live_text, mentioned_paths, merged_text, same_hash, with_path}
 use Rattle.vfs_core.specs.VfsPathOrder.{vfs_path_eq-same, vfs_path_equiv}
@@ -20,7 +20,7 @@ use Rattle.vfs_core.specs.VfsPath.{PathContent, vfs_path_eq}
 use Rattle.vfs_core.proofs.FileLemmas.{position-in}
 use Rattle.live.proofs.Existing.{file_by, mentioned_paths-distinct}
 use Rattle.vfs_core.proofs.MarkLemmas.{live_text_mark}
-use Rattle.live.specs.LiveTexts.{KeepsTexts, files_kept, rows_of, with_text}
+use Rattle.live.specs.LiveTexts.{KeepsTexts, files_kept, text_rows, with_row_text}
 use Rattle.live.specs.Page.{LiveFile}
 use Rattle.live.specs.Session.{numbered_files}
 
@@ -37,7 +37,7 @@ kept_rows f number [] (place ∷ more) = refl
 kept_rows f number (place ∷ places) more = kept_cons number place (places ++ more) (f place) (map f places) _ (kept_rows f (number + 1) places more)
 
 -- and so they are the live files
-pub kept_live : (marks : List Mark) (more : List PathContent) → files_kept 0 (mentioned_paths marks ++ more) (rows_of marks) ≡ numbered_files marks
+pub kept_live : (marks : List Mark) (more : List PathContent) → files_kept 0 (mentioned_paths marks ++ more) (text_rows marks) ≡ numbered_files marks
 kept_live marks more = kept_rows (live_text marks) 0 (mentioned_paths marks) more
 
 -- more paths than rows keep no more files
@@ -173,7 +173,7 @@ told_none false None h = refl
 told_none false (Some text) h = cc
 
 -- and no text
-unnamed_none : (files : Files) (marks : List Mark) (place : PathContent) → Follows files marks → number_of files place ≡ None → live_text marks place ≡ None
+unnamed_none : (files : Files) (marks : List Mark) (place : PathContent) → Follows files marks → path_number files place ≡ None → live_text marks place ≡ None
 unfolding live_text
 unnamed_none files marks place follows none =
     let behind : length (paths_of files) ≤ position_or_len (vfs_path_eq place) (paths_of files) = past (paths_of files) (nat_lt (position_or_len (vfs_path_eq place) (paths_of files)) (length (paths_of files))) refl none in
@@ -223,28 +223,28 @@ module _ (path : PathContent) (kind : MarkKind) (marks : List Mark) where
 
   rows_split : (number : Option ℕ) (is_changed : Bool) (contents : Option (List ℕ)) → position (vfs_path_eq path) (mentioned_paths marks) ≡ number
       → (is_changed ≡ true → next ≡ contents) → (is_changed ≡ false → next ≡ live_text marks path) → (number ≡ None → live_text marks path ≡ None)
-      → with_text (rows_of marks) number is_changed contents ≡ rows_of (mark ∷ marks)
+      → with_row_text (text_rows marks) number is_changed contents ≡ text_rows (mark ∷ marks)
   rows_split (Some number) true contents at changed same none =
-      ap (λ v. set (rows_of marks) number v) (sym (changed refl)) ∙ sym (rows_known (live_text marks) (live_text (mark ∷ marks)) path next at_own at_other (mentioned_paths marks) number (mentioned_paths-distinct marks) at)
+      ap (λ v. set (text_rows marks) number v) (sym (changed refl)) ∙ sym (rows_known (live_text marks) (live_text (mark ∷ marks)) path next at_own at_other (mentioned_paths marks) number (mentioned_paths-distinct marks) at)
   rows_split (Some number) false contents at changed same none =
       sym (ap (map (live_text (mark ∷ marks))) (known_place path (mentioned_paths marks) number at) ∙ map_same (live_text marks) (live_text (mark ∷ marks)) (at_each (same refl)) (mentioned_paths marks))
   rows_split None true contents at changed same none =
-      ap (λ v. rows_of marks ++ v ∷ []) (sym (changed refl)) ∙ sym (rows_new (live_text marks) (live_text (mark ∷ marks)) path next at_own at_other (mentioned_paths marks) at)
+      ap (λ v. text_rows marks ++ v ∷ []) (sym (changed refl)) ∙ sym (rows_new (live_text marks) (live_text (mark ∷ marks)) path next at_own at_other (mentioned_paths marks) at)
   rows_split None false contents at changed same none =
-      ap (λ v. rows_of marks ++ v ∷ []) (sym (same refl ∙ none refl)) ∙ sym (rows_new (live_text marks) (live_text (mark ∷ marks)) path next at_own at_other (mentioned_paths marks) at)
+      ap (λ v. text_rows marks ++ v ∷ []) (sym (same refl ∙ none refl)) ∙ sym (rows_new (live_text marks) (live_text (mark ∷ marks)) path next at_own at_other (mentioned_paths marks) at)
 
 -- a text, or none, that comes for a path
 pub KeepsTexts_put : (old new : Files) (rows : List (Option (List ℕ))) (path : PathContent) (contents : Option (List ℕ)) (marks : List Mark)
     → KeepsTexts old rows marks → Follows new (record { path = path; kind = kind_of contents } ∷ marks)
-    → KeepsTexts new (with_text rows (number_of old path) (is_change_at old path contents) contents) (record { path = path; kind = kind_of contents } ∷ marks)
+    → KeepsTexts new (with_row_text rows (path_number old path) (is_change_at old path contents) contents) (record { path = path; kind = kind_of contents } ∷ marks)
 unfolding live_text
 KeepsTexts_put old new rows path contents marks keeps follows =
     let told : state_at old path ≡ cond (is_out marks path) Excluded (state_of (kept_text marks path)) = keeps.follows.states path in
-    let number : position (vfs_path_eq path) (mentioned_paths marks) ≡ number_of old path = ap (position (vfs_path_eq path)) (sym keeps.follows.numbers) in
+    let number : position (vfs_path_eq path) (mentioned_paths marks) ≡ path_number old path = ap (position (vfs_path_eq path)) (sym keeps.follows.numbers) in
     record {
       follows = follows;
-      texts = ap (λ r. with_text r (number_of old path) (is_change_at old path contents) contents) keeps.texts
-          ∙ rows_split path (kind_of contents) marks (number_of old path) (is_change_at old path contents) contents number
+      texts = ap (λ r. with_row_text r (path_number old path) (is_change_at old path contents) contents) keeps.texts
+          ∙ rows_split path (kind_of contents) marks (path_number old path) (is_change_at old path contents) contents number
           (λ h. told_change contents (is_out marks path) (kept_text marks path) (ap (λ s. is_change s contents) (sym told) ∙ h))
           (λ h. told_same contents (is_out marks path) (kept_text marks path) (ap (λ s. is_change s contents) (sym told) ∙ h))
           (unnamed_none old marks path keeps.follows);
@@ -253,16 +253,16 @@ KeepsTexts_put old new rows path contents marks keeps follows =
 -- a path that is left out
 pub KeepsTexts_out : (old new : Files) (rows : List (Option (List ℕ))) (path : PathContent) (marks : List Mark)
     → KeepsTexts old rows marks → Follows new (record { path = path; kind = Out } ∷ marks)
-    → KeepsTexts new (with_text rows (number_of old path) true None) (record { path = path; kind = Out } ∷ marks)
+    → KeepsTexts new (with_row_text rows (path_number old path) true None) (record { path = path; kind = Out } ∷ marks)
 KeepsTexts_out old new rows path marks keeps follows =
-    let number : position (vfs_path_eq path) (mentioned_paths marks) ≡ number_of old path = ap (position (vfs_path_eq path)) (sym keeps.follows.numbers) in
+    let number : position (vfs_path_eq path) (mentioned_paths marks) ≡ path_number old path = ap (position (vfs_path_eq path)) (sym keeps.follows.numbers) in
     record {
       follows = follows;
-      texts = ap (λ r. with_text r (number_of old path) true None) keeps.texts
-          ∙ rows_split path Out marks (number_of old path) true None number (λ h. refl) (λ h. cc) (unnamed_none old marks path keeps.follows);
+      texts = ap (λ r. with_row_text r (path_number old path) true None) keeps.texts
+          ∙ rows_split path Out marks (path_number old path) true None number (λ h. refl) (λ h. cc) (unnamed_none old marks path keeps.follows);
     }
 
 -- what the rows keep is what lives, whatever paths come later
 pub files_kept-live : (files : Files) (rows : List (Option (List ℕ))) (marks : List Mark) (more : List PathContent) → KeepsTexts files rows marks → files_kept 0 (paths_of files ++ more) rows ≡ numbered_files marks
 files_kept-live files rows marks more keeps =
-    ap (λ r. files_kept 0 (paths_of files ++ more) r) keeps.texts ∙ ap (λ ps. files_kept 0 (ps ++ more) (rows_of marks)) keeps.follows.numbers ∙ kept_live marks more
+    ap (λ r. files_kept 0 (paths_of files ++ more) r) keeps.texts ∙ ap (λ ps. files_kept 0 (ps ++ more) (text_rows marks)) keeps.follows.numbers ∙ kept_live marks more

@@ -18,7 +18,7 @@ use Rattle.live.specs.declared.fault.StepError.TheVariants.{Refused}
 use Rattle.live.specs.declared.session.Live.{Live}
 use Rattle.live.specs.Fault.{IsOneOf, flush_statuses, line_statuses, status_of, turn_statuses}
 use Rattle.live.specs.Marked.{AddsMarkTo}
-use Rattle.live_page.specs.Refresh.{KeepsCrates}
+use Rattle.live_page.specs.Refresh.{KeepsDatabaseCrates}
 use Rattle.live.specs.Session.{State, ended_state, flush_turn, mark_turn, state_after_failure, state_after_line, turn, turn_of}
 use Rattle.live.specs.Turn.{EndsLine, EndsTurn, Holds, LeavesAsWas, TakesTurn}
 use Rattle.live.specs.Written.{HasWriteCause}
@@ -71,7 +71,7 @@ marks_cause (Ok done) count only = record { later = omega arith; only = tt; writ
 marks_cause (Err error) count only = mark_cause error count only
 
 -- a database that is as it was has its crates
-pub crates_same : (old new : Database) → new ≡ old → KeepsCrates old new
+pub crates_same : (old new : Database) → new ≡ old → KeepsDatabaseCrates old new
 crates_same old new same = record {
   crates = ap (λ d. d.crates) same;
   listed = ap (λ d. d.listed) same;

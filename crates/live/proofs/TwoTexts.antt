@@ -32,7 +32,7 @@ use Rattle.live_project.specs.Project.{ProjectContent, read_sources}
 use Rattle.live_project.specs.declared.project_error.ProjectError.{ProjectError}
 use Rattle.live_project.specs.declared.project_error.ProjectError.TheVariants as project
 use Rattle.live_project.specs.declared.sources.Sources.{Sources}
-use Rattle.live.specs.Fault.{of_load_error}
+use Rattle.live.specs.Fault.{live_error_of_load}
 use Rattle.live.specs.Page.{Flush as FlushContent, crates_of_flush}
 
 -- the pieces of a text, the first of which goes on a piece before it
@@ -100,7 +100,7 @@ mark_turn-split : (s : State) (path : PathContent) (kind : MarkKind) (lines : �
 mark_turn-split s path kind lines true e = rw e refl
 mark_turn-split s path kind lines false e = rw e refl
 
-refusal-counted : (lines : ℕ) (error : LoadError) → counted_on lines (of_load_error error) ≡ of_load_error error
+refusal-counted : (lines : ℕ) (error : LoadError) → counted_on lines (live_error_of_load error) ≡ live_error_of_load error
 refusal-counted lines (load.NoSuchFile path) = refl
 refusal-counted lines (load.CargoMetadata stderr) = refl
 refusal-counted lines (load.Io line) = refl

@@ -12,7 +12,7 @@ use Rattle.live_config.specs.declared.config.Command.{Command}
 use Rattle.live_config.specs.declared.config.Command.TheVariants.{Run}
 use Rattle.live_config.specs.Config.{command_of}
 use Rattle.live.specs.Fault.{IsOneOf, IsRefusal, all_statuses, run_statuses, status_of, word_statuses}
-use Rattle.live.specs.Run.{Completes, FailsFrom, Finishes, HasCause, TakesAtMost}
+use Rattle.live.specs.Run.{Completes, FailsFrom, Finishes, HasStatusCause, TakesAtMost}
 use Rattle.live.specs.Session.{State, session}
 use Rattle.live.specs.Turn.{KeepsNames}
 use Rattle.live.proofs.Names.{names_wider}
@@ -100,18 +100,18 @@ wider_status (NoParent text) = refl
 wider_status NoCargoProject = refl
 wider_status (TooMany limit) = refl
 
-pub cause_words : (error : LiveError) (reads reads' writes writes' : ℕ) → HasCause run_statuses (status_of error) (reads, reads') (writes, writes')
-    → HasCause word_statuses (status_of error) (reads, reads') (writes, writes')
+pub cause_words : (error : LiveError) (reads reads' writes writes' : ℕ) → HasStatusCause run_statuses (status_of error) (reads, reads') (writes, writes')
+    → HasStatusCause word_statuses (status_of error) (reads, reads') (writes, writes')
 cause_words error reads reads' writes writes' cause = record { only = wider_words error cause.only; read = cause.read; write = cause.write }
 
-pub cause_status : (error : LiveError) (reads reads' writes writes' : ℕ) → HasCause word_statuses (status_of error) (reads, reads') (writes, writes')
-    → HasCause all_statuses (status_of error) (reads, reads') (writes, writes')
+pub cause_status : (error : LiveError) (reads reads' writes writes' : ℕ) → HasStatusCause word_statuses (status_of error) (reads, reads') (writes, writes')
+    → HasStatusCause all_statuses (status_of error) (reads, reads') (writes, writes')
 cause_status error reads reads' writes writes' cause = record { only = wider_status error; read = cause.read; write = cause.write }
 
-pub cause_result : (error : LiveError) (status reads reads' writes writes' : ℕ) → status ≡ status_of error → HasCause word_statuses (status_of error) (reads, reads') (writes, writes')
-    → HasCause all_statuses status (reads, reads') (writes, writes')
+pub cause_result : (error : LiveError) (status reads reads' writes writes' : ℕ) → status ≡ status_of error → HasStatusCause word_statuses (status_of error) (reads, reads') (writes, writes')
+    → HasStatusCause all_statuses status (reads, reads') (writes, writes')
 cause_result error status reads reads' writes writes' is cause =
-    subst (λ n. HasCause all_statuses n (reads, reads') (writes, writes')) (sym is) (cause_status error reads reads' writes writes' cause)
+    subst (λ n. HasStatusCause all_statuses n (reads, reads') (writes, writes')) (sym is) (cause_status error reads reads' writes writes' cause)
 
 -- what holds of each outcome
 pub on_ok : {T E A B : Type 0} (result : Result T E) → (A → B) → OnOk result A → OnOk result B
@@ -123,7 +123,7 @@ if_err (Ok x) more h = tt
 if_err (Err e) more h = more e h
 
 -- a run is not of wrong words
-no_usage : (result : Result (Unit {0}) LiveError) (reads reads' writes writes' : ℕ) → IfErr result (λ e. HasCause run_statuses (status_of e) (reads, reads') (writes, writes'))
+no_usage : (result : Result (Unit {0}) LiveError) (reads reads' writes writes' : ℕ) → IfErr result (λ e. HasStatusCause run_statuses (status_of e) (reads, reads') (writes, writes'))
     → IsErrOf result Usage → ⊥
 no_usage (Ok done) reads reads' writes writes' cause e = cc
 no_usage (Err error) reads reads' writes writes' cause e =
@@ -131,7 +131,7 @@ no_usage (Err error) reads reads' writes writes' cause e =
     let only : IsOneOf run_statuses 2 = subst (λ x. IsOneOf run_statuses (status_of x)) is cause.only in cc
 
 pub usage_given : {U : Type 0} (words : List (String Global)) (config : LiveConfig) (result : Result (Unit {0}) LiveError) (reads reads' writes writes' : ℕ) → command_of (texts_of words) ≡ Some (Run config)
-    → IfErr result (λ e. HasCause run_statuses (status_of e) (reads, reads') (writes, writes')) → UsageError (command_of (texts_of words)) result U
+    → IfErr result (λ e. HasStatusCause run_statuses (status_of e) (reads, reads') (writes, writes')) → UsageError (command_of (texts_of words)) result U
 usage_given words config result reads reads' writes writes' given cause = record {
   only = λ e. absurd (no_usage result reads reads' writes writes' cause e);
   always = λ none. let both : Some (Run config) ≡ None = sym given ∙ none in absurd (cc);

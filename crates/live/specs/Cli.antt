@@ -10,7 +10,7 @@ use Rattle.live.specs.declared.fault.LiveError.TheVariants.{OutOfMemory, Usage}
 use Rattle.live_config.specs.declared.config.Command.{Command}
 use Rattle.live_config.specs.declared.config.Command.TheVariants.{Run}
 use Rattle.live_config.specs.Config.{command_of}
-use Rattle.live.specs.Fault.{status_of, text_of}
+use Rattle.live.specs.Fault.{status_of, live_error_text}
 use Rattle.live.specs.Run.{Completes, FailsFrom, Finishes, TakesAtMost}
 use Rattle.live.specs.Session.{State, session}
 use Rattle.live.specs.Turn.{Holds, KeepsNames}
@@ -48,7 +48,7 @@ pub record FailsAs (words : List (String Global)) (status : ℕ) (lives : Live �
   pub error : LiveError
   pub reports : status_of error ≡ status
   pub answer : Result (Unit {0}) SinkError
-  pub told : TellsLine answer (text_of error) outputs.1 faults
+  pub told : TellsLine answer (live_error_text error) outputs.1 faults
   pub fails : (s : State) → Holds lives.0 s → FailsFor (state_for words s) error lives.1 left outputs.0
 
 -- the source gave at most one byte more than the words' limit

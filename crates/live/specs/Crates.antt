@@ -4,7 +4,7 @@ use Rattle.std.specs.Prelude.{◌≡◌, ◌↔◌, ℕ, ◌<◌, List, [], leng
 use Rattle.std.specs.List.{Contains, IsDistinct}
 use Rattle.std.specs.Option.{option_and_then, option_map}
 use Rattle.graph_base.specs.Reach.{Reaches}
-use Rattle.crate_graph_values.specs.CrateData.{prelude_of, sysroot_of}
+use Rattle.crate_graph_values.specs.CrateData.{prelude_of, is_of_sysroot}
 use Rattle.crate_graph_values.specs.declared.crate_data.Dependency.{Dependency}
 use Rattle.input_db.specs.Database.{Database}
 use Rattle.input_db.specs.Identity.{Table, crate_edges, input_in, named_in}
@@ -27,8 +27,8 @@ pub record ListsInOrder (db : Database) : Type 0 where
 -- ---- the crates of a project
 
 -- the number in a database of a crate of a project
-abbrev pub number_at : List ℕ → ℕ → ℕ
-number_at numbers krate = slice_index_or numbers krate 0
+abbrev pub database_number : List ℕ → ℕ → ℕ
+database_number numbers krate = slice_index_or numbers krate 0
 
 -- what a database holds of a crate of a project
 abbrev pub input_at : Table → List ℕ → ℕ → Option CrateInput
@@ -36,11 +36,11 @@ input_at table numbers krate = option_and_then (input_in table) (slice_get numbe
 
 -- a dependency with its crate's number in a database
 abbrev pub renamed_dep : List ℕ → Dep → Dep
-renamed_dep numbers dep = record dep { target = number_at numbers dep.target }
+renamed_dep numbers dep = record dep { target = database_number numbers dep.target }
 
 -- a dependency as a database has it
 abbrev pub dep_held : Dependency ℕ → Dep
-dep_held dep = record { name = dep.name; target = dep.crate_id; prelude = prelude_of dep; sysroot = sysroot_of dep }
+dep_held dep = record { name = dep.name; target = dep.crate_id; prelude = prelude_of dep; sysroot = is_of_sysroot dep }
 
 -- what a database holds of a crate: the file that it begins in, and its dependencies
 abbrev pub crate_held : CrateInput → ℕ × List Dep
@@ -51,7 +51,7 @@ abbrev pub crate_renamed : List ℕ → Crate → ℕ × List Dep
 crate_renamed numbers krate = (krate.root, map (renamed_dep numbers) krate.deps)
 
 -- the crates of a project are those that a database lists: each has a number there, under which the database holds it
-pub record AreListed (db : Database) (numbers : List ℕ) (crates : List Crate) : Type 0 where
+pub record AreInDatabase (db : Database) (numbers : List ℕ) (crates : List Crate) : Type 0 where
   pub every : length numbers ≡ length crates
   pub listed : (krate : ℕ) → Contains db.listed krate ↔ Contains numbers krate
   pub held : (place : ℕ) (krate : Crate) → slice_get crates place ≡ Some krate
@@ -68,14 +68,14 @@ pub record HasDepIn (table : Table) (numbers : List ℕ) (e : Edge) : Type 0 whe
 -- a wanted edge is a dependency exactly where its target does not reach its source
 abbrev pub LacksCyclesIn : List Edge → Database → List ℕ → Type 0
 LacksCyclesIn edges db numbers = (e : Edge) → Contains edges e
-    → HasDepIn db.crates numbers e ↔ (Reaches (crate_edges db.crates) (number_at numbers e.dep.target) (number_at numbers e.source) → ⊥)
+    → HasDepIn db.crates numbers e ↔ (Reaches (crate_edges db.crates) (database_number numbers e.dep.target) (database_number numbers e.source) → ⊥)
 
 -- a database shows the crates that a project has by these files
 pub record ShowsProject (db : Database) (p : ProjectContent) (files : List (ℕ × PathContent)) : Type 0 where
   pub crates : List Crate
   pub lowers : project_crates p files ≡ Ok crates
   pub numbers : List ℕ
-  pub are : AreListed db numbers crates
+  pub are : AreInDatabase db numbers crates
   pub missing : LacksCyclesIn (project_edges p files) db numbers
 
 -- and none where no project was loaded

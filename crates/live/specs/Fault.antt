@@ -47,24 +47,24 @@ limit_name Targets = codes "targets"
 limit_name Crates = codes "crates"
 
 -- the text that reports an error
-unfoldable pub text_of : LiveError → List ℕ
-text_of OutOfMemory = codes "out of memory"
-text_of Usage = codes "usage: live [options] or live generate N"
-text_of ReadFault = codes "read fault"
-text_of WriteFault = codes "write fault"
-text_of (Script line) = codes "script line " ++ decimal line
-text_of (BadManifest path) = codes "bad manifest: " ++ path
-text_of (NoSuchFile path) = codes "no such file: " ++ path
-text_of (Io line) = codes "cannot start: " ++ line
-text_of (CargoMetadata stderr) = codes "cargo metadata failed: " ++ stderr
-text_of NoJson = codes "no json in the metadata answer"
-text_of (Json field) = codes "bad json at " ++ field
-text_of (NotAbsolute text) = codes "not absolute: " ++ text
-text_of (UnknownPackage id) = codes "unknown package: " ++ id
-text_of (BadCrateName name) = codes "bad crate name: " ++ name
-text_of (NoParent text) = codes "no parent: " ++ text
-text_of NoCargoProject = codes "no cargo project"
-text_of (TooMany limit) = codes "too many " ++ limit_name limit
+unfoldable pub live_error_text : LiveError → List ℕ
+live_error_text OutOfMemory = codes "out of memory"
+live_error_text Usage = codes "usage: live [options] or live generate N"
+live_error_text ReadFault = codes "read fault"
+live_error_text WriteFault = codes "write fault"
+live_error_text (Script line) = codes "script line " ++ decimal line
+live_error_text (BadManifest path) = codes "bad manifest: " ++ path
+live_error_text (NoSuchFile path) = codes "no such file: " ++ path
+live_error_text (Io line) = codes "cannot start: " ++ line
+live_error_text (CargoMetadata stderr) = codes "cargo metadata failed: " ++ stderr
+live_error_text NoJson = codes "no json in the metadata answer"
+live_error_text (Json field) = codes "bad json at " ++ field
+live_error_text (NotAbsolute text) = codes "not absolute: " ++ text
+live_error_text (UnknownPackage id) = codes "unknown package: " ++ id
+live_error_text (BadCrateName name) = codes "bad crate name: " ++ name
+live_error_text (NoParent text) = codes "no parent: " ++ text
+live_error_text NoCargoProject = codes "no cargo project"
+live_error_text (TooMany limit) = codes "too many " ++ limit_name limit
 
 -- the name that an error prints
 abbrev pub live_error_name : LiveError → List ℕ
@@ -94,22 +94,22 @@ step_error_text Ended = codes "Ended"
 -- ---- refusals of the crates below
 
 -- why a project is not read
-abbrev pub of_load_error : LoadError → LiveError
-of_load_error (load.NoSuchFile path) = NoSuchFile path
-of_load_error (load.CargoMetadata stderr) = CargoMetadata stderr
-of_load_error (load.Io line) = Io line
-of_load_error (load.Json field) = Json field
-of_load_error load.NoJson = NoJson
-of_load_error (load.NotAbsolute text) = NotAbsolute text
-of_load_error (load.NoParent text) = NoParent text
-of_load_error (load.UnknownPackage id) = UnknownPackage id
-of_load_error (load.TooMany limit) = TooMany limit
-of_load_error load.OutOfMemory = OutOfMemory
+abbrev pub live_error_of_load : LoadError → LiveError
+live_error_of_load (load.NoSuchFile path) = NoSuchFile path
+live_error_of_load (load.CargoMetadata stderr) = CargoMetadata stderr
+live_error_of_load (load.Io line) = Io line
+live_error_of_load (load.Json field) = Json field
+live_error_of_load load.NoJson = NoJson
+live_error_of_load (load.NotAbsolute text) = NotAbsolute text
+live_error_of_load (load.NoParent text) = NoParent text
+live_error_of_load (load.UnknownPackage id) = UnknownPackage id
+live_error_of_load (load.TooMany limit) = TooMany limit
+live_error_of_load load.OutOfMemory = OutOfMemory
 
 -- why no project is loaded
 abbrev pub of_project_error : ProjectError → LiveError
 of_project_error (project.BadManifest path) = BadManifest path
-of_project_error (project.Refused error) = of_load_error error
+of_project_error (project.Refused error) = live_error_of_load error
 of_project_error project.OutOfMemory = OutOfMemory
 
 -- why a build gives no outputs

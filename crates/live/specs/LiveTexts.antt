@@ -13,18 +13,18 @@ use Rattle.live_project.specs.Sources.{with_kept_file}
 use Rattle.live.specs.Page.{LiveFile}
 
 -- the row of each path that marks speak of: the text of its file, where the file lives
-abbrev pub rows_of : List Mark → List (Option (List ℕ))
-rows_of marks = map (live_text marks) (mentioned_paths marks)
+abbrev pub text_rows : List Mark → List (Option (List ℕ))
+text_rows marks = map (live_text marks) (mentioned_paths marks)
 
 -- files and rows of texts are what marks make of them
 pub record KeepsTexts (files : Files) (rows : List (Option (List ℕ))) (marks : List Mark) : Type 0 where
   pub follows : Follows files marks
-  pub texts : rows ≡ rows_of marks
+  pub texts : rows ≡ text_rows marks
 
 -- the rows after a text, or none, came for the path of a number, or for a path that has no number yet
-abbrev pub with_text : List (Option (List ℕ)) → Option ℕ → Bool → Option (List ℕ) → List (Option (List ℕ))
-with_text rows None is_changed text = rows ++ (if is_changed then text else None) ∷ []
-with_text rows (Some number) is_changed text = if is_changed then set rows number text else rows
+abbrev pub with_row_text : List (Option (List ℕ)) → Option ℕ → Bool → Option (List ℕ) → List (Option (List ℕ))
+with_row_text rows None is_changed text = rows ++ (if is_changed then text else None) ∷ []
+with_row_text rows (Some number) is_changed text = if is_changed then set rows number text else rows
 
 -- the files whose texts stand in rows, by the paths of their numbers, which count from here on; a path behind the rows has no file
 abbrev pub files_kept : ℕ → List PathContent → List (Option (List ℕ)) → List LiveFile
@@ -34,8 +34,8 @@ files_kept number (place ∷ places) (None ∷ rows) = files_kept (number + 1) p
 files_kept number (place ∷ places) (Some text ∷ rows) = record { number = number; path = place; text = text } ∷ files_kept (number + 1) places rows
 
 -- the text in the row of a number
-abbrev pub text_at : List (Option (List ℕ)) → ℕ → Option (List ℕ)
-text_at rows number = option_and_then (λ text. text) (slice_get rows number)
+abbrev pub row_text : List (Option (List ℕ)) → ℕ → Option (List ℕ)
+row_text rows number = option_and_then (λ text. text) (slice_get rows number)
 
 -- the files of a tree, with one more where its row has a text; a virtual path is in no tree
 abbrev pub with_row : tree.TreeFiles → PathContent → Option (List ℕ) → tree.TreeFiles
@@ -44,7 +44,7 @@ with_row files path (Some text) = with_kept_file files (path, text)
 
 -- the tree of these files, by the rows of their numbers
 unfoldable pub kept_by : List (Option (List ℕ)) → List (ℕ × PathContent) → tree.TreeFiles
-kept_by rows files = fold (λ kept file. with_row kept file.1 (text_at rows file.0)) [] files
+kept_by rows files = fold (λ kept file. with_row kept file.1 (row_text rows file.0)) [] files
 
 -- contents, or a deletion where there are none, came for a path
 pub record TakesContents (old new : Files) (path : PathContent) (contents : Option (List ℕ)) : Type 0 where

@@ -67,4 +67,4 @@ entries flush crates = entries_of (path_by (numbers_of_flush flush)) (map node_s
 
 -- the page of a flush with these crates
 unfoldable pub page : Flush → List Crate → List ℕ
-page flush crates = placed.page (roots_by flush.project) (paths_of_flush flush) (entries flush crates)
+page flush crates = placed.page_of_entries (roots_by flush.project) (paths_of_flush flush) (entries flush crates)

@@ -23,7 +23,7 @@ use Rattle.live.specs.Page.{crates_by, roots_by}
 
 -- a graph has the crates of a project by these files, each begins in one of them, and a wanted edge is a dependency exactly where its
 -- target does not reach its source
-pub record IsGraphOf (p : ProjectContent) (files : List (ℕ × PathContent)) (graph : Graph) : Type 0 where
+pub record IsProjectGraph (p : ProjectContent) (files : List (ℕ × PathContent)) (graph : Graph) : Type 0 where
   pub crates : project_crates p files ≡ Ok (map crate_seen graph.crates)
   pub begins : BeginIn files graph.crates
   pub missing : LacksCyclesAlone (project_edges p files) graph.crates
@@ -32,7 +32,7 @@ pub record IsGraphOf (p : ProjectContent) (files : List (ℕ × PathContent)) (g
 abbrev pub IsGraphBy : Option ProjectContent → List (ℕ × PathContent) → Option Graph → Type 0
 IsGraphBy None files graph = graph ≡ None
 IsGraphBy (Some p) files None = ⊥
-IsGraphBy (Some p) files (Some graph) = IsGraphOf p files graph
+IsGraphBy (Some p) files (Some graph) = IsProjectGraph p files graph
 
 -- a call gives that graph, or the refusal of the project's crates
 abbrev pub GivesGraph : Option ProjectContent → List (ℕ × PathContent) → Result (Option Graph) LowerError → Type 0

@@ -58,7 +58,7 @@ pub record WereWhole (lines : List (List ℕ)) (left : StreamBytes) : Type 0 whe
 -- what a run leaves that failed with no refusal of its session: it took some first lines of the script whole, and the next one may have
 -- failed. The state of these lines is held, as the failed line leaves it; their pages were appended, and then a front of those of the
 -- failed line, not all of them after a write fault. A read fault comes between two lines, after all that were whole in the bytes taken
-pub record Leaves (s : State) (all : List ℕ) (error : LiveError) (live : Live) (left held : StreamBytes) : Type 0 where
+pub record LeavesRun (s : State) (all : List ℕ) (error : LiveError) (live : Live) (left held : StreamBytes) : Type 0 where
   pub taken : List (List ℕ)
   pub next : Option (List ℕ)
   pub first : IsFrontOf (taken ++ next_lines next) (lines_within s.config.limits.bytes all)
@@ -74,7 +74,7 @@ pub record Leaves (s : State) (all : List ℕ) (error : LiveError) (live : Live)
 -- an error ends a run: it ends the session, and where it is no refusal this is what the run leaves
 pub record EndsRun (s : State) (all : List ℕ) (error : LiveError) (live : Live) (left held : StreamBytes) : Type 0 where
   pub fails : Fails (session s all) error live held
-  pub leaves : ¬ IsRefusal error → Leaves s all error live left held
+  pub leaves : ¬ IsRefusal error → LeavesRun s all error live left held
 
 -- the same of the bytes that a source has left, where it shows them
 abbrev pub EndsFrom : State → LiveError → Live → StreamBytes → StreamBytes → Type 0
@@ -94,7 +94,7 @@ pub record TakesAtMost (most : ℕ) (left : StreamBytes) : Type 0 where
   pub few : length bytes ≤ most
 
 -- a status is one of these, and a fault rose in the source or the sink where it reports one
-pub record HasCause (statuses : List ℕ) (status : ℕ) (reads writes : Counts) : Type 0 where
+pub record HasStatusCause (statuses : List ℕ) (status : ℕ) (reads writes : Counts) : Type 0 where
   pub only : IsOneOf statuses status
   pub read : status ≡ 3 → Rose reads.0 reads.1
   pub write : status ≡ 4 → Rose writes.0 writes.1

@@ -6,7 +6,7 @@ use Rattle.vfs_core.specs.Texts.{BringsTo, all_pass}
 use Rattle.vfs_core.specs.Files.{KeepsNumbers, existing_files, paths_of}
 use Rattle.vfs_core.specs.VfsPath.{PathContent}
 use Rattle.vfs_sets.specs.Probes.{RaisesAtMost, most_probes}
-use Rattle.live_page.specs.Refresh.{KeepsCrates, KeepsIdentities}
+use Rattle.live_page.specs.Refresh.{KeepsDatabaseCrates, KeepsIdentities}
 use Rattle.live_page.specs.Shape.{image, texts_known}
 use Rattle.live_config.specs.Config.{first_config}
 use Rattle.live_page.specs.Event.{event}
@@ -135,7 +135,7 @@ pub record LeavesAsWas (event : Event) (failed : Bool) (Memory : Type 0) (old ne
   pub config : new.config ≡ old.config
   pub database : (event ≡ FlushEvent → ⊥) → new.db ≡ old.db
   pub all : failed ≡ true → (event ≡ FlushEvent → ⊥) → new ≡ old
-  pub crates : failed ≡ false → old.project ≡ None → KeepsCrates old.db new.db
+  pub crates : failed ≡ false → old.project ≡ None → KeepsDatabaseCrates old.db new.db
   pub probes : (event ≡ FlushEvent → ⊥) → new.probes ≡ old.probes
   pub counts : event ≡ FlushEvent → CountsFlush old new
   pub going : failed ≡ false → new.ended ≡ old.ended

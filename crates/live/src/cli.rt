@@ -3,8 +3,8 @@
 ghost use Rattle.std.specs.Prelude.{◌≡◌, ℕ, List, IfErr, IsErrOf, OnOk, Some};
 ghost use Rattle.live.specs.Cli.{CompletesAs, CompletesFor, FailsAs, FailsFor, FinishesAs, KeepsAlways, TakesFor, UsageError, UsageExactly, state_for, texts_of};
 ghost use Rattle.live_config.specs.Config.{command_of};
-ghost use Rattle.live.specs.Fault.{all_statuses, status_of, text_of, word_statuses};
-ghost use Rattle.live.specs.Run.{HasCause, IsFaultless};
+ghost use Rattle.live.specs.Fault.{all_statuses, status_of, live_error_text, word_statuses};
+ghost use Rattle.live.specs.Run.{HasStatusCause, IsFaultless};
 ghost use Rattle.live.specs.Session.{State};
 ghost use Rattle.live.specs.Turn.{HasEnded, Holds, KeepsNames};
 ghost use Rattle.live.specs.Written.{TellsLine};
@@ -33,7 +33,7 @@ pub fn live_cli<S: ByteSource, K: ByteSink, E: ByteSink>(
     ensures err { ¬ (result ≡ 0) → FailsAs words.now result (live.old, live.new)
         (S.left input.old) ((K.held out.old, K.held out.new), (E.held err.old, E.held err.new))
         (E.faults err.old, E.faults err.new) }
-    ensures cause { HasCause all_statuses result
+    ensures cause { HasStatusCause all_statuses result
         (S.faults input.old, S.faults input.new) (K.faults out.old, K.faults out.new) }
     ensures usage { UsageExactly (command_of (texts_of words.now)) result
         ((live.new ≡ live.old) × (input.new ≡ input.old) × (out.new ≡ out.old)) }
@@ -65,7 +65,7 @@ fn run_words<S: ByteSource, K: ByteSink>(
         live.new (S.left input.old, S.left input.new) (K.held out.old, K.held out.new)) }
     ensures err { IfErr result (λ e. (s : State) → Holds live.old s → FailsFor
         (state_for words.now s) e live.new (S.left input.old) (K.held out.old, K.held out.new)) }
-    ensures cause { IfErr result (λ e. HasCause word_statuses (status_of e)
+    ensures cause { IfErr result (λ e. HasStatusCause word_statuses (status_of e)
         (S.faults input.old, S.faults input.new) (K.faults out.old, K.faults out.new)) }
     ensures usage { UsageError (command_of (texts_of words.now)) result
         ((live.new ≡ live.old) × (input.new ≡ input.old) × (out.new ≡ out.old)) }
@@ -86,7 +86,7 @@ fn run_words<S: ByteSource, K: ByteSink>(
 
 /// Writes the text of an error and a newline. The line is made before any of it is written.
 pub fn tell<E: ByteSink>(alloc: Global, error: &LiveError, err: &mut E) -> Result<(), SinkError>
-    ensures { TellsLine result (text_of error.now)
+    ensures { TellsLine result (live_error_text error.now)
         (E.held err.old, E.held err.new) (E.faults err.old, E.faults err.new) }
 {
     let mut line = fault_text(alloc, error)?;

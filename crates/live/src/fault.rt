@@ -1,7 +1,7 @@
 //! What a run can meet, with its exit status and its text.
 
 ghost use Rattle.std.specs.Prelude.{◌≡◌, IfOk, string_bytes};
-ghost use Rattle.live.specs.Fault.{limit_name, status_of, text_of};
+ghost use Rattle.live.specs.Fault.{limit_name, status_of, live_error_text};
 
 use base_text::{Limit, Text, TryClone};
 use live_project::ProjectError;
@@ -107,9 +107,9 @@ impl<T: Drop> From<AllocFailed<T>> for LiveError {
 
 impl From<LoadError> for LiveError {
     ghost use Rattle.std.specs.Prelude.{◌≡◌};
-    ghost use Rattle.live.specs.Fault.{of_load_error};
+    ghost use Rattle.live.specs.Fault.{live_error_of_load};
 
-    ghost from_gives = { λ error e. e ≡ of_load_error error };
+    ghost from_gives = { λ error e. e ≡ live_error_of_load error };
 
     fn from(error: LoadError) -> Self {
         match error {
@@ -271,9 +271,9 @@ fn kind_text(limit: Limit) -> &'static str
 }
 
 /// One line of text for people, without a newline.
-#[tactic(auto, unfolding(crate::specs::Fault::text_of))]
+#[tactic(auto, unfolding(crate::specs::Fault::live_error_text))]
 pub fn fault_text(alloc: Global, error: &LiveError) -> Result<String, AllocError>
-    ensures { IfOk result (λ text. string_bytes text ≡ text_of error.now) }
+    ensures { IfOk result (λ text. string_bytes text ≡ live_error_text error.now) }
 {
     match error {
         LiveError::OutOfMemory => String::from_str(alloc, "out of memory"),

@@ -6,7 +6,7 @@ ghost use Rattle.vfs_core.specs.Files.{IsFullFor, bytes_of, kind_of};
 ghost use Rattle.vfs_core.specs.Texts.{contents_pass};
 ghost use Rattle.vfs_core.specs.declared.marks.MarkKind.TheVariants.{Out};
 ghost use Rattle.std.specs.Option.{option_copied};
-ghost use Rattle.live.specs.LiveTexts.{AddsMark, text_at};
+ghost use Rattle.live.specs.LiveTexts.{AddsMark, row_text};
 
 use crate::rows::Rows;
 use base_text::{FileId, SharedText, Text, TryClone};
@@ -48,7 +48,7 @@ impl LiveTexts {
 
     /// The text of the file of a number, where the file lives.
     pub fn text(&self, id: FileId) -> Option<&SharedText>
-        ensures { option_copied result ≡ text_at self.now id }
+        ensures { option_copied result ≡ row_text self.now id }
     {
         self.rows.text(id)
     }

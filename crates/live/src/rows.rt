@@ -2,9 +2,9 @@
 
 ghost use Rattle.std.specs.Prelude.{◌≡◌, ◌++◌, ◌<◌, ◌∷◌, [], IsErrOf, OnErr, OnOk, None, true, vec_len, vec_capacity};
 ghost use Rattle.std.proofs.Common.{set};
-ghost use Rattle.vfs_core.specs.Files.{IsFullFor, bytes_of, is_change_at, number_of};
+ghost use Rattle.vfs_core.specs.Files.{IsFullFor, bytes_of, is_change_at, path_number};
 ghost use Rattle.std.specs.Option.{option_copied};
-ghost use Rattle.live.specs.LiveTexts.{TakesContents, TakesExclusion, text_at, with_text};
+ghost use Rattle.live.specs.LiveTexts.{TakesContents, TakesExclusion, row_text, with_row_text};
 
 use base_text::{FileId, SharedText, TryClone};
 use std::alloc::{AllocError, Global};
@@ -52,7 +52,7 @@ impl Rows {
 
     /// The text of the file of a number, where the file lives.
     pub(crate) fn text(&self, id: FileId) -> Option<&SharedText>
-        ensures { option_copied result ≡ text_at self.now id }
+        ensures { option_copied result ≡ row_text self.now id }
     {
         match self.texts.get(id.index() as usize) {
             None => None,
@@ -68,8 +68,8 @@ impl Rows {
         contents: Option<Vec<u8>>,
         text: Option<SharedText>,
     ) -> Result<(), VfsError>
-        ensures rows { OnOk result (self.new ≡ with_text self.old
-            (number_of files.old path) (is_change_at files.old path (bytes_of contents)) text) }
+        ensures rows { OnOk result (self.new ≡ with_row_text self.old
+            (path_number files.old path) (is_change_at files.old path (bytes_of contents)) text) }
         ensures files { OnOk result (TakesContents files.old files.new path (bytes_of contents)) }
         ensures room { OnOk result (¬ (IsFullFor files.old path)) }
         ensures too_many { IsErrOf result VfsError.TooMany → IsFullFor files.old path }
@@ -80,8 +80,8 @@ impl Rows {
 
     /// Leaves a file out, and empties its row. Room is made first.
     pub(crate) fn exclude(&mut self, files: &mut Vfs, path: VfsPath) -> Result<(), VfsError>
-        ensures rows { OnOk result (self.new ≡ with_text self.old
-            (number_of files.old path) true None) }
+        ensures rows { OnOk result (self.new ≡ with_row_text self.old
+            (path_number files.old path) true None) }
         ensures files { OnOk result (TakesExclusion files.old files.new path) }
         ensures room { OnOk result (¬ (IsFullFor files.old path)) }
         ensures too_many { IsErrOf result VfsError.TooMany → IsFullFor files.old path }
@@ -99,8 +99,8 @@ fn put_row(
     contents: Option<Vec<u8>>,
     text: Option<SharedText>,
 ) -> Result<(), VfsError>
-    ensures rows { OnOk result (rows.new.items ≡ with_text rows.old.items
-        (number_of files.old path) (is_change_at files.old path (bytes_of contents)) text) }
+    ensures rows { OnOk result (rows.new.items ≡ with_row_text rows.old.items
+        (path_number files.old path) (is_change_at files.old path (bytes_of contents)) text) }
     ensures files { OnOk result (TakesContents files.old files.new path (bytes_of contents)) }
     ensures room { OnOk result (¬ (IsFullFor files.old path)) }
     ensures too_many { IsErrOf result VfsError.TooMany → IsFullFor files.old path }
@@ -127,7 +127,7 @@ fn exclude_row(
     path: VfsPath,
 ) -> Result<(), VfsError>
     ensures rows { OnOk result (rows.new.items
-        ≡ with_text rows.old.items (number_of files.old path) true None) }
+        ≡ with_row_text rows.old.items (path_number files.old path) true None) }
     ensures files { OnOk result (TakesExclusion files.old files.new path) }
     ensures room { OnOk result (¬ (IsFullFor files.old path)) }
     ensures too_many { IsErrOf result VfsError.TooMany → IsFullFor files.old path }

@@ -3,7 +3,7 @@
 ghost use Rattle.std.specs.Prelude.{◌≡◌, ◌+◌, ℕ, List, IfErr, IsErrOf, OnOk, Some};
 ghost use Rattle.live_page.specs.Event.{event};
 ghost use Rattle.live.specs.Fault.{fault_of, line_statuses, run_statuses, status_of};
-ghost use Rattle.live.specs.Run.{Completes, EndsFrom, Finishes, HasCause, IsFaultless, TakesAtMost};
+ghost use Rattle.live.specs.Run.{Completes, EndsFrom, Finishes, HasStatusCause, IsFaultless, TakesAtMost};
 ghost use Rattle.live.specs.Session.{State, session, turn_of};
 ghost use Rattle.live.specs.Turn.{EndsLine, HasEnded, Holds, KeepsNames, TakesTurn};
 ghost use Rattle.live.specs.Written.{HasWriteCause};
@@ -30,7 +30,7 @@ pub fn live_run<S: ByteSource, K: ByteSink>(
     ensures err { IfErr result (λ e. (s : State) → Holds live.old s
         → EndsFrom s e live.new (S.left input.old, S.left input.new)
         (K.held out.old, K.held out.new)) }
-    ensures cause { IfErr result (λ e. HasCause run_statuses (status_of e)
+    ensures cause { IfErr result (λ e. HasStatusCause run_statuses (status_of e)
         (S.faults input.old, S.faults input.new) (K.faults out.old, K.faults out.new)) }
     ensures taken { TakesAtMost (live.old.config.limits.bytes + 1)
         (S.left input.old, S.left input.new) }

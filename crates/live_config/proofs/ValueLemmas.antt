@@ -6,7 +6,7 @@ use Rattle.std.proofs.lemmas.List.Folds.{list_any_at}
 use Rattle.std.specs.List.{after_first, before_first, list_any, position_or_len, slice_split}
 use Rattle.base_text_outside.specs.Cfg.{is_equals}
 use Rattle.base_text_paths.specs.Paths.{components, is_absolute, path_text}
-use Rattle.live_config.specs.Values.{absolute_path, feature_names, is_comma, is_empty_text, variable_of}
+use Rattle.live_config.specs.Values.{absolute_option_path, feature_names, is_comma, is_empty_text, variable_of}
 use Rattle.base_values.proofs.Basics.{list_any-position}
 
 -- the names are those between commas
@@ -25,16 +25,16 @@ feature_names-none text name place within is empty =
     cond-true _ _ _ (list_any_at is_empty_text (slice_split is_comma text) place name within here)
 
 -- an absolute text gives its clean path
-pub absolute_path-is : (text path : List ℕ) → ((get_or text 0 0 ≡ 47 → ⊥) → ⊥) → path ≡ path_text (components text) → absolute_path text ≡ Some path
-unfolding absolute_path
+pub absolute_path-is : (text path : List ℕ) → ((get_or text 0 0 ≡ 47 → ⊥) → ⊥) → path ≡ path_text (components text) → absolute_option_path text ≡ Some path
+unfolding absolute_option_path
 absolute_path-is text path absolute is =
     let begins : is_absolute text ≡ true =
     elim (cases_eq (get_or text 0 0) 47) [ inl same ↦ eq-eqb (get_or text 0 0) 47 same | inr other ↦ absurd (absolute other) ] in
     cond-true _ _ _ begins ∙ ap Some (sym is)
 
 -- another one gives none
-pub absolute_path-none : (text : List ℕ) → (get_or text 0 0 ≡ 47 → ⊥) → absolute_path text ≡ None
-unfolding absolute_path
+pub absolute_path-none : (text : List ℕ) → (get_or text 0 0 ≡ 47 → ⊥) → absolute_option_path text ≡ None
+unfolding absolute_option_path
 absolute_path-none text other = cond-false _ _ _ (ne_eqb (get_or text 0 0) 47 other)
 
 -- a text without `=` is no variable

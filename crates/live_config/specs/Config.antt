@@ -2,7 +2,7 @@
 use Rattle.std.specs.Prelude.{◌≡◌, ℕ, List, [], Option, None, codes, unwrap_or, if◌then◌else◌}
 use Rattle.std.specs.Option.{option_map}
 use Rattle.live_config.specs.Limits.{FitsLimits, greatest}
-use Rattle.live_config.specs.Options.{options_of}
+use Rattle.live_config.specs.Options.{given_options}
 use Rattle.live_config.specs.declared.config.Command.{Command}
 use Rattle.live_config.specs.declared.config.Command.TheVariants.{Run}
 use Rattle.live_config.specs.declared.config.LiveConfig.{LiveConfig}
@@ -69,7 +69,7 @@ set_by given = record first_config {
 
 -- the configuration that words give
 unfoldable pub config_of : List (List ℕ) → Option LiveConfig
-config_of words = option_map set_by (options_of words)
+config_of words = option_map set_by (given_options words)
 
 -- what words ask for: to run a script with the configuration that they give
 abbrev pub command_of : List (List ℕ) → Option Command

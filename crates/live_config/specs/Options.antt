@@ -15,7 +15,7 @@ use Rattle.live_config.specs.declared.options.OptionForm.{OptionForm}
 use Rattle.live_config.specs.declared.options.OptionForm.TheVariants.{Flag, Valued}
 use Rattle.live_config.specs.declared.options.OptionRow.{OptionRow}
 use Rattle.live_config.specs.Limits.{greatest}
-use Rattle.live_config.specs.Values.{feature_names, number_up_to, with_extra, with_path, with_process}
+use Rattle.live_config.specs.Values.{feature_names, number_up_to, with_extra, with_option_path, with_process}
 
 -- a row of the table whose option is its word alone
 abbrev pub flag_row : LiveOption → OptionRow
@@ -26,8 +26,8 @@ abbrev pub valued_row : LiveOption → OptionRow
 valued_row option = record { option = option; form = Valued }
 
 -- the table of options, by their words
-unfoldable pub row_of : List ℕ → Option OptionRow
-row_of word =
+unfoldable pub option_row : List ℕ → Option OptionRow
+option_row word =
     if bytes_eq word (codes "--target") then Some (valued_row Target)
     else if bytes_eq word (codes "--features") then Some (valued_row Features)
     else if bytes_eq word (codes "--no-default-features") then Some (flag_row NoDefaultFeatures)
@@ -90,7 +90,7 @@ with_option given AllFeatures value =
     option_map (λ flag. record given { features = record given.features { all = flag } }) (with_flag given.features.all)
 with_option given NoDeps value = option_map (λ flag. record given { no_deps = flag }) (with_flag given.no_deps)
 with_option given ExtraInclude value =
-    option_map (λ paths. record given { extra_includes = paths }) (with_path given.extra_includes value)
+    option_map (λ paths. record given { extra_includes = paths }) (with_option_path given.extra_includes value)
 with_option given Env value = option_map (λ env. record given { env = env }) (with_extra given.env value)
 with_option given ProcessEnv value =
     option_map (λ env. record given { process_env = env }) (with_process given.process_env value)
@@ -112,7 +112,7 @@ options_from given None (word ∷ words) =
     (λ row. by_form row.form
     (option_and_then (λ more. options_from more None words) (with_option given row.option []))
     (options_from given (Some row.option) words))
-    (row_of word)
+    (option_row word)
 options_from given (Some option) (value ∷ words) =
     option_and_then (λ more. options_from more None words) (with_option given option value)
 
@@ -129,8 +129,8 @@ abbrev pub without_conflict : Given → Option Given
 without_conflict given = if has_conflict given.features then None else Some given
 
 -- the options that words give
-abbrev pub options_of : List (List ℕ) → Option Given
-options_of words = option_and_then without_conflict (with_options nothing_given words)
+abbrev pub given_options : List (List ℕ) → Option Given
+given_options words = option_and_then without_conflict (with_options nothing_given words)
 
 -- no limit that was given is above its greatest
 pub record FitsGiven (given : GivenLimits) : Type 0 where

@@ -30,12 +30,12 @@ feature_names text =
     if list_any is_empty_text (slice_split is_comma text) then None else Some (slice_split is_comma text)
 
 -- the clean path of a text that begins with `/`
-unfoldable pub absolute_path : List ℕ → Option (List ℕ)
-absolute_path text = if is_absolute text then Some (path_text (components text)) else None
+unfoldable pub absolute_option_path : List ℕ → Option (List ℕ)
+absolute_option_path text = if is_absolute text then Some (path_text (components text)) else None
 
 -- these paths and one more
-abbrev pub with_path : List (List ℕ) → List ℕ → Option (List (List ℕ))
-with_path paths text = option_map (λ path. paths ++ path ∷ []) (absolute_path text)
+abbrev pub with_option_path : List (List ℕ) → List ℕ → Option (List (List ℕ))
+with_option_path paths text = option_map (λ path. paths ++ path ∷ []) (absolute_option_path text)
 
 -- a name and a value, cut at the first `=`; the name is not empty
 unfoldable pub variable_of : List ℕ → Option (List ℕ × List ℕ)

@@ -2,7 +2,7 @@
 
 ghost use Rattle.std.specs.Prelude.{◌≡◌, ◌≤◌, IfOk, IfSome, IsErrOf, OnErr, OnOk, map, string_bytes, Some, None};
 ghost use Rattle.live_config.specs.Config.{features_by, limits_by, set_by};
-ghost use Rattle.live_config.specs.Options.{FitsGiven, flag_row, has_conflict, nothing_given, options_of, with_flag, row_of, set_once, split_texts, value_of, valued_row};
+ghost use Rattle.live_config.specs.Options.{FitsGiven, flag_row, has_conflict, nothing_given, given_options, with_flag, option_row, set_once, split_texts, value_of, valued_row};
 ghost use Rattle.live_config.specs.Options.{with_limit, with_option, with_options};
 ghost use Rattle.live_config.specs.Values.{number_up_to};
 
@@ -62,9 +62,9 @@ impl OptionRow {
 }
 
 // The row of a word in the table of options.
-#[tactic(auto, unfolding(crate::specs::Options::row_of))]
+#[tactic(auto, unfolding(crate::specs::Options::option_row))]
 fn row_of(word: &str) -> Option<OptionRow>
-    ensures { result ≡ row_of word.now }
+    ensures { result ≡ option_row word.now }
 {
     match word {
         "--target" => Some(OptionRow::with_value(LiveOption::Target)),
@@ -129,10 +129,10 @@ pub(crate) struct GivenLimits {
 
 // The options that the words give. All features exclude the other options of features.
 pub(crate) fn read_options(alloc: Global, words: &[String]) -> Result<Given, WordsError>
-    ensures ok { IfOk result (λ given. options_of (map string_bytes words.now) ≡ Some given) }
+    ensures ok { IfOk result (λ given. given_options (map string_bytes words.now) ≡ Some given) }
     ensures fits { IfOk result (λ given. FitsGiven given.limits) }
     ensures usage { IsErrOf result WordsError.Usage
-        → options_of (map string_bytes words.now) ≡ None }
+        → given_options (map string_bytes words.now) ≡ None }
 {
     let mut given = Given::new(alloc);
     given.read(alloc, words)?;

@@ -1,7 +1,7 @@
 //! What the values of options say.
 
 ghost use Rattle.std.specs.Prelude.{◌≡◌, ◌≤◌, IfOk, IsErrOf, OnOk, None, Some};
-ghost use Rattle.live_config.specs.Values.{absolute_path, feature_names, number_up_to, pair_texts, variable_of, with_extra, with_path, with_process};
+ghost use Rattle.live_config.specs.Values.{absolute_option_path, feature_names, number_up_to, pair_texts, variable_of, with_extra, with_option_path, with_process};
 
 use crate::config::WordsError;
 use base_text::{AbsPathBuf, ByText, Items, PathError, Text};
@@ -46,8 +46,8 @@ pub(crate) fn feature_names(alloc: Global, text: &str) -> Result<Items<Text>, Wo
 
 // The path of an absolute text.
 fn absolute_path(alloc: Global, text: &str) -> Result<AbsPathBuf, WordsError>
-    ensures ok { IfOk result (λ path. absolute_path text.now ≡ Some path) }
-    ensures usage { IsErrOf result WordsError.Usage → absolute_path text.now ≡ None }
+    ensures ok { IfOk result (λ path. absolute_option_path text.now ≡ Some path) }
+    ensures usage { IsErrOf result WordsError.Usage → absolute_option_path text.now ≡ None }
 {
     match AbsPathBuf::new(alloc, text) {
         Ok(path) => Ok(path),
@@ -62,8 +62,8 @@ pub(crate) fn push_path(
     paths: &mut Items<AbsPathBuf>,
     text: &str,
 ) -> Result<(), WordsError>
-    ensures ok { OnOk result (with_path paths.old text.now ≡ Some paths.new) }
-    ensures usage { IsErrOf result WordsError.Usage → with_path paths.old text.now ≡ None }
+    ensures ok { OnOk result (with_option_path paths.old text.now ≡ Some paths.new) }
+    ensures usage { IsErrOf result WordsError.Usage → with_option_path paths.old text.now ≡ None }
 {
     let path = absolute_path(alloc, text)?;
     let mut all = mem::replace(paths, Items::empty(alloc)).into_inner();

@@ -90,9 +90,9 @@ put-rising number (file ∷ files) front below up =
 
 -- the paths of a set that files are put into
 paths-put : (set : sets.FileSetContent) (files : List (ℕ × PathContent))
-    → (fold (λ s file. sets.with_file s file.0 file.1) set files).paths ≡ put_all set.paths files
+    → (fold (λ s file. sets.with_set_file s file.0 file.1) set files).paths ≡ put_all set.paths files
 paths-put set [] = refl
-paths-put set (file ∷ files) = paths-put (sets.with_file set file.0 file.1) files
+paths-put set (file ∷ files) = paths-put (sets.with_set_file set file.0 file.1) files
 
 -- the set of files whose numbers rise has them as its paths
 pub paths_of_set : (files : List (ℕ × PathContent)) → RisesFrom 0 files → (sets.set_of files).paths ≡ files

@@ -13,7 +13,7 @@ use Rattle.vfs_sets.specs.Partition.{IsPartition}
 use Rattle.input_db.specs.Applied.{database_after_change, with_roots_if_any}
 use Rattle.input_db.specs.Change.{IsChanged, SetsCrates, fits_file, is_in_some, is_root, keeps_root, local_after, library_after, place_after, place_given, root_after, root_given, text_after, text_given}
 use Rattle.input_db.specs.Database.{Database}
-use Rattle.input_db_files.specs.Files.{FileTables, durability_of_file, file_root_of, root_of, stored_place, stored_text, text_of}
+use Rattle.input_db_files.specs.Files.{FileTables, durability_of_file, file_root_of, source_root_at, stored_place, stored_text, text_of_file}
 use Rattle.crate_graph.specs.Extend.{Id}
 use Rattle.input_db_files.specs.SourceRoot.{has_file, root_durability}
 use Rattle.input_db.specs.declared.change.FileChange.{FileChange}
@@ -25,7 +25,7 @@ use Rattle.crate_graph.specs.Graph.{Graph}
 use Rattle.input_db.specs.SetInDb.{KeepsFiles}
 use Rattle.vfs_sets.specs.FileRoots.{root_lists}
 use Rattle.live_page.specs.SourceRoots.{source_roots}
-use Rattle.live_page.specs.Refresh.{GivesChanges, GivesCrates, GivesRoots, KeepsCrates, Refreshes, changes_taken, text_left}
+use Rattle.live_page.specs.Refresh.{GivesChanges, GivesCrates, GivesRoots, KeepsDatabaseCrates, Refreshes, changes_taken, text_left}
 use Rattle.vfs_sets.specs.declared.file_root.FileRoot.{FileRoot}
 
 -- a number is that of an item, where it is less than the length
@@ -70,11 +70,11 @@ placed_by number (root ∷ roots) file =
     (placed_by (suc number) roots file)
 
 -- after the roots were given a file has a root there exactly where it fits them before
-module _ (roots : List SourceRoot) (old now : FileTables) (roots_are : (number : ℕ) → root_of now number ≡ root_after roots old number) (places_are : (file : ℕ) → file_root_of now file ≡ place_after roots old file) where
+module _ (roots : List SourceRoot) (old now : FileTables) (roots_are : (number : ℕ) → source_root_at now number ≡ root_after roots old number) (places_are : (file : ℕ) → file_root_of now file ≡ place_after roots old file) where
   is_root-given : (number : ℕ) → is_root now [] number ≡ is_root old roots number
   is_root-given number =
       ap (λ (r : Option SourceRootInput). is_some r || nat_lt number 0) (roots_are number)
-      ∙ root-split (slice_get roots number) (root_of old number) number (length roots) (given-told roots number)
+      ∙ root-split (slice_get roots number) (source_root_at old number) number (length roots) (given-told roots number)
 
   -- the same by the place that the file had
   kept-split : (place : Option FileSourceRootInput)
@@ -95,7 +95,7 @@ module _ (roots : List SourceRoot) (old now : FileTables) (roots_are : (number :
   place-split file None apart = kept-split (file_root_of old file) ∙ rw apart refl
   place-split file (Some place) own =
       is_root-given place.source_root_id
-      ∙ there (is_some (root_of old place.source_root_id)) place.source_root_id (omega (arith, own.1))
+      ∙ there (is_some (source_root_at old place.source_root_id)) place.source_root_id (omega (arith, own.1))
       ∙ rw own.0 refl
 
   fits-given : (file : ℕ) → fits_file now [] file ≡ fits_file old roots file
@@ -111,13 +111,13 @@ module _ (roots : List SourceRoot) (old now : FileTables) (roots_are : (number :
       ap (λ test. map (λ (entry : ℕ × ChangedFile). (entry.0, text_left entry.1.change)) (filter test batch)) tests
 
 -- a database with the roots that are given has its crates
-ready-crates : (db : Database) (roots : Option (List SourceRoot)) → KeepsCrates db (with_roots_if_any db roots)
+ready-crates : (db : Database) (roots : Option (List SourceRoot)) → KeepsDatabaseCrates db (with_roots_if_any db roots)
 ready-crates db None = record { crates = refl; listed = refl; durability = refl; writes = refl }
 ready-crates db (Some roots) = record { crates = refl; listed = refl; durability = refl; writes = refl }
 
 -- and so has one to which a change without a graph was made
 module _ (cmp : Id → Id → Ordering) (change : FileChange) (old new : Database) (ids : Option (tree.BTreeMap Id ℕ)) where
-  crates-kept : change.crate_graph ≡ None → SetsCrates cmp change.crate_graph (database_after_change change old) new ids → KeepsCrates old new
+  crates-kept : change.crate_graph ≡ None → SetsCrates cmp change.crate_graph (database_after_change change old) new ids → KeepsDatabaseCrates old new
   crates-kept none steps =
       let set : (ids ≡ None) × (new ≡ database_after_change change old) =
       subst (λ g. SetsCrates cmp g (database_after_change change old) new ids) none steps in
@@ -144,13 +144,13 @@ module _ (roots : List SourceRoot) (batch : List (ℕ × ChangedFile)) (old plac
   abbrev both : FileChange
   both = record second.change { roots = Some roots }
 
-  roots-placed : (number : ℕ) → root_of placed.files number ≡ root_after roots old.files number
+  roots-placed : (number : ℕ) → source_root_at placed.files number ≡ root_after roots old.files number
   roots-placed number = first.changed.roots number ∙ ap (λ r. root_after (unwrap_or r []) old.files number) first.given
 
   places-placed : (file : ℕ) → file_root_of placed.files file ≡ place_after roots old.files file
   places-placed file = first.changed.places file ∙ ap (λ r. place_after (unwrap_or r []) old.files file) first.given
 
-  texts-placed : (file : ℕ) → text_of placed.files file ≡ text_of old.files file
+  texts-placed : (file : ℕ) → text_of_file placed.files file ≡ text_of_file old.files file
   texts-placed file = first.changed.texts file ∙ ap (λ c. text_after c old.files placed.files file) first.no_file
 
   pub both-taken : both.files_changed ≡ changes_taken old.files roots batch
@@ -176,7 +176,7 @@ module _ (roots : List SourceRoot) (batch : List (ℕ × ChangedFile)) (old plac
   }
 
 -- two steps that keep the crates
-pub both_kept : {old placed new : Database} → KeepsCrates old placed → KeepsCrates placed new → KeepsCrates old new
+pub both_kept : {old placed new : Database} → KeepsDatabaseCrates old placed → KeepsDatabaseCrates placed new → KeepsDatabaseCrates old new
 both_kept first second = record {
   crates = second.crates ∙ first.crates;
   listed = second.listed ∙ first.listed;
@@ -212,14 +212,14 @@ refreshes_too roots files old new later keeps r = record {
     local = keeps.local ∙ r.changed.local;
     library = keeps.library ∙ r.changed.library;
     nonce = keeps.nonce ∙ r.changed.nonce;
-    roots = λ number. ap (λ f. root_of f number) keeps.files ∙ r.changed.roots number;
+    roots = λ number. ap (λ f. source_root_at f number) keeps.files ∙ r.changed.roots number;
     places = λ file. ap (λ f. file_root_of f file) keeps.files ∙ r.changed.places file;
-    texts = λ file. subst (λ f. text_of f file ≡ text_after r.change.files_changed old.files f file) (sym keeps.files) (r.changed.texts file);
+    texts = λ file. subst (λ f. text_of_file f file ≡ text_after r.change.files_changed old.files f file) (sym keeps.files) (r.changed.texts file);
   };
 }
 
 -- the crates of a graph, where one is given, set in a database that has those of an old one
-pub gives_crates : (cmp : Id → Id → Ordering) (graph : Option Graph) (old before new : Database) → KeepsCrates old before → GivesCrates cmp graph before new
+pub gives_crates : (cmp : Id → Id → Ordering) (graph : Option Graph) (old before new : Database) → KeepsDatabaseCrates old before → GivesCrates cmp graph before new
     → GivesCrates cmp graph old new
 gives_crates cmp None old before new kept given = both_kept kept given
 gives_crates cmp (Some graph) old before new kept given = record {

@@ -17,12 +17,12 @@ use Rattle.vfs_core.specs.VfsPath.{PathContent}
 use Rattle.input_db.specs.Change.{IsChanged, fits_file, library_after, local_after, place_after, root_after, root_given, text_given}
 use Rattle.input_db.specs.Database.{Database}
 use Rattle.input_db.specs.declared.change.FileChange.{FileChange}
-use Rattle.input_db_files.specs.Files.{durability_of_file, file_root_of, root_of, stored_text, text_of}
+use Rattle.input_db_files.specs.Files.{durability_of_file, file_root_of, source_root_at, stored_text, text_of_file}
 use Rattle.input_db_files.specs.declared.inputs.FileText.{FileText}
 use Rattle.live_page.specs.Entries.{entries_shown}
 use Rattle.live_page.specs.Page.{entry_data, numbers_listed, page_data, page_of, paths_shown, root_shown, roots_listed, set_data, set_shown, sorted_texts}
 use Rattle.vfs_sets.specs.FileRoots.{is_local_at, set_numbers}
-use Rattle.live_page.specs.FlushPage.{page, paths_at, set_data_at}
+use Rattle.live_page.specs.FlushPage.{page_of_entries, paths_at, set_data_at}
 use Rattle.live_page.specs.Refresh.{Refreshes, changes_taken}
 use Rattle.live_page.specs.Shape.{base_image, base_shape, paths_sorted, place_shape, root_image, root_shape, texts_known}
 use Rattle.vfs_sets.specs.declared.file_root.FileRoot.{FileRoot}
@@ -80,10 +80,10 @@ module _ (roots : List FileRoot) (files : Files) (old new : Database) (refreshes
       ∙ sorted_parts (is_local_at roots) (λ number. not (is_local_at roots number)) (λ k. refl) 0 (length roots + 1)
 
   -- the root of each number
-  root-is : (number : ℕ) → number < length roots + 1 → root_of new.files number ≡ Some (root_given (own_root roots files number))
+  root-is : (number : ℕ) → number < length roots + 1 → source_root_at new.files number ≡ Some (root_given (own_root roots files number))
   root-is number less =
       r.changed.roots number ∙ ap (λ g. root_after (unwrap_or g []) old.files number) r.given
-      ∙ ap (λ found. option_or (option_map root_given found) (root_of old.files number))
+      ∙ ap (λ found. option_or (option_map root_given found) (source_root_at old.files number))
       (root_at roots files number less ∙ ap (λ n. Some (own_root roots files n)) (omega arith))
 
   -- ---- the page
@@ -100,8 +100,8 @@ module _ (roots : List FileRoot) (files : Files) (old new : Database) (refreshes
       λ i. set_data (sorted_texts (texts i)) ((ap not (own_library roots files number) ∙ not-not (is_local_at roots number)) i)
 
   -- the page of the database is that of the files that exist, and of its entries
-  pub page_is : page_of new ≡ page roots paths (entries_shown new)
-  unfolding page page_of
+  pub page_is : page_of new ≡ page_of_entries roots paths (entries_shown new)
+  unfolding page_of_entries page_of
   page_is = ap (λ sets. compact_text (page_data (items_of (map entry_data (entries_shown new))) (items_of sets)) ++ 10 ∷ [])
       (ap (map set_shown) shown
       ∙ map-map set_shown (own_root roots files) (set_numbers roots)
@@ -121,8 +121,8 @@ module _ (roots : List FileRoot) (files : Files) (old new : Database) (refreshes
   base_is = λ i. record {
     local = locals i;
     library = libraries i;
-    roots = (ap (filter_map (λ number. option_map root_image (root_of new.files number))) listed
-        ∙ filter_map_range (λ number. option_map root_image (root_of new.files number)) (root_shape roots paths) 0 (length roots + 1)
+    roots = (ap (filter_map (λ number. option_map root_image (source_root_at new.files number))) listed
+        ∙ filter_map_range (λ number. option_map root_image (source_root_at new.files number)) (root_shape roots paths) 0 (length roots + 1)
         (λ k le less. ap (option_map root_image) (root-is k (omega (arith, less))) ∙ ap Some (image-is k))) i;
   }
 
@@ -142,7 +142,7 @@ module _ (roots : List FileRoot) (files : Files) (old new : Database) (refreshes
         → lookup (nat_eq file) batch ≡ call → all_pass is_utf8 batch ≡ true
         → contents_by call (texts_known old file) ≡ Some text
         → option_map (λ (t : FileText). t.text)
-        (option_or (option_map (λ t. stored_text file t (durability_of_file new.files file)) (option_map given_by call)) (text_of old.files file))
+        (option_or (option_map (λ t. stored_text file t (durability_of_file new.files file)) (option_map given_by call)) (text_of_file old.files file))
         ≡ Some text
     text-split batch text None at valid is = is
     text-split batch text (Some call) at valid is = ap Some (given_text file batch call text valid at is)
@@ -155,7 +155,7 @@ module _ (roots : List FileRoot) (files : Files) (old new : Database) (refreshes
         ∙ given_lookup old.files (own_roots roots files) file files.batch refreshes.distinct fits-is in
         ap (option_map (λ (t : FileText). t.text))
         (r.changed.texts file
-        ∙ ap (λ g. option_or (option_map (λ t. stored_text file t (durability_of_file new.files file)) g) (text_of old.files file)) given)
+        ∙ ap (λ g. option_or (option_map (λ t. stored_text file t (durability_of_file new.files file)) g) (text_of_file old.files file)) given)
         ∙ text-split files.batch text (lookup (nat_eq file) files.batch) refl valid after
 
     -- its path is found in that source root
@@ -168,9 +168,9 @@ module _ (roots : List FileRoot) (files : Files) (old new : Database) (refreshes
     pub path_is : path_in new.files file ≡ Some path.text
     path_is =
         let number = place_of (root_lists roots) path in
-        let root : root_of new.files number ≡ Some (root_given (own_root roots files number)) = root-is number (within roots files file path there) in
+        let root : source_root_at new.files number ≡ Some (root_given (own_root roots files number)) = root-is number (within roots files file path there) in
         ap (λ (place : Option FileSourceRootInput). option_and_then (λ (root : SourceRoot). option_map (λ (p : PathContent). p.text) (path_of (set_of_root root) file))
-        (option_and_then (λ (p : FileSourceRootInput). option_map (λ (input : SourceRootInput). input.source_root) (root_of new.files p.source_root_id)) place)) place_is
+        (option_and_then (λ (p : FileSourceRootInput). option_map (λ (input : SourceRootInput). input.source_root) (source_root_at new.files p.source_root_id)) place)) place_is
         ∙ ap (λ (input : Option SourceRootInput). option_and_then (λ (root : SourceRoot). option_map (λ (p : PathContent). p.text) (path_of (set_of_root root) file))
         (option_map (λ (i : SourceRootInput). i.source_root) input)) root
         ∙ ap (option_map (λ (p : PathContent). p.text)) root-found

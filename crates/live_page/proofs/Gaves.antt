@@ -9,20 +9,20 @@ use Rattle.base_text.specs.Pieces.{rest_of}
 use Rattle.base_text.specs.Reader.{IsCut}
 use Rattle.base_text.proofs.Cuts.{partial_line-nil, whole_lines-append}
 use Rattle.base_text.proofs.LineEnds.{lines_of-end, lines_of-line, lines_of-nil, lines_of-whole, partial_line-line, uncut-append, whole_lines-uncut}
-use Rattle.live_page.specs.Pieces.{Moves, Reads}
-use Rattle.live_page.specs.Reader.{Reader, Gave, IsPast, IsSpent, Tells, TooManyExactly, bytes_ahead, fresh, lines_after}
+use Rattle.live_page.specs.Pieces.{MovesToLine, ReadsWithin}
+use Rattle.live_page.specs.Reader.{ScriptReader, GaveScriptLines, IsPast, IsPastLimit, TellsScriptLine, TooManyExactly, bytes_ahead, fresh, script_lines_after}
 use Rattle.live_page.specs.declared.lines.LineError.{LineError}
 use Rattle.live_page.specs.declared.lines.LineError.TheVariants.{ReadFault, TooMany, OutOfMemory, Ended}
 use Rattle.base_text_outside.specs.Source.{Knows-after, Knows-all}
 use Rattle.std.proofs.Math.Seq.{take-append-add, take-append_seam}
 
 -- a reader by its fields: a line that is being read, and what was not looked at
-abbrev pub reader : List ℕ → List ℕ → ℕ → Bool → Bool → Bool → Reader
+abbrev pub reader : List ℕ → List ℕ → ℕ → Bool → Bool → Bool → ScriptReader
 reader line piece room past done ended = record { waiting = line ++ piece; room = room; is_past = past; is_done = done; has_ended = ended }
 
 -- what a part of a call kept, where so much of what waits is the line: nothing was given, and nothing was lost
-pub record Reading (old now : Reader) (parts : List ℕ × List ℕ) (left : Option (List ℕ) × Option (List ℕ)) (faults : ℕ × ℕ) : Type 0 where
-  pub keeps : (limit : ℕ) (first : Option (List ℕ)) (given : List (List ℕ)) → Gave limit first left.0 given old → Gave limit first left.1 given now
+pub record Reading (old now : ScriptReader) (parts : List ℕ × List ℕ) (left : Option (List ℕ) × Option (List ℕ)) (faults : ℕ × ℕ) : Type 0 where
+  pub keeps : (limit : ℕ) (first : Option (List ℕ)) (given : List (List ℕ)) → GaveScriptLines limit first left.0 given old → GaveScriptLines limit first left.1 given now
   pub uncut : has_newline parts.0 ≡ false
   pub small : now.room + 1 < 2 ^ 64
   pub ahead : length parts.0 + length parts.1 + now.room ≤ bytes_ahead old
@@ -31,16 +31,16 @@ pub record Reading (old now : Reader) (parts : List ℕ × List ℕ) (left : Opt
   pub later : faults.0 ≤ faults.1
 
 -- a line and a piece stay the same bytes where a part is moved
-pub moved : (found : Bool) (piece piece' line line' : List ℕ) → Moves found piece piece' line line' → line ++ piece ≡ line' ++ rest_of found piece'
+pub moved : (found : Bool) (piece piece' line line' : List ℕ) → MovesToLine found piece piece' line line' → line ++ piece ≡ line' ++ rest_of found piece'
 moved found piece piece' line line' moves =
     ap (λ p. line ++ p) moves.piece_is ∙ sym (append_assoc line moves.part (rest_of found piece')) ∙ ap (λ l. l ++ rest_of found piece') (sym moves.line_is)
 
-pub moved_uncut : (found : Bool) (piece piece' line line' : List ℕ) → Moves found piece piece' line line' → has_newline line ≡ false → has_newline line' ≡ false
+pub moved_uncut : (found : Bool) (piece piece' line line' : List ℕ) → MovesToLine found piece piece' line line' → has_newline line ≡ false → has_newline line' ≡ false
 moved_uncut found piece piece' line line' moves uncut =
     ap has_newline moves.line_is ∙ uncut-append line moves.part uncut moves.uncut
 
 -- how many bytes wait
-pub moved_length : (found : Bool) (piece piece' line line' : List ℕ) → Moves found piece piece' line line' → length line + length piece ≡ length line' + length (rest_of found piece')
+pub moved_length : (found : Bool) (piece piece' line line' : List ℕ) → MovesToLine found piece piece' line line' → length line + length piece ≡ length line' + length (rest_of found piece')
 moved_length found piece piece' line line' moves = sym (length-append line piece) ∙ ap length (moved found piece piece' line line' moves) ∙ length-append line' (rest_of found piece')
 
 -- a line and its newline join what was given
@@ -62,7 +62,7 @@ past_read room count bytes many most =
     ] refl
 
 module _ (limit : ℕ) (first left : Option (List ℕ)) (given : List (List ℕ)) (line piece line' piece' : List ℕ) (room : ℕ) (past done ended : Bool) (not_done : done ≡ false)
-    (uncut : has_newline line ≡ false) (gave : Gave limit first left given (reader line piece room past done ended)) where
+    (uncut : has_newline line ≡ false) (gave : GaveScriptLines limit first left given (reader line piece room past done ended)) where
   front_cut : partial_line gave.front ≡ []
   front_cut = let cut : IsCut false gave.front ((line ++ piece) ++ gave.beyond) left = subst (λ d. IsCut d gave.front ((line ++ piece) ++ gave.beyond) left) not_done gave.cut in cut
 
@@ -70,13 +70,13 @@ module _ (limit : ℕ) (first left : Option (List ℕ)) (given : List (List ℕ)
   none_past not_past = let none : IsPast false room gave.beyond = subst (λ p. IsPast p room gave.beyond) not_past gave.past in none
 
   -- the same bytes wait
-  pub Gave-moved : Moves false piece piece' line line' → Gave limit first left given (reader line' piece' room past done ended)
+  pub Gave-moved : MovesToLine false piece piece' line line' → GaveScriptLines limit first left given (reader line' piece' room past done ended)
   Gave-moved moves =
       let same : line ++ piece ≡ line' ++ piece' = moved false piece piece' line line' moves in
-      subst (λ (w : List ℕ). Gave limit first left given (record { waiting = w; room = room; is_past = past; is_done = done; has_ended = ended })) same gave
+      subst (λ (w : List ℕ). GaveScriptLines limit first left given (record { waiting = w; room = room; is_past = past; is_done = done; has_ended = ended })) same gave
 
   -- a line was found and is given
-  pub Gave-line : Moves true piece piece' line line' → (none : List ℕ) → none ≡ [] → Gave limit first left (given ++ line' ∷ []) (reader none piece' room past done ended)
+  pub Gave-line : MovesToLine true piece piece' line line' → (none : List ℕ) → none ≡ [] → GaveScriptLines limit first left (given ++ line' ∷ []) (reader none piece' room past done ended)
   Gave-line moves none empty =
       let same : line ++ piece ≡ line' ++ newline ∷ piece' = moved true piece piece' line line' moves in
       let whole : has_newline line' ≡ false = moved_uncut true piece piece' line line' moves uncut in
@@ -93,8 +93,8 @@ module _ (limit : ℕ) (first left : Option (List ℕ)) (given : List (List ℕ)
       }
 
   -- a read of the next piece
-  pub Gave-read : (left' : Option (List ℕ)) (count : ℕ) → Reads room count left left' piece' → past ≡ false → piece ≡ []
-      → Gave limit first left' given (reader line piece' (room - count) (nat_lt room count) done ended)
+  pub Gave-read : (left' : Option (List ℕ)) (count : ℕ) → ReadsWithin room count left left' piece' → past ≡ false → piece ≡ []
+      → GaveScriptLines limit first left' given (reader line piece' (room - count) (nat_lt room count) done ended)
   Gave-read left' count reads not_past emptied =
       let bytes = reads.bytes in
       let many : length bytes ≡ count = reads.many in
@@ -112,9 +112,9 @@ module _ (limit : ℕ) (first left : Option (List ℕ)) (given : List (List ℕ)
       }
 
   -- the end was reported: what waits is the last line, where it is not empty
-  pub Gave-end : (left' : Option (List ℕ)) (count : ℕ) → Reads room count left left' piece' → count ≡ 0 → past ≡ false → piece ≡ [] → (none : List ℕ) → none ≡ []
+  pub Gave-end : (left' : Option (List ℕ)) (count : ℕ) → ReadsWithin room count left left' piece' → count ≡ 0 → past ≡ false → piece ≡ [] → (none : List ℕ) → none ≡ []
       → (given' : List (List ℕ)) → given' ≡ given ++ last_line line
-      → Gave limit first left' given' (reader none piece' room past true ended)
+      → GaveScriptLines limit first left' given' (reader none piece' room past true ended)
   Gave-end left' count reads nothing not_past emptied none empty given' is =
       let bytes : reads.bytes ≡ [] = nil_from_length reads.bytes (reads.many ∙ nothing) in
       let many : length reads.bytes ≡ 0 = reads.many ∙ nothing in
@@ -140,7 +140,7 @@ after_end given [] = (λ e. sym (append-nil given), λ some. absurd (some refl))
 after_end given (b ∷ bs) = (λ e. absurd (cc), λ some. refl)
 
 -- before the first read
-pub Gave-fresh : (limit : ℕ) (left : Option (List ℕ)) → Gave limit left left [] (fresh limit)
+pub Gave-fresh : (limit : ℕ) (left : Option (List ℕ)) → GaveScriptLines limit left left [] (fresh limit)
 Gave-fresh limit left = record {
   front = [];
   beyond = [];
@@ -152,13 +152,13 @@ Gave-fresh limit left = record {
 }
 
 -- a piece of which no line was taken has no newline
-pub piece_uncut : {piece piece' line line' : List ℕ} → Moves false piece piece' line line' → has_newline piece ≡ false
+pub piece_uncut : {piece piece' line line' : List ℕ} → MovesToLine false piece piece' line line' → has_newline piece ≡ false
 piece_uncut moves = ap has_newline (moves.piece_is ∙ ap (λ p. moves.part ++ p) (moves.whole refl) ∙ append-nil moves.part) ∙ moves.uncut
 
 -- too many bytes are reported exactly where there are
-module _ (limit : ℕ) (left' : Option (List ℕ)) (given : List (List ℕ)) (all : List ℕ) (reader' : Reader) where
+module _ (limit : ℕ) (left' : Option (List ℕ)) (given : List (List ℕ)) (all : List ℕ) (reader' : ScriptReader) where
   -- the rest of the source
-  spent_past : Gave limit (Some all) left' given reader' → reader'.is_past ≡ true → has_newline reader'.waiting ≡ false → IsSpent limit given all
+  spent_past : GaveScriptLines limit (Some all) left' given reader' → reader'.is_past ≡ true → has_newline reader'.waiting ≡ false → IsPastLimit limit given all
   spent_past gave past uncut =
       let after = Knows-after (Some all) left' all _ refl gave.taken in
       let one : IsPast true reader'.room gave.beyond = subst (λ p. IsPast p reader'.room gave.beyond) past gave.past in
@@ -166,7 +166,7 @@ module _ (limit : ℕ) (left' : Option (List ℕ)) (given : List (List ℕ)) (al
       ∙ ap (λ r. gave.front ++ r) (append_assoc reader'.waiting gave.beyond after.0) ∙ sym (append_assoc gave.front reader'.waiting (gave.beyond ++ after.0)) in
       let full : limit ≡ length (gave.front ++ reader'.waiting) = omega (arith, gave.within, one.1, length-append gave.front reader'.waiting) in
       let front : take limit all ≡ gave.front ++ reader'.waiting = ap (λ n. take n all) full ∙ ap (take (length (gave.front ++ reader'.waiting))) whole ∙ take-append_seam (gave.front ++ reader'.waiting) (gave.beyond ++ after.0) in
-      elim reader'.is_done as (λ d. IsCut d gave.front (reader'.waiting ++ gave.beyond) left' → IsSpent limit given all) [
+      elim reader'.is_done as (λ d. IsCut d gave.front (reader'.waiting ++ gave.beyond) left' → IsPastLimit limit given all) [
         | true ↦ λ cut. absurd (omega (arith, one.0, ap length cut.0, length-append reader'.waiting gave.beyond))
         | false ↦ λ cut. record {
           past = omega (arith, full, one.0, ap length whole, length-append (gave.front ++ reader'.waiting) (gave.beyond ++ after.0), length-append gave.beyond after.0);
@@ -175,7 +175,7 @@ module _ (limit : ℕ) (left' : Option (List ℕ)) (given : List (List ℕ)) (al
       ] gave.cut
 
   -- at the end there are not too many
-  done_within : Gave limit (Some all) left' given reader' → reader'.is_done ≡ true → length all ≤ limit
+  done_within : GaveScriptLines limit (Some all) left' given reader' → reader'.is_done ≡ true → length all ≤ limit
   done_within gave done =
       let cut : IsCut true gave.front (reader'.waiting ++ gave.beyond) left' = subst (λ d. IsCut d gave.front (reader'.waiting ++ gave.beyond) left') done gave.cut in
       let whole : Consumes (Some all) left' gave.front = subst (Consumes (Some all) left') (ap (λ r. gave.front ++ r) cut.0 ∙ append-nil gave.front) gave.taken in
@@ -183,7 +183,7 @@ module _ (limit : ℕ) (left' : Option (List ℕ)) (given : List (List ℕ)) (al
       omega (arith, ap length ends, gave.within)
 
   -- and where one more line was given it ended within the limit
-  line_within : (line : List ℕ) → Gave limit (Some all) left' (given ++ line ∷ []) reader' → IsSpent limit given all → ⊥
+  line_within : (line : List ℕ) → GaveScriptLines limit (Some all) left' (given ++ line ∷ []) reader' → IsPastLimit limit given all → ⊥
   line_within line gave spent =
       let after = Knows-after (Some all) left' all _ refl gave.taken in
       let rest = (reader'.waiting ++ gave.beyond) ++ after.0 in
@@ -201,8 +201,8 @@ module _ (limit : ℕ) (left' : Option (List ℕ)) (given : List (List ℕ)) (al
             omega (arith, ap length lines, length-append (given ++ line ∷ []) more.rest, length-append given (line ∷ []))
       ] gave.cut
 
-pub too_many : {Z : Type 0} (limit : ℕ) (left' : Option (List ℕ)) (given : List (List ℕ)) (all : List ℕ) (old new : Reader) (before now : ℕ) (result : Result (Option (Vec ℕ Z)) LineError)
-    → Gave limit (Some all) left' (lines_after given result) new → Tells result old new before now → TooManyExactly result (IsSpent limit given all)
+pub too_many : {Z : Type 0} (limit : ℕ) (left' : Option (List ℕ)) (given : List (List ℕ)) (all : List ℕ) (old new : ScriptReader) (before now : ℕ) (result : Result (Option (Vec ℕ Z)) LineError)
+    → GaveScriptLines limit (Some all) left' (script_lines_after given result) new → TellsScriptLine result old new before now → TooManyExactly result (IsPastLimit limit given all)
 too_many limit left' given all old new before now (Ok (Some line)) gave told = line_within limit left' given all new line.items gave
 too_many limit left' given all old new before now (Ok None) gave told = λ spent. let few = done_within limit left' given all new gave told in omega (arith, spent.past)
 too_many limit left' given all old new before now (Err ReadFault) gave told = tt

@@ -21,10 +21,10 @@ use Rattle.crate_graph.specs.Graph.{edges, target_of}
 use Rattle.input_db.specs.Database.{Database}
 use Rattle.crate_graph.specs.Extend.{Id}
 use Rattle.input_db.specs.Identity.{Table, data_of, input_in, number_in}
-use Rattle.input_db.specs.SetInDb.{HoldLastInputs, IsSetInDb, ShareWhereAlike, crate_at, listed_crates, number_at}
+use Rattle.input_db.specs.SetInDb.{HoldLastInputs, IsSetInDb, ShareWhereAlike, finished_crate, listed_crates, finished_number}
 use Rattle.input_db.specs.declared.crate_input.CrateInput.{CrateInput}
 use Rattle.live_page.specs.Entries.{Node, Paths, dependency_cmp, dependency_entry, entries_listed, entries_of, entry_in, entry_of}
-use Rattle.live_page.specs.Entries.{named_number, node_by, node_in, node_of, root_in, root_path}
+use Rattle.live_page.specs.Entries.{named_number, node_by, node_in, entry_node, root_file_path, root_path}
 use Rattle.live_page.specs.declared.crate_entry.CrateEntry.{CrateEntry}
 use Rattle.live_page.proofs.Distinct.{distinct_entries_alike}
 use Rattle.live_page.proofs.Members.{all_made, first_places_all, first_places_from, last_place, made_of_some, mapped_from, mapped_to}
@@ -60,7 +60,7 @@ module _ (crates : List CrateBuilder) (order numbers : List ℕ) (behind : IsBeh
 
   -- the crate at a place of the order
   pub at_place : (k m : ℕ) (krate : CrateBuilder) → k < length order → get_or order k 0 ≡ m → slice_get crates m ≡ Some krate
-      → crate_at crates order k ≡ Some krate
+      → finished_crate crates order k ≡ Some krate
   at_place k m krate within is at =
       ap (option_and_then (slice_get crates)) (slice_get-get_or order k 0 within ∙ ap Some is) ∙ at
 
@@ -72,13 +72,13 @@ module _ (crates : List CrateBuilder) (order numbers : List ℕ) (behind : IsBeh
         let place = in_order m within in
         let is : get_or order place.0 0 ≡ m = get_or_default order place.0 0 m place.1 ∙ place.2 in
         let here = at_place place.0 m krate place.1 is at in
-        let last = last_place (number_at numbers order) (length order) place.0 place.1 in
+        let last = last_place (finished_number numbers order) (length order) place.0 place.1 in
         let n : ℕ = get_or order last.0 0 in
         let there = slice_get_some crates n (below_crates n (last.0, last.1, get_or_default order last.0 n 0 last.1)) in
         let at_last = at_place last.0 n there.0 last.1 refl there.1 in
         let alike : data_of (number_in numbers) there.0 ≡ data_of (number_in numbers) krate =
         ⊎_elim
-        (λ same. ap (data_of (number_in numbers)) (same_Some there.0 krate (sym at_last ∙ ap (crate_at crates order) (sym same) ∙ here)))
+        (λ same. ap (data_of (number_in numbers)) (same_Some there.0 krate (sym at_last ∙ ap (finished_crate crates order) (sym same) ∙ here)))
         (λ both. sym both.2.crate_data) ((shared place.0 last.0 krate there.0 here at_last).0 (sym last.2)) in
         ap (λ p. option_map (λ (input : CrateInput). input.crate_data) (input_in table p))
         (ap (λ p. get_or numbers p 0) (sym is) ∙ sym last.2)
@@ -97,22 +97,22 @@ module _ (crates : List CrateBuilder) (order numbers : List ℕ) (behind : IsBeh
 
     module _ (paths : Paths) where
       abbrev nodes : List Node
-      nodes = map node_of crates
+      nodes = map entry_node crates
 
       -- the node at a place
-      node_at : (m : ℕ) (krate : CrateBuilder) → slice_get crates m ≡ Some krate → slice_get nodes m ≡ Some (node_of krate)
-      node_at m krate at = slice_get-map node_of crates m ∙ ap (option_map node_of) at
+      node_at : (m : ℕ) (krate : CrateBuilder) → slice_get crates m ≡ Some krate → slice_get nodes m ≡ Some (entry_node krate)
+      node_at m krate at = slice_get-map entry_node crates m ∙ ap (option_map entry_node) at
 
       -- the root file that a crate's number leads to is the crate's own
       root_same : (id : Id) → number_of id < length crates
-          → root_in paths table (number_in numbers id) ≡ root_path paths (slice_get nodes (number_of id))
+          → root_file_path paths table (number_in numbers id) ≡ root_path paths (slice_get nodes (number_of id))
       root_same id within =
           let at = slice_get_some crates (number_of id) within in
           ap (root_path paths) (node_held (number_of id) at.0 within at.1)
           ∙ ap (root_path paths) (sym (node_at (number_of id) at.0 at.1))
 
       dependencies_same : (deps : List (Dependency Id)) → All (λ dep. target_of dep < length crates) deps
-          → filter_map (dependency_entry (root_in paths table)) (map (named_number (λ n. n)) (map (renamed_dependency (number_in numbers)) deps))
+          → filter_map (dependency_entry (root_file_path paths table)) (map (named_number (λ n. n)) (map (renamed_dependency (number_in numbers)) deps))
           ≡ filter_map (dependency_entry (λ place. root_path paths (slice_get nodes place))) (map (named_number number_of) deps)
       dependencies_same [] within = refl
       dependencies_same (dep ∷ deps) within =
@@ -123,9 +123,9 @@ module _ (crates : List CrateBuilder) (order numbers : List ℕ) (behind : IsBeh
       -- and the entry under a crate's number is the crate's own
       entry_same : (m : ℕ) (krate : CrateBuilder) → m < length crates → slice_get crates m ≡ Some krate
           → entry_in paths table (get_or numbers m 0)
-          ≡ entry_of paths (λ place. root_path paths (slice_get nodes place)) (node_of krate)
+          ≡ entry_of paths (λ place. root_path paths (slice_get nodes place)) (entry_node krate)
       entry_same m krate within at =
-          ap (option_and_then (entry_of paths (root_in paths table))) (node_held m krate within at)
+          ap (option_and_then (entry_of paths (root_file_path paths table))) (node_held m krate within at)
           ∙ ap (λ deps. option_map (λ path. record { root = path; deps = sorted dependency_cmp deps }) (paths krate.basic.root_file_id))
           (dependencies_same krate.basic.dependencies (targets_within crates m krate (length crates) in_range refl at))
 
@@ -138,8 +138,8 @@ module _ (crates : List CrateBuilder) (order numbers : List ℕ) (behind : IsBeh
           (first_places_from (map (λ n. get_or numbers n 0) order) found.0 found.1) in
           let within = below_crates from.0 from.1 in
           let at = slice_get_some crates from.0 within in
-          all_made (entry_of paths (λ place. root_path paths (slice_get nodes place))) nodes (node_of at.0) entry
-          (mapped_to node_of crates at.0 (holds_found crates from.0 at.0 within at.1))
+          all_made (entry_of paths (λ place. root_path paths (slice_get nodes place))) nodes (entry_node at.0) entry
+          (mapped_to entry_node crates at.0 (holds_found crates from.0 at.0 within at.1))
           (sym (entry_same from.0 at.0 within at.1) ∙ ap (entry_in paths table) from.2 ∙ found.2)
 
       -- and each of the graph is one of the list
@@ -147,7 +147,7 @@ module _ (crates : List CrateBuilder) (order numbers : List ℕ) (behind : IsBeh
           → Contains (filter_map (entry_in paths table) (listed_crates order numbers)) entry
       of_list entry there =
           let made = made_of_some (entry_of paths (λ place. root_path paths (slice_get nodes place))) nodes entry there in
-          let found = mapped_from node_of crates made.0 made.1 in
+          let found = mapped_from entry_node crates made.0 made.1 in
           let krate = found.0 in
           let m = found.1.0 in
           let within = found.1.1 in
@@ -159,7 +159,7 @@ module _ (crates : List CrateBuilder) (order numbers : List ℕ) (behind : IsBeh
 
 -- by whichever paths of files
 pub entries_after_set : (cmp : Id → Id → Ordering) (crates : List CrateBuilder) (old new : Database) (ids : tree.BTreeMap Id ℕ)
-    → IsSetInDb cmp crates old new ids → (paths : Paths) → entries_listed paths new ≡ entries_of paths (map node_of crates)
+    → IsSetInDb cmp crates old new ids → (paths : Paths) → entries_listed paths new ≡ entries_of paths (map entry_node crates)
 entries_after_set cmp crates old new ids set paths =
     ap (λ listed. entries_listed paths (record new { listed = listed })) set.listed
     ∙ distinct_entries_alike _ _ (λ entry. (

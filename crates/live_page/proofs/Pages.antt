@@ -10,7 +10,7 @@ use Rattle.base_values.specs.Sorted.{sorted}
 use Rattle.input_db.specs.Database.{Database}
 use Rattle.input_db_files.specs.declared.source_root.SourceRoot.{SourceRoot}
 use Rattle.live_page.specs.Entries.{entries_shown}
-use Rattle.live_page.specs.Page.{data_shown, dependency_data, entry_data, page_data, page_of, paths_shown, roots_listed, set_shown}
+use Rattle.live_page.specs.Page.{data_shown, dependency_entry_data, entry_data, page_data, page_of, paths_shown, roots_listed, set_shown}
 use Rattle.live_page.specs.Page.{sorted_texts, texts_data}
 use Rattle.live_page.specs.declared.crate_entry.CrateEntry.{CrateEntry}
 use Rattle.live_page.specs.declared.crate_entry.DependencyEntry.{DependencyEntry}
@@ -31,7 +31,7 @@ texts_no_float [] = refl
 texts_no_float (text ∷ texts) = texts_no_float texts
 
 -- so dependencies have none
-dependencies-no_float : (deps : List DependencyEntry) → items_have_float (items_of (map dependency_data deps)) ≡ false
+dependencies-no_float : (deps : List DependencyEntry) → items_have_float (items_of (map dependency_entry_data deps)) ≡ false
 dependencies-no_float [] = refl
 dependencies-no_float (dep ∷ deps) = dependencies-no_float deps
 

@@ -9,7 +9,7 @@ use Rattle.std.specs.Map.{keys_of, lookup}
 use Rattle.vfs_core.specs.Files.{Files, existing_files}
 use Rattle.vfs_core.specs.VfsPath.{PathContent}
 use Rattle.vfs_sets.specs.FileSet as sets
-use Rattle.vfs_sets.specs.Partition.{IsPartition, files_in}
+use Rattle.vfs_sets.specs.Partition.{IsPartition, files_of_set}
 use Rattle.vfs_sets.specs.Placement.{place_of}
 use Rattle.vfs_sets.proofs.PlaceLemmas.{place_within}
 use Rattle.input_db.specs.Change.{is_in_some, numbers_from, numbers_of, place_given}
@@ -74,7 +74,7 @@ chosen_paths of test (file ∷ files) = chosen-split of test file files (test fi
 module _ (roots : List FileRoot) (files : Files) where
   -- the files of a set
   abbrev pub files_at : ℕ → List (ℕ × PathContent)
-  files_at number = files_in (root_lists roots) number (existing_files files)
+  files_at number = files_of_set (root_lists roots) number (existing_files files)
 
   -- the source root of a set
   abbrev pub own_root : ℕ → SourceRoot

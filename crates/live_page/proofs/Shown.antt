@@ -12,7 +12,7 @@ use Rattle.crate_graph_values.specs.declared.crate_data.Dependency.{Dependency}
 use Rattle.input_db.specs.Database.{Database}
 use Rattle.input_db.specs.Identity.{IsTable, Table, input_in}
 use Rattle.input_db.specs.declared.crate_input.CrateInput.{CrateInput}
-use Rattle.input_db_files.specs.Files.{root_of}
+use Rattle.input_db_files.specs.Files.{source_root_at}
 use Rattle.input_db_files.specs.SourceRoot.{set_of_root}
 use Rattle.input_db_files.specs.declared.inputs.SourceRootInput.{SourceRootInput}
 use Rattle.input_db_files.specs.declared.source_root.SourceRoot.{SourceRoot}
@@ -95,7 +95,7 @@ path_none root seen file texts none so_far =
 
 -- one more source root that is there
 pub root_more : (db : Database) (seen : List ℕ) (id : ℕ) (input : SourceRootInput) (sets more : List Value) (value : Value)
-    → root_of db.files id ≡ Some input → view value ≡ set_shown input.source_root
+    → source_root_at db.files id ≡ Some input → view value ≡ set_shown input.source_root
     → map view sets ≡ map set_shown (filter_map (root_shown db) seen) → more ≡ sets ++ value ∷ []
     → map view more ≡ map set_shown (filter_map (root_shown db) (seen ++ id ∷ []))
 root_more db seen id input sets more value has is so_far pushed =
@@ -108,9 +108,9 @@ root_more db seen id input sets more value has is so_far pushed =
 
 -- and one that is not
 pub root_none : (db : Database) (seen : List ℕ) (id : ℕ) (sets : List Value)
-    → is_some (root_of db.files id) ≡ false
+    → is_some (source_root_at db.files id) ≡ false
     → map view sets ≡ map set_shown (filter_map (root_shown db) seen)
     → map view sets ≡ map set_shown (filter_map (root_shown db) (seen ++ id ∷ []))
 root_none db seen id sets none so_far =
-    let gives : root_shown db id ≡ None = ap (option_map (λ (i : SourceRootInput). i.source_root)) (none-from (root_of db.files id) none) in
+    let gives : root_shown db id ≡ None = ap (option_map (λ (i : SourceRootInput). i.source_root)) (none-from (source_root_at db.files id) none) in
     so_far ∙ ap (map set_shown) (sym (filter_map-none (root_shown db) seen id gives))

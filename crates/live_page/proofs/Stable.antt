@@ -10,7 +10,7 @@ use Rattle.crate_graph.specs.Graph.{Graph}
 use Rattle.crate_graph.specs.Extend.{Id}
 use Rattle.input_db.specs.Database.{Database}
 use Rattle.input_db.specs.Identity.{Table, crate_in, unique_eq, uniques_in}
-use Rattle.input_db.specs.SetInDb.{KeepsOthers}
+use Rattle.input_db.specs.SetInDb.{KeepsOtherEntries}
 use Rattle.live_page.specs.Refresh.{GivesCrates, KeepsIdentities}
 
 module _ {X : Type 0} (test : X → Bool) where
@@ -54,7 +54,7 @@ module _ {X : Type 0} (test : X → Bool) where
       ap (λ b. cond b (Some (position_or_len test ys)) None) here ∙ ap Some place
 
 -- a table that keeps what another had keeps its identities
-keeps_others : (order numbers : List ℕ) (old new : Table) → KeepsOthers order numbers old new → KeepsIdentities old new
+keeps_others : (order numbers : List ℕ) (old new : Table) → KeepsOtherEntries order numbers old new → KeepsIdentities old new
 keeps_others order numbers old new kept = record {
   crates = λ unique. kept_position (unique_eq unique) (uniques_in old) (uniques_in new) same;
   identities = λ krate unique is. same krate (slice_get_within (uniques_in old) krate unique is) ∙ is;

@@ -76,8 +76,8 @@ abbrev pub node_by : {Number : Type 0} → (Number → ℕ) → CrateData Number
 node_by number krate = record { root_file = krate.root_file_id; dependencies = map (named_number number) krate.dependencies }
 
 -- a crate of a graph as entries see it
-abbrev pub node_of : CrateBuilder → Node
-node_of krate = node_by number_of krate.basic
+abbrev pub entry_node : CrateBuilder → Node
+entry_node krate = node_by number_of krate.basic
 
 -- ---- the crates of a database, which name each other by their places in its table
 
@@ -86,12 +86,12 @@ abbrev pub node_in : Table → ℕ → Option Node
 node_in table krate = option_map (λ input. node_by (λ n. n) input.crate_data) (input_in table krate)
 
 -- the path of the root file of a crate of a database
-abbrev pub root_in : Paths → Table → ℕ → Option (List ℕ)
-root_in paths table krate = root_path paths (node_in table krate)
+abbrev pub root_file_path : Paths → Table → ℕ → Option (List ℕ)
+root_file_path paths table krate = root_path paths (node_in table krate)
 
 -- the entry of a crate of a database
 abbrev pub entry_in : Paths → Table → ℕ → Option CrateEntry
-entry_in paths table krate = option_and_then (entry_of paths (root_in paths table)) (node_in table krate)
+entry_in paths table krate = option_and_then (entry_of paths (root_file_path paths table)) (node_in table krate)
 
 -- the entries of the crates that a database lists
 abbrev pub entries_listed : Paths → Database → List CrateEntry

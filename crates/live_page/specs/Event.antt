@@ -26,8 +26,8 @@ path_under ms = do
   real_path text
 
 -- a file gets a text, or is deleted where there is none
-unfoldable pub file_at : Members → Reading Event
-file_at ms = do
+unfoldable pub file_event_at : Members → Reading Event
+file_event_at ms = do
   path ← path_under ms
   text ← optional_member (codes "text") text_at ms
   Ok (File path text)
@@ -70,7 +70,7 @@ build_at ms = do
 -- the events by their names
 abbrev pub event_named : List ℕ → Members → Reading Event
 event_named name ms =
-    if bytes_eq name (codes "file") then file_at ms
+    if bytes_eq name (codes "file") then file_event_at ms
     else if bytes_eq name (codes "exclude") then exclude_at ms
     else if bytes_eq name (codes "answer") then answer_at ms
     else if bytes_eq name (codes "load") then load_at ms
@@ -95,7 +95,7 @@ unfoldable pub event : List ℕ → Option Event
 event line = value_read (bytes_document event_at line)
 
 -- an answer is the event, or a refusal where there is none, unless memory ran out
-abbrev pub Answers : Result Event EventError → Option Event → Type 0
-Answers (Ok e) found = found ≡ Some e
-Answers (Err Refused) found = found ≡ None
-Answers (Err OutOfMemory) found = Unit {0}
+abbrev pub AnswersEvent : Result Event EventError → Option Event → Type 0
+AnswersEvent (Ok e) found = found ≡ Some e
+AnswersEvent (Err Refused) found = found ≡ None
+AnswersEvent (Err OutOfMemory) found = Unit {0}

@@ -20,6 +20,6 @@ abbrev pub set_data_at : List FileRoot → List PathContent → ℕ → Data
 set_data_at roots paths number = set_data (sorted_texts (map (λ path. path.text) (paths_at roots paths number))) (is_local_at roots number)
 
 -- the page of these entries, and of these paths by their sets
-unfoldable pub page : List FileRoot → List PathContent → List CrateEntry → List ℕ
-page roots paths entries =
+unfoldable pub page_of_entries : List FileRoot → List PathContent → List CrateEntry → List ℕ
+page_of_entries roots paths entries =
     compact_text (page_data (items_of (map entry_data entries)) (items_of (map (set_data_at roots paths) (set_numbers roots)))) ++ 10 ∷ []

@@ -10,7 +10,7 @@ use Rattle.std.specs.List.{filter_map}
 use Rattle.std.specs.Option.{option_map}
 use Rattle.vfs_sets.specs.FileSet.{path_of}
 use Rattle.input_db.specs.Database.{Database}
-use Rattle.input_db_files.specs.Files.{root_of}
+use Rattle.input_db_files.specs.Files.{source_root_at}
 use Rattle.input_db_files.specs.SourceRoot.{files_in, set_of_root}
 use Rattle.input_db_files.specs.declared.source_root.SourceRoot.{SourceRoot}
 use Rattle.live_page.specs.Entries.{entries_shown}
@@ -23,13 +23,13 @@ texts_data [] = no_items
 texts_data (t ∷ ts) = item (string t) (texts_data ts)
 
 -- a dependency of a crate: its name, and the root of the crate that it names
-abbrev pub dependency_data : DependencyEntry → Data
-dependency_data dep = object (member (codes "name") (string dep.name) (member (codes "root") (string dep.root) no_members))
+abbrev pub dependency_entry_data : DependencyEntry → Data
+dependency_entry_data dep = object (member (codes "name") (string dep.name) (member (codes "root") (string dep.root) no_members))
 
 -- an entry: its dependencies, and its root
 abbrev pub entry_data : CrateEntry → Data
 entry_data entry =
-    object (member (codes "deps") (array (items_of (map dependency_data entry.deps)))
+    object (member (codes "deps") (array (items_of (map dependency_entry_data entry.deps)))
     (member (codes "root") (string entry.root) no_members))
 
 -- a set: its files, and whether it is local
@@ -50,7 +50,7 @@ numbers_listed db = sorted nat_cmp (db.local.roots.keys ++ db.library.roots.keys
 
 -- the source root of a number, where it is there
 abbrev pub root_shown : Database → ℕ → Option SourceRoot
-root_shown db number = option_map (λ input. input.source_root) (root_of db.files number)
+root_shown db number = option_map (λ input. input.source_root) (source_root_at db.files number)
 
 -- the source roots of the lists, in order of their numbers
 abbrev pub roots_listed : Database → List SourceRoot

@@ -10,7 +10,7 @@ use Rattle.live_page.specs.declared.lines.LineError.{LineError}
 use Rattle.live_page.specs.declared.lines.LineError.TheVariants.{ReadFault, TooMany, OutOfMemory, Ended}
 
 -- the part of a piece up to its first newline, or all of it, was put behind a line
-pub record Moves (found : Bool) (piece piece' line line' : List ℕ) : Type 0 where
+pub record MovesToLine (found : Bool) (piece piece' line line' : List ℕ) : Type 0 where
   pub part : List ℕ
   pub uncut : has_newline part ≡ false
   pub piece_is : piece ≡ part ++ rest_of found piece'
@@ -18,7 +18,7 @@ pub record Moves (found : Bool) (piece piece' line line' : List ℕ) : Type 0 wh
   pub whole : found ≡ false → piece' ≡ []
 
 -- one read: of its bytes those within the room are the piece
-pub record Reads (room count : ℕ) (left left' : Option (List ℕ)) (piece : List ℕ) : Type 0 where
+pub record ReadsWithin (room count : ℕ) (left left' : Option (List ℕ)) (piece : List ℕ) : Type 0 where
   pub bytes : List ℕ
   pub read : Consumes left left' bytes
   pub many : length bytes ≡ count
@@ -28,19 +28,19 @@ pub record Reads (room count : ℕ) (left left' : Option (List ℕ)) (piece : Li
 
 -- what a call does to its source: it is read once, and not at all where there was no memory; of what it gave those within the
 -- room are the piece
-abbrev pub ReadsOnce : {S : Type 0} → (S → Option (List ℕ) → S → Type 0) → ℕ → Result ℕ LineError → List ℕ → S → S → Type 0
-ReadsOnce gives room (Ok count) piece old new = (bytes : List ℕ) × gives old (Some bytes) new × (length bytes ≡ count) × (piece ≡ take room bytes)
-ReadsOnce gives room (Err ReadFault) piece old new = gives old None new
-ReadsOnce gives room (Err TooMany) piece old new = ⊥
-ReadsOnce gives room (Err OutOfMemory) piece old new = new ≡ old
-ReadsOnce gives room (Err Ended) piece old new = ⊥
+abbrev pub ReadsOnceWithin : {S : Type 0} → (S → Option (List ℕ) → S → Type 0) → ℕ → Result ℕ LineError → List ℕ → S → S → Type 0
+ReadsOnceWithin gives room (Ok count) piece old new = (bytes : List ℕ) × gives old (Some bytes) new × (length bytes ≡ count) × (piece ≡ take room bytes)
+ReadsOnceWithin gives room (Err ReadFault) piece old new = gives old None new
+ReadsOnceWithin gives room (Err TooMany) piece old new = ⊥
+ReadsOnceWithin gives room (Err OutOfMemory) piece old new = new ≡ old
+ReadsOnceWithin gives room (Err Ended) piece old new = ⊥
 
 -- an error of a read has its cause
-abbrev pub HasCauseOf : LineError → ℕ → ℕ → Type 0
-HasCauseOf ReadFault before now = Rose before now
-HasCauseOf TooMany before now = ⊥
-HasCauseOf OutOfMemory before now = Unit {0}
-HasCauseOf Ended before now = ⊥
+abbrev pub HasScriptCauseOf : LineError → ℕ → ℕ → Type 0
+HasScriptCauseOf ReadFault before now = Rose before now
+HasScriptCauseOf TooMany before now = ⊥
+HasScriptCauseOf OutOfMemory before now = Unit {0}
+HasScriptCauseOf Ended before now = ⊥
 
 -- an error of a read is that of the call
 abbrev pub of_piece_error : ReadError → LineError
@@ -48,9 +48,9 @@ of_piece_error read.ReadFault = ReadFault
 of_piece_error read.OutOfMemory = OutOfMemory
 
 -- whether an answer reports a fault of the source
-abbrev pub is_read_fault : {T : Type 0} → Result T LineError → Bool
-is_read_fault (Ok line) = false
-is_read_fault (Err ReadFault) = true
-is_read_fault (Err TooMany) = false
-is_read_fault (Err OutOfMemory) = false
-is_read_fault (Err Ended) = false
+abbrev pub is_script_fault : {T : Type 0} → Result T LineError → Bool
+is_script_fault (Ok line) = false
+is_script_fault (Err ReadFault) = true
+is_script_fault (Err TooMany) = false
+is_script_fault (Err OutOfMemory) = false
+is_script_fault (Err Ended) = false

@@ -9,7 +9,7 @@ use Rattle.live_page.specs.declared.lines.LineError.TheVariants.{ReadFault, TooM
 
 -- of the bytes within the limit those that wait to be given, and how many more there is room for; whether a byte past the
 -- limit was taken, whether the source reported its end, and whether a call was refused
-pub record Reader : Type 0 where
+pub record ScriptReader : Type 0 where
   pub waiting : List ℕ
   pub room : ℕ
   pub is_past : Bool
@@ -17,7 +17,7 @@ pub record Reader : Type 0 where
   pub has_ended : Bool
 
 -- nothing was read yet
-abbrev pub fresh : ℕ → Reader
+abbrev pub fresh : ℕ → ScriptReader
 fresh limit = record { waiting = []; room = limit; is_past = false; is_done = false; has_ended = false }
 
 -- one byte past the limit was taken, or none
@@ -27,7 +27,7 @@ IsPast true room beyond = (length beyond ≡ 1) × (room ≡ 0)
 
 -- a reader gave these lines of a source, which had `first` to read and has `left` now: the bytes that were taken are those of
 -- the lines, those that wait, and at most one past the limit
-pub record Gave (limit : ℕ) (first left : Option (List ℕ)) (given : List (List ℕ)) (reader : Reader) : Type 0 where
+pub record GaveScriptLines (limit : ℕ) (first left : Option (List ℕ)) (given : List (List ℕ)) (reader : ScriptReader) : Type 0 where
   pub front : List ℕ
   pub beyond : List ℕ
   pub taken : Consumes first left (front ++ (reader.waiting ++ beyond))
@@ -37,17 +37,17 @@ pub record Gave (limit : ℕ) (first left : Option (List ℕ)) (given : List (Li
   pub cut : IsCut reader.is_done front (reader.waiting ++ beyond) left
 
 -- the lines after an answer: one more where it has one
-abbrev pub lines_after : {Z : Type 0} → List (List ℕ) → Result (Option (Vec ℕ Z)) LineError → List (List ℕ)
-lines_after given (Ok (Some line)) = given ++ line.items ∷ []
-lines_after given (Ok None) = given
-lines_after given (Err error) = given
+abbrev pub script_lines_after : {Z : Type 0} → List (List ℕ) → Result (Option (Vec ℕ Z)) LineError → List (List ℕ)
+script_lines_after given (Ok (Some line)) = given ++ line.items ∷ []
+script_lines_after given (Ok None) = given
+script_lines_after given (Err error) = given
 
 -- the bytes within the limit that were not given yet
-abbrev pub bytes_ahead : Reader → ℕ
+abbrev pub bytes_ahead : ScriptReader → ℕ
 bytes_ahead reader = length reader.waiting + reader.room
 
 -- of these bytes there are more than the limit, and no line ends within it but those that were given
-pub record IsSpent (limit : ℕ) (given : List (List ℕ)) (all : List ℕ) : Type 0 where
+pub record IsPastLimit (limit : ℕ) (given : List (List ℕ)) (all : List ℕ) : Type 0 where
   pub past : limit < length all
   pub lines : whole_lines (take limit all) ≡ given
 
@@ -60,23 +60,23 @@ TooManyExactly (Err OutOfMemory) Spent = Unit {0}
 TooManyExactly (Err Ended) Spent = Unit {0}
 
 -- a read failed: what was taken of the source is the lines that were given, and bytes with no newline
-pub record Breaks (new : Reader) (before now : ℕ) : Type 0 where
+pub record BreaksScript (new : ScriptReader) (before now : ℕ) : Type 0 where
   pub rose : Rose before now
   pub not_done : new.is_done ≡ false
   pub not_past : new.is_past ≡ false
   pub uncut : has_newline new.waiting ≡ false
 
 -- what an answer means: a line is one step on, no line is the end, and an error has its cause
-abbrev pub Tells : {Z : Type 0} → Result (Option (Vec ℕ Z)) LineError → Reader → Reader → ℕ → ℕ → Type 0
-Tells (Ok (Some line)) old new before now = bytes_ahead new < bytes_ahead old
-Tells (Ok None) old new before now = new.is_done ≡ true
-Tells (Err ReadFault) old new before now = Breaks new before now
-Tells (Err TooMany) old new before now = (new.is_past ≡ true) × (has_newline new.waiting ≡ false)
-Tells (Err OutOfMemory) old new before now = Unit {0}
-Tells (Err Ended) old new before now = old.has_ended ≡ true
+abbrev pub TellsScriptLine : {Z : Type 0} → Result (Option (Vec ℕ Z)) LineError → ScriptReader → ScriptReader → ℕ → ℕ → Type 0
+TellsScriptLine (Ok (Some line)) old new before now = bytes_ahead new < bytes_ahead old
+TellsScriptLine (Ok None) old new before now = new.is_done ≡ true
+TellsScriptLine (Err ReadFault) old new before now = BreaksScript new before now
+TellsScriptLine (Err TooMany) old new before now = (new.is_past ≡ true) × (has_newline new.waiting ≡ false)
+TellsScriptLine (Err OutOfMemory) old new before now = Unit {0}
+TellsScriptLine (Err Ended) old new before now = old.has_ended ≡ true
 
 -- what a call answers: what it means, whether it was refused, and that no fault is forgotten
-pub record Answers {Z : Type 0} (result : Result (Option (Vec ℕ Z)) LineError) (old new : Reader) (before now : ℕ) : Type 0 where
-  pub told : Tells result old new before now
+pub record AnswersScriptLine {Z : Type 0} (result : Result (Option (Vec ℕ Z)) LineError) (old new : ScriptReader) (before now : ℕ) : Type 0 where
+  pub told : TellsScriptLine result old new before now
   pub refused : new.has_ended ≡ is_err result
   pub later : before ≤ now

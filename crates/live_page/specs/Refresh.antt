@@ -41,7 +41,7 @@ changes_taken files roots batch =
     map (λ entry. (entry.0, text_left entry.1.change)) (filter (λ entry. fits_file files roots entry.0) batch)
 
 -- no crate is new or changed: the crates of a database, those that there are now, and the count of writes are as they were
-pub record KeepsCrates (old new : Database) : Type 0 where
+pub record KeepsDatabaseCrates (old new : Database) : Type 0 where
   pub crates : new.crates ≡ old.crates
   pub listed : new.listed ≡ old.listed
   pub durability : new.listed_durability ≡ old.listed_durability
@@ -50,13 +50,13 @@ pub record KeepsCrates (old new : Database) : Type 0 where
 -- the crates of a graph are set in a database that has the crates of an old one, and nothing else is written
 pub record SetsGraph (cmp : Id → Id → Ordering) (graph : Graph) (old new : Database) : Type 0 where
   pub before : Database
-  pub kept : KeepsCrates old before
+  pub kept : KeepsDatabaseCrates old before
   pub ids : tree.BTreeMap Id ℕ
   pub set : IsSetInSteps cmp graph.crates before new ids
 
 -- the crates of a graph are set, where one is given; else they stay
 abbrev pub GivesCrates : (Id → Id → Ordering) → Option Graph → Database → Database → Type 0
-GivesCrates cmp None old new = KeepsCrates old new
+GivesCrates cmp None old new = KeepsDatabaseCrates old new
 GivesCrates cmp (Some graph) old new = SetsGraph cmp graph old new
 
 -- each identity that has a crate in a table keeps it, and each crate its identity
@@ -71,7 +71,7 @@ pub record GivesRoots (roots : List SourceRoot) (old new : Database) : Type 0 wh
   pub given : change.roots ≡ Some roots
   pub no_file : change.files_changed ≡ []
   pub changed : IsChanged change old new
-  pub crates : KeepsCrates old new
+  pub crates : KeepsDatabaseCrates old new
 
 -- those changes whose file has a root in a database are given to it, and nothing else
 pub record GivesChanges (batch : List (ℕ × ChangedFile)) (old new : Database) : Type 0 where
@@ -79,7 +79,7 @@ pub record GivesChanges (batch : List (ℕ × ChangedFile)) (old new : Database)
   pub no_roots : change.roots ≡ None
   pub taken : change.files_changed ≡ changes_taken old.files [] batch
   pub changed : IsChanged change old new
-  pub crates : KeepsCrates old new
+  pub crates : KeepsDatabaseCrates old new
 
 -- the sets of the files that exist by these roots, and those changes whose file is in one or has a root already, are in the database
 pub record Refreshes (roots : List FileRoot) (files : Files) (old new : Database) : Type 0 where

@@ -8,7 +8,7 @@ use Rattle.vfs_core.specs.VfsPath.{PathContent, vfs_path_cmp}
 use Rattle.vfs_sets.specs.FileSet.{path_of}
 use Rattle.vfs_sets.specs.Placement.{place_of}
 use Rattle.input_db.specs.Database.{Database}
-use Rattle.input_db_files.specs.Files.{file_root_of, root_of, stored_place, text_of}
+use Rattle.input_db_files.specs.Files.{file_root_of, source_root_at, stored_place, text_of_file}
 use Rattle.input_db_files.specs.SourceRoot.{files_in, set_of_root}
 use Rattle.input_db_files.specs.declared.durability.Durability.{Durability}
 use Rattle.input_db_files.specs.declared.inputs.FileSourceRootInput.{FileSourceRootInput}
@@ -88,7 +88,7 @@ shape roots files = record {
 
 -- the texts that a database knows
 abbrev pub texts_known : Database → ℕ → Option (List ℕ)
-texts_known db file = option_map (λ text. text.text) (text_of db.files file)
+texts_known db file = option_map (λ text. text.text) (text_of_file db.files file)
 
 -- a source root as the database has it
 abbrev pub root_image : SourceRootInput → RootShape
@@ -111,7 +111,7 @@ abbrev pub base_image : Database → BaseShape
 base_image db = record {
   local = db.local.roots.keys;
   library = db.library.roots.keys;
-  roots = filter_map (λ number. option_map root_image (root_of db.files number)) (numbers_listed db);
+  roots = filter_map (λ number. option_map root_image (source_root_at db.files number)) (numbers_listed db);
 }
 
 -- and of the files that exist

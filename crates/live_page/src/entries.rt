@@ -4,7 +4,7 @@ ghost use Rattle.std.specs.Prelude.{◌≡◌, ◌<◌, IfOk, length, map};
 ghost use Rattle.std.specs.List.{All, filter_map};
 ghost use Rattle.std.specs.Option.{option_copied};
 ghost use Rattle.input_db.specs.Identity.{IsTable};
-ghost use Rattle.live_page.specs.Entries.{dependency_entries, entries_shown, entry_in, named_number, path_in, root_in};
+ghost use Rattle.live_page.specs.Entries.{dependency_entries, entries_shown, entry_in, named_number, path_in, root_file_path};
 
 use crate::crate_entry::{CrateEntry, DependencyEntry};
 use base_text::{FileId, Items, Text, sort_all};
@@ -65,7 +65,7 @@ fn dependency_entries(
 ) -> Result<Vec<DependencyEntry>, AllocError>
     requires { All (λ dep. dep.crate_id < length db.now.crates) krate.now.dependencies }
     ensures { IfOk result (λ found. found.items
-        ≡ dependency_entries (root_in (path_in db.now.files) db.now.crates)
+        ≡ dependency_entries (root_file_path (path_in db.now.files) db.now.crates)
         (map (named_number (λ n. n)) krate.now.dependencies)) }
 {
     let mut found = Vec::new(alloc);
@@ -83,7 +83,7 @@ fn dependency_entries(
 // The path of a crate's root file.
 fn root_path(db: &InputDb, krate: Crate) -> Option<&str>
     requires { krate < length db.now.crates }
-    ensures { option_copied result ≡ root_in (path_in db.now.files) db.now.crates krate }
+    ensures { option_copied result ≡ root_file_path (path_in db.now.files) db.now.crates krate }
 {
     path_of(db.files(), db.crate_input(krate).crate_data.root_file_id)
 }

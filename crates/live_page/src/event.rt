@@ -2,7 +2,7 @@
 
 ghost use Rattle.json_fields.specs.Outcome.{Gives};
 ghost use Rattle.serde_json.specs.View.{members_view};
-ghost use Rattle.live_page.specs.Event.{Answers, answer_at, build_at, event, exclude_at, file_at, load_at, output_at, path_under, real_path};
+ghost use Rattle.live_page.specs.Event.{AnswersEvent, answer_at, build_at, event, exclude_at, file_event_at, load_at, output_at, path_under, real_path};
 
 use base_text::{CommandLine, Items, Output, PathError, Text, TryClone};
 use json_fields::{
@@ -80,7 +80,7 @@ impl Event {
     #[tactic(auto, unfolding(crate::specs::Event::event))]
     /// The event of a line, which has no newline. White space of JSON may stand around it.
     pub fn of_line(alloc: Global, line: &[u8]) -> Result<Event, EventError>
-        ensures { Answers result (event line.now) }
+        ensures { AnswersEvent result (event line.now) }
     {
         match of_bytes(alloc, line) {
             Ok(event) => Ok(event),
@@ -112,9 +112,9 @@ impl ReadJson for Event {
 }
 
 // The event that is named `file`.
-#[tactic(auto, unfolding(crate::specs::Event::file_at))]
+#[tactic(auto, unfolding(crate::specs::Event::file_event_at))]
 fn file_of(alloc: Global, fields: &Map<String, Value>) -> Result<Event, ReadError>
-    ensures { Gives result (file_at (members_view fields.now.entries)) }
+    ensures { Gives result (file_event_at (members_view fields.now.entries)) }
 {
     let path = path_of(alloc, fields)?;
     let text = optional_member(alloc, fields, "text")?;

@@ -66,9 +66,9 @@ pub struct Lines {
 impl Model for Lines {
     ghost use Rattle.std.specs.Prelude.{◌≡◌, ◌++◌, ◌+◌, ◌^◌, ◌<◌, false};
     ghost use Rattle.base_text.specs.Lines.{has_newline};
-    ghost use Rattle.live_page.specs.Reader.{Reader};
+    ghost use Rattle.live_page.specs.Reader.{ScriptReader};
 
-    ghost Value = { Reader };
+    ghost Value = { ScriptReader };
 
     ghost view = { λ l. record {
       waiting = l.line.items ++ l.piece;
@@ -82,8 +82,8 @@ impl Model for Lines {
 }
 
 impl Lines {
-    ghost use Rattle.live_page.specs.Pieces.{is_read_fault};
-    ghost use Rattle.live_page.specs.Reader.{Answers, Gave, IsSpent, Tells, TooManyExactly, fresh, lines_after};
+    ghost use Rattle.live_page.specs.Pieces.{is_script_fault};
+    ghost use Rattle.live_page.specs.Reader.{AnswersScriptLine, GaveScriptLines, IsPastLimit, TellsScriptLine, TooManyExactly, fresh, script_lines_after};
     ghost use Rattle.base_text.specs.Calls.{ReadsAtOnce};
     ghost use Rattle.base_text.specs.Lines.{has_newline};
     ghost use Rattle.live_page.specs.declared.lines.LineError.TheVariants.{Ended};
@@ -114,15 +114,15 @@ impl Lines {
     /// a refusal.
     pub fn next<S: ByteSource>(&mut self, input: &mut S) -> Result<Option<Vec<u8>>, LineError>
         ensures gave { (limit : ℕ) (first : Option (List ℕ)) (given : List (List ℕ))
-            → Gave limit first (S.left input.old) given self.old
-            → Gave limit first (S.left input.new) (lines_after given result) self.new }
+            → GaveScriptLines limit first (S.left input.old) given self.old
+            → GaveScriptLines limit first (S.left input.new) (script_lines_after given result) self.new }
         ensures too_many { (limit : ℕ) (given : List (List ℕ)) (all : List ℕ)
-            → Gave limit (Some all) (S.left input.old) given self.old
-            → TooManyExactly result (IsSpent limit given all) }
-        ensures answers { Answers result self.old self.new
+            → GaveScriptLines limit (Some all) (S.left input.old) given self.old
+            → TooManyExactly result (IsPastLimit limit given all) }
+        ensures answers { AnswersScriptLine result self.old self.new
             (S.faults input.old) (S.faults input.new) }
         ensures at_once { IsTrue (has_newline self.old.waiting) → input.new ≡ input.old }
-        ensures reads { ReadsAtOnce S.read_gives (is_read_fault result) self.old.waiting
+        ensures reads { ReadsAtOnce S.read_gives (is_script_fault result) self.old.waiting
             input.old input.new }
         ensures ended { IsTrue self.old.has_ended
             → (result ≡ Err Ended) × (self.new ≡ self.old) × (input.new ≡ input.old) }
@@ -143,11 +143,11 @@ impl Lines {
     fn read_line<S: ByteSource>(&mut self, input: &mut S) -> Result<Option<Vec<u8>>, LineError>
         requires { self.old.has_ended ≡ false }
         ensures gave { (limit : ℕ) (first : Option (List ℕ)) (given : List (List ℕ))
-            → Gave limit first (S.left input.old) given self.old
-            → Gave limit first (S.left input.new) (lines_after given result) self.new }
-        ensures told { Tells result self.old self.new (S.faults input.old) (S.faults input.new) }
+            → GaveScriptLines limit first (S.left input.old) given self.old
+            → GaveScriptLines limit first (S.left input.new) (script_lines_after given result) self.new }
+        ensures told { TellsScriptLine result self.old self.new (S.faults input.old) (S.faults input.new) }
         ensures not_ended { self.new.has_ended ≡ false }
-        ensures reads { ReadsAtOnce S.read_gives (is_read_fault result) self.old.waiting
+        ensures reads { ReadsAtOnce S.read_gives (is_script_fault result) self.old.waiting
             input.old input.new }
         ensures faults { S.faults input.old ≤ S.faults input.new }
     {

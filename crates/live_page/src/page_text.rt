@@ -3,7 +3,7 @@
 ghost use Rattle.std.specs.Prelude.{◌≡◌, ◌∷◌, ◌++◌, [], false, IfOk, OnOk, map, string_bytes};
 ghost use Rattle.serde_json.specs.View.{items_view, view};
 ghost use Rattle.serde_json.specs.Written.{compact_text, has_float};
-ghost use Rattle.live_page.specs.Page.{dependency_data, entry_data, numbers_listed, page_data, page_of, paths_shown, roots_listed, set_data, set_shown, texts_data};
+ghost use Rattle.live_page.specs.Page.{dependency_entry_data, entry_data, numbers_listed, page_data, page_of, paths_shown, roots_listed, set_data, set_shown, texts_data};
 
 use crate::crate_entry::{CrateEntry, DependencyEntry};
 use crate::entries::crate_entries;
@@ -48,7 +48,7 @@ fn entry_value(alloc: Global, entry: CrateEntry) -> Result<Value, AllocError>
 
 // The dependencies of an entry as JSON objects.
 fn dependency_values(alloc: Global, deps: Vec<DependencyEntry>) -> Result<Vec<Value>, AllocError>
-    ensures { IfOk result (λ values. map view values.items ≡ map dependency_data deps.items) }
+    ensures { IfOk result (λ values. map view values.items ≡ map dependency_entry_data deps.items) }
 {
     let mut values = Vec::new(alloc);
     for dep in deps {
@@ -59,7 +59,7 @@ fn dependency_values(alloc: Global, deps: Vec<DependencyEntry>) -> Result<Vec<Va
 
 // A dependency as a JSON object.
 fn dependency_value(alloc: Global, dep: DependencyEntry) -> Result<Value, AllocError>
-    ensures { IfOk result (λ value. view value ≡ dependency_data dep) }
+    ensures { IfOk result (λ value. view value ≡ dependency_entry_data dep) }
 {
     let name = Value::String(dep.name.into_inner());
     let root = Value::String(dep.root.into_inner());

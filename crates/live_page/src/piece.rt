@@ -2,7 +2,7 @@
 
 ghost use Rattle.std.specs.Prelude.{◌≡◌, ◌+◌, ◌^◌, ◌<◌, ◌≤◌, [], IfErr, IfOk, OnErr};
 ghost use Rattle.std.specs.Io.KnownBytes.{Consumes};
-ghost use Rattle.live_page.specs.Pieces.{HasCauseOf, Moves, Reads, ReadsOnce};
+ghost use Rattle.live_page.specs.Pieces.{HasScriptCauseOf, MovesToLine, ReadsWithin, ReadsOnceWithin};
 
 use crate::lines::LineError;
 use base_text::{ByteSource, Piece, newline_at};
@@ -12,7 +12,7 @@ use std::alloc::{AllocError, Global};
 /// passed over.
 pub(crate) fn move_line(piece: &mut Piece, line: &mut Vec<u8>) -> Result<bool, AllocError>
     ensures ok { IfOk result (λ found.
-        Moves found piece.old piece.new line.old.items line.new.items) }
+        MovesToLine found piece.old piece.new line.old.items line.new.items) }
     ensures err { OnErr result ((piece.new ≡ piece.old) × (line.new.items ≡ line.old.items)) }
 {
     let rest = piece.rest();
@@ -41,12 +41,12 @@ pub(crate) fn read_within<S: ByteSource>(
 ) -> Result<u64, LineError>
     requires { room + 1 < 2 ^ 64 }
     ensures ok { IfOk result (λ count.
-        Reads room count (S.left input.old) (S.left input.new) piece.new) }
+        ReadsWithin room count (S.left input.old) (S.left input.new) piece.new) }
     ensures kept { OnErr result ((piece.new ≡ [])
         × Consumes (S.left input.old) (S.left input.new) []) }
-    ensures once { ReadsOnce S.read_gives room result piece.new input.old input.new }
+    ensures once { ReadsOnceWithin S.read_gives room result piece.new input.old input.new }
     ensures cause { IfErr result (λ e.
-        HasCauseOf e (S.faults input.old) (S.faults input.new)) }
+        HasScriptCauseOf e (S.faults input.old) (S.faults input.new)) }
     ensures faults { S.faults input.old ≤ S.faults input.new }
 {
     let count = piece.read(alloc, input, room + 1)?;

@@ -6,7 +6,7 @@ use Rattle.base_text_outside.specs.declared.sink.SinkError.TheVariants.{OutOfMem
 use Rattle.live.specs.declared.fault.LiveError.TheVariants.{OutOfMemory}
 use Rattle.live.specs.declared.session.Live.{Live}
 use Rattle.live.specs.Cli.{CompletesAs, FailsAs, StatusOf}
-use Rattle.live.specs.Fault.{text_of}
+use Rattle.live.specs.Fault.{live_error_text}
 use Rattle.live.specs.Session.{State, session}
 use Rattle.live.specs.Turn.{Holds, first_state}
 use Rattle.live.proofs.Outcomes.{AppendsFront-nil}
@@ -38,7 +38,7 @@ memory_top words status left held told faults is = record {
   answer = Err MemoryOfSink;
   told = record {
     whole = tt;
-    cut = record { count = 0; short = some_line (text_of OutOfMemory); front = Appends-nil told };
+    cut = record { count = 0; short = some_line (live_error_text OutOfMemory); front = Appends-nil told };
     cause = record { later = omega arith; failed = λ e. absurd (cc) };
   };
   fails = λ s given all known. record { written = AppendsFront-nil held (session s all).pages; refused = λ refusal. absurd (omega (arith, refusal)) };

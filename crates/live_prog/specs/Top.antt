@@ -5,7 +5,7 @@ use Rattle.base_text_outside.specs.declared.sink.SinkError.{SinkError}
 use Rattle.live.specs.declared.fault.LiveError.{LiveError}
 use Rattle.live.specs.declared.session.Live.{Live}
 use Rattle.live.specs.Cli.{FinishesAs, state_for}
-use Rattle.live.specs.Fault.{IsRefusal, status_of, text_of}
+use Rattle.live.specs.Fault.{IsRefusal, status_of, live_error_text}
 use Rattle.live.specs.Run.{Stops}
 use Rattle.live.specs.Session.{Outcome, State, session}
 use Rattle.live.specs.Turn.{first_state}
@@ -26,5 +26,5 @@ pub record FailsTop (words : List (String Global)) (status : ℕ) (left : Option
   pub error : LiveError
   pub reports : status_of error ≡ status
   pub answer : Result (Unit {0}) SinkError
-  pub told : TellsLine answer (text_of error) outputs.1 faults
+  pub told : TellsLine answer (live_error_text error) outputs.1 faults
   pub fails : (s : State) → state_for words first_state ≡ Some s → (all : List ℕ) → left ≡ Some all → FailsNew (session s all) error outputs.0

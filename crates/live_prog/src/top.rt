@@ -4,7 +4,7 @@ ghost use Rattle.std.specs.Prelude.{◌≡◌, ℕ, List, Some};
 ghost use Rattle.live.specs.Cli.{CompletesAs, TakesFor, UsageExactly, state_for, texts_of};
 ghost use Rattle.live_config.specs.Config.{command_of};
 ghost use Rattle.live.specs.Fault.{all_statuses};
-ghost use Rattle.live.specs.Run.{HasCause, IsFaultless};
+ghost use Rattle.live.specs.Run.{HasStatusCause, IsFaultless};
 ghost use Rattle.live.specs.Turn.{first_state};
 ghost use Rattle.live_prog.specs.Top.{FailsTop, FinishesTop};
 
@@ -26,7 +26,7 @@ pub fn live_top<S: ByteSource, K: ByteSink, E: ByteSink>(
     ensures err { ¬ (result ≡ 0) → FailsTop words.now result
         (S.left input.old) ((K.held out.old, K.held out.new), (E.held err.old, E.held err.new))
         (E.faults err.old, E.faults err.new) }
-    ensures cause { HasCause all_statuses result
+    ensures cause { HasStatusCause all_statuses result
         (S.faults input.old, S.faults input.new) (K.faults out.old, K.faults out.new) }
     ensures usage { UsageExactly (command_of (texts_of words.now)) result
         ((input.new ≡ input.old) × (out.new ≡ out.old)) }

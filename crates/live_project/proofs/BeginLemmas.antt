@@ -32,7 +32,7 @@ use Rattle.pm_cargo_packages.specs.declared.package.PackageData.{PackageData}
 use Rattle.pm_cargo_packages.specs.declared.target.TargetData.{TargetData}
 use Rattle.pm_cargo_packages.specs.declared.target.TargetTag.{TargetTag}
 use Rattle.pm_lower_crates.specs.KeptEdges.{kept_edges}
-use Rattle.pm_lower_crates.specs.Lowering.{Crate, IsLowered, crate_of, crate_seen, crates_of, lowering, named_crates}
+use Rattle.pm_lower_crates.specs.Lowering.{Crate, IsLowered, crate_of_row, crate_seen, crates_of_rows, lowering, named_crates}
 use Rattle.pm_lower_crates.specs.Rows.{Row, live_target, live_targets, may_be_row, owner, owners_from, parts, root_file, row_at, rows_from, rows_of, rows_of_parts}
 use Rattle.pm_lower_crates.specs.WantedEdges.{bad_names, wanted_edges}
 use Rattle.pm_lower_crates.specs.declared.lower_error.LowerError.{LowerError}
@@ -60,7 +60,7 @@ module _ (P : ℕ → Type 0) where
 
   with_live_file-all : (files : by_path.FileNumbers) (file : ℕ × PathContent) → P file.0 → AllFiles files → AllFiles (with_live_file files file)
   with_live_file-all files file p all =
-      cond_both file.1.is_virtual files (by_path.with_file files file.1.text file.0) AllFiles
+      cond_both file.1.is_virtual files (by_path.with_numbered_file files file.1.text file.0) AllFiles
       (λ virtual. all) (λ real. insert-all files (by_path.path_key file.1.text) file.0 p all)
 
   -- files that are put in one after the other
@@ -75,7 +75,7 @@ module _ (P : ℕ → Type 0) where
     root-of : (of : PackageData) (target : TargetData) → IfSome (root_file files w of target) P
     unfolding root_file
     root-of of target =
-        cond_both (may_be_row w of target) (by_path.file_of files target.root) None (λ o. IfSome o P)
+        cond_both (may_be_row w of target) (by_path.file_number files target.root) None (λ o. IfSome o P)
         (λ may. All-lookup P (path_eq (by_path.path_key target.root)) files all) (λ other. tt)
 
     with-target : (target : TargetData) (file : Option ℕ) → IfSome file P → IfSome {T = TargetData × ℕ} (option_map (λ f. (target, f)) file) (λ t. P t.1)
@@ -117,13 +117,13 @@ module _ (P : ℕ → Type 0) where
         All-append (λ (row : Row). P row.file) (owner files w n p).rows (rows_of (owners_from files w (n + length (owner files w n p).rows) ps))
         (owner-rows n p) (owners-rows (n + length (owner files w n p).rows) ps)
 
-    crates-begin : (shared : CrateWorkspaceData) → All (λ krate. P krate.root) (crates_of shared (parts files w))
-    unfolding crates_of
+    crates-begin : (shared : CrateWorkspaceData) → All (λ krate. P krate.root) (crates_of_rows shared (parts files w))
+    unfolding crates_of_rows
     crates-begin shared =
         let kept = kept_edges (wanted_edges (parts files w)) in
         let rows = rows_of (owners_from files w 0 w.packages) in
-        All-append (λ (krate : Crate). P krate.root) (map (crate_of w shared kept) rows) []
-        (All-map (λ (krate : Crate). P krate.root) (crate_of w shared kept) rows (owners-rows 0 w.packages)) (All-nil (λ krate. P krate.root))
+        All-append (λ (krate : Crate). P krate.root) (map (crate_of_row w shared kept) rows) []
+        (All-map (λ (krate : Crate). P krate.root) (crate_of_row w shared kept) rows (owners-rows 0 w.packages)) (All-nil (λ krate. P krate.root))
 
     named-begin : (shared : CrateWorkspaceData) (bad : Option (List ℕ)) → IfOk (named_crates shared (parts files w) bad) (λ crates. All (λ krate. P krate.root) crates)
     named-begin shared None = crates-begin shared
@@ -139,41 +139,41 @@ module _ (P : ℕ → Type 0) where
   -- ---- the crates of a JSON project, and that of a detached file
 
   module _ (files : by_path.FileNumbers) (all : AllFiles files) where
-    json-row : (n : ℕ) (krate : document.Crate) → All (λ (row : json_rows.Row). P row.file) (option_to_list (json_rows.row_of files n krate))
+    json-row : (n : ℕ) (krate : document.Crate) → All (λ (row : json_rows.JsonRow). P row.file) (option_to_list (json_rows.json_row files n krate))
     unfolding Rattle.pm_lower_crates.specs.JsonRows.row_of
-    json-row n krate = by (by_path.file_of files krate.root_module) (All-lookup P (path_eq (by_path.path_key krate.root_module)) files all)
+    json-row n krate = by (by_path.file_number files krate.root_module) (All-lookup P (path_eq (by_path.path_key krate.root_module)) files all)
       where
-        by : (file : Option ℕ) → IfSome file P → All (λ (row : json_rows.Row). P row.file) (option_to_list (option_map (json_rows.row_in n krate) file))
-        by None none = All-nil (λ (row : json_rows.Row). P row.file)
-        by (Some file) p = All-cons (λ (row : json_rows.Row). P row.file) (json_rows.row_in n krate file) [] p (All-nil (λ (row : json_rows.Row). P row.file))
+        by : (file : Option ℕ) → IfSome file P → All (λ (row : json_rows.JsonRow). P row.file) (option_to_list (option_map (json_rows.row_in n krate) file))
+        by None none = All-nil (λ (row : json_rows.JsonRow). P row.file)
+        by (Some file) p = All-cons (λ (row : json_rows.JsonRow). P row.file) (json_rows.row_in n krate file) [] p (All-nil (λ (row : json_rows.JsonRow). P row.file))
 
-    json-rows : (n : ℕ) (crates : List document.Crate) → All (λ (row : json_rows.Row). P row.file) (json_rows.rows_among (json_rows.rows_from files n crates))
-    json-rows n [] = All-nil (λ (row : json_rows.Row). P row.file)
+    json-rows : (n : ℕ) (crates : List document.Crate) → All (λ (row : json_rows.JsonRow). P row.file) (json_rows.rows_among (json_rows.json_rows_from files n crates))
+    json-rows n [] = All-nil (λ (row : json_rows.JsonRow). P row.file)
     json-rows n (krate ∷ crates) =
-        let row = json_rows.row_of files n krate in
+        let row = json_rows.json_row files n krate in
         let next = n + length (option_to_list row) in
-        All-append (λ (row : json_rows.Row). P row.file) (option_to_list row) (json_rows.rows_among (json_rows.rows_from files next crates)) (json-row n krate) (json-rows next crates)
+        All-append (λ (row : json_rows.JsonRow). P row.file) (option_to_list row) (json_rows.rows_among (json_rows.json_rows_from files next crates)) (json-row n krate) (json-rows next crates)
 
-    json-begins : (project : ProjectJson) (shared : CrateWorkspaceData) (limit : ℕ) → IfOk (json.lowering files project shared limit) (λ crates. All (λ krate. P krate.root) crates)
+    json-begins : (project : ProjectJson) (shared : CrateWorkspaceData) (limit : ℕ) → IfOk (json.json_lowering files project shared limit) (λ crates. All (λ krate. P krate.root) crates)
     unfolding Rattle.pm_lower_crates.specs.JsonLowering.lowering Rattle.pm_lower_crates.specs.JsonLowering.crates_of
     json-begins project shared limit =
         let rows = json_rows.rows_among (json_rows.rows_by_place files project) in
-        let kept = kept_edges (json_edges.wanted_edges (json_rows.rows_by_place files project)) in
-        cond_both (nat_lt limit (length rows)) _ (Ok (map (json.crate_of project shared kept) rows)) (λ (r : Result (List Crate) LowerError). IfOk r (λ crates. All (λ (krate : Crate). P krate.root) crates))
-        (λ more. tt) (λ few. All-map (λ (krate : Crate). P krate.root) (json.crate_of project shared kept) rows (json-rows 0 (crates_in project)))
+        let kept = kept_edges (json_edges.json_wanted_edges (json_rows.rows_by_place files project)) in
+        cond_both (nat_lt limit (length rows)) _ (Ok (map (json.json_crate_of_row project shared kept) rows)) (λ (r : Result (List Crate) LowerError). IfOk r (λ crates. All (λ (krate : Crate). P krate.root) crates))
+        (λ more. tt) (λ few. All-map (λ (krate : Crate). P krate.root) (json.json_crate_of_row project shared kept) rows (json-rows 0 (crates_in project)))
 
-    alone-begins : (file : List ℕ) (shared : CrateWorkspaceData) (number : Option ℕ) → IfSome number P → All (λ (krate : Crate). P krate.root) (detached.crates_of file shared number)
+    alone-begins : (file : List ℕ) (shared : CrateWorkspaceData) (number : Option ℕ) → IfSome number P → All (λ (krate : Crate). P krate.root) (detached.crates_of_file file shared number)
     unfolding Rattle.pm_lower_crates.specs.DetachedLowering.crates_of
     alone-begins file shared None none = All-nil (λ (krate : Crate). P krate.root)
-    alone-begins file shared (Some number) p = All-cons (λ (krate : Crate). P krate.root) (detached.crate_of file shared number) [] p (All-nil (λ (krate : Crate). P krate.root))
+    alone-begins file shared (Some number) p = All-cons (λ (krate : Crate). P krate.root) (detached.crate_of_file file shared number) [] p (All-nil (λ (krate : Crate). P krate.root))
 
     detached-begins : (file : List ℕ) (cargo : Option Workspace) (shared : CrateWorkspaceData) (limit : ℕ)
-        → IfOk (detached.lowering files file cargo shared limit) (λ crates. All (λ krate. P krate.root) crates)
+        → IfOk (detached.detached_lowering files file cargo shared limit) (λ crates. All (λ krate. P krate.root) crates)
     unfolding Rattle.pm_lower_crates.specs.DetachedLowering.within_limit
     detached-begins file None shared limit =
-        let crates = detached.crates_of file shared (by_path.file_of files file) in
+        let crates = detached.crates_of_file file shared (by_path.file_number files file) in
         cond_both (nat_lt limit (length crates)) _ (Ok crates) (λ (r : Result (List Crate) LowerError). IfOk r (λ crates. All (λ (krate : Crate). P krate.root) crates))
-        (λ more. tt) (λ few. alone-begins file shared (by_path.file_of files file) (All-lookup P (path_eq (by_path.path_key file)) files all))
+        (λ more. tt) (λ few. alone-begins file shared (by_path.file_number files file) (All-lookup P (path_eq (by_path.path_key file)) files all))
     detached-begins file (Some w) shared limit = lowering-begins files all w shared limit
 
   kind-begins : (files : by_path.FileNumbers) → AllFiles files → (kind : ProjectWorkspaceKind) (shared : CrateWorkspaceData) (limit : ℕ)

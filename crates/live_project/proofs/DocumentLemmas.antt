@@ -19,7 +19,7 @@ use Rattle.pm_cargo_packages.specs.declared.target.TargetData.{TargetData}
 use Rattle.pm_cargo_packages.proofs.UpdateLemmas.{length-changed}
 use Rattle.pm_cargo_reading.specs.Links.{linked_contents, linked_packages, with_links}
 use Rattle.pm_cargo_reading.specs.Nodes.{by_package, dependencies_of_kinds, kinds_of, known_place, link_of, links_of, nodes_of, place_of_package, place_or_refusal, take_dependency, take_node, with_kinds}
-use Rattle.pm_cargo_reading.specs.Packages.{absolute_path, contents_of, by_id, is_script, manifest_path, optional_path, root_of, take_package, take_target, target_with_root, with_package}
+use Rattle.pm_cargo_reading.specs.Packages.{absolute_path, contents_of, by_id, is_script, absolute_manifest, optional_path, target_root, take_package, take_target, target_with_root, with_package}
 use Rattle.pm_cargo_reading.specs.Reading.{Reading, ◌>>=◌, take_each}
 use Rattle.pm_cargo_reading.specs.declared.contents.Contents.{Contents}
 use Rattle.pm_cargo_reading.specs.declared.nodes.Link.{Link}
@@ -82,22 +82,22 @@ names_optional : (text : Option (List ℕ)) → Names (optional_path text)
 names_optional None = names_ok None
 names_optional (Some text) = names_bind (absolute_path text) (λ path. Ok (Some path)) (names_path text) (λ path. names_ok (Some path))
 
-pub names_manifest : (text : List ℕ) → Names (manifest_path text)
-unfolding manifest_path
+pub names_manifest : (text : List ℕ) → Names (absolute_manifest text)
+unfolding absolute_manifest
 names_manifest text =
     names_bind (absolute_path text) (λ path. cond (bytes_eq path (codes "/")) (Err (NoParent path)) (Ok path)) (names_path text)
     (λ path. names_if (bytes_eq path (codes "/")) (Err (NoParent path)) (Ok path) (names_parent path) (names_ok path))
 
-names_root : (manifest : List ℕ) (t : Target) → Names (root_of manifest t)
-unfolding root_of
+names_root : (manifest : List ℕ) (t : Target) → Names (target_root manifest t)
+unfolding target_root
 names_root manifest t = names_if (is_script manifest t) (Ok manifest) (absolute_path t.src_path) (names_ok manifest) (names_path t.src_path)
 
 names_target : (limit place : ℕ) (manifest : List ℕ) (targets : List TargetData) (t : Target) → Names (take_target limit place manifest targets t)
 unfolding take_target
 names_target limit place manifest targets t =
-    let added : Reading (List TargetData) = root_of manifest t >>= λ root. Ok (targets ++ target_with_root place t root ∷ []) in
+    let added : Reading (List TargetData) = target_root manifest t >>= λ root. Ok (targets ++ target_with_root place t root ∷ []) in
     names_if (nat_lt (length targets) limit) added (Err (TooMany Targets))
-    (names_bind (root_of manifest t) (λ root. Ok (targets ++ target_with_root place t root ∷ [])) (names_root manifest t) (λ root. names_ok _))
+    (names_bind (target_root manifest t) (λ root. Ok (targets ++ target_with_root place t root ∷ [])) (names_root manifest t) (λ root. names_ok _))
     names_targets
 
 module _ (members : List PackageId) (limits : Limits) where
@@ -106,7 +106,7 @@ module _ (members : List PackageId) (limits : Limits) where
   names_package contents p =
       let place = length contents.packages in
       names_if (nat_lt place limits.packages) _ (Err (TooMany Packages))
-      (names_bind (manifest_path p.manifest_path) _ (names_manifest p.manifest_path) (λ manifest.
+      (names_bind (absolute_manifest p.manifest_path) _ (names_manifest p.manifest_path) (λ manifest.
       names_bind (take_each (take_target limits.targets place manifest) contents.targets p.targets)
       (λ targets. Ok (with_package members contents manifest p targets))
       (names_each (take_target limits.targets place manifest) (names_target limits.targets place manifest) contents.targets p.targets)

@@ -10,8 +10,8 @@ use Rattle.std.proofs.lemmas.List.{length-map}
 use Rattle.base_text_paths.specs.Paths.{parent_text}
 use Rattle.base_text_outside.specs.declared.limits.Limit.{Limit}
 use Rattle.base_text_outside.specs.declared.limits.Limit.TheVariants.{Crates}
-use Rattle.pm_json.specs.Crates.{Groups, absolute_from, crate_of, crates_of, folder_of_parent, folders_of, head_from}
-use Rattle.pm_json.specs.Project.{OnBase, level_read, project_level, project_of, sysroot_project_of}
+use Rattle.pm_json.specs.Crates.{Groups, absolute_from, project_crate, crates_on_base, folder_of_parent, folders_of, head_on_base}
+use Rattle.pm_json.specs.Project.{OnBase, level_read, level_within_limit, project_of, sysroot_project_of}
 use Rattle.pm_json.specs.Queries.{crates_in}
 use Rattle.pm_json.specs.Refusals.{Reading, ◌>>=◌, under}
 use Rattle.pm_json.specs.declared.krate.Crate.{Crate}
@@ -24,7 +24,7 @@ use Rattle.pm_json.specs.declared.parts.CrateSource.{CrateSource}
 use Rattle.pm_json.specs.declared.project_json_data.ProjectJsonData.{ProjectJsonData}
 use Rattle.pm_json.specs.declared.project_json_data.ProjectJsonData.TheFolds.{fold_out-ProjectJsonData, fold-roll-ProjectJsonData, ind-ProjectJsonData, map-ProjectJsonData}
 use Rattle.pm_json.specs.declared.project_json_data.ProjectJsonData.TheOpen.{ProjectJsonData-F}
-use Rattle.pm_lower_load.specs.JsonRoots.{root_eq, root_of, roots_of, with_root}
+use Rattle.pm_lower_load.specs.JsonRoots.{root_eq, json_crate_root, json_roots, with_distinct_root}
 use Rattle.pm_lower_load.specs.declared.package_root.PackageRoot.{PackageRoot}
 
 -- ---- which limit a refusal names
@@ -62,19 +62,19 @@ names_folders : (base root : List ℕ) (source : Option CrateSource) → NamesCr
 names_folders base root None = names_folder root (parent_text root)
 names_folders base root (Some source) = names_ok _
 
-names_head : (base : List ℕ) (stated : CrateData) → NamesCrates (head_from base stated)
-unfolding head_from
+names_head : (base : List ℕ) (stated : CrateData) → NamesCrates (head_on_base base stated)
+unfolding head_on_base
 names_head base stated =
     names_bind (folders_of base (absolute_from base stated.root_module) stated.source) _ (names_folders base (absolute_from base stated.root_module) stated.source) (λ folders. names_ok _)
 
-names_crate : (base : List ℕ) (groups : Groups) (stated : CrateData) → NamesCrates (crate_of base groups stated)
-unfolding crate_of
-names_crate base groups stated = names_bind (head_from base stated) _ (names_head base stated) (λ head. names_ok _)
+names_crate : (base : List ℕ) (groups : Groups) (stated : CrateData) → NamesCrates (project_crate base groups stated)
+unfolding project_crate
+names_crate base groups stated = names_bind (head_on_base base stated) _ (names_head base stated) (λ head. names_ok _)
 
-names_crates_of : (base : List ℕ) (groups : Groups) (stated : List CrateData) → NamesCrates (crates_of base groups stated)
+names_crates_of : (base : List ℕ) (groups : Groups) (stated : List CrateData) → NamesCrates (crates_on_base base groups stated)
 names_crates_of base groups [] = names_ok []
 names_crates_of base groups (c ∷ cs) =
-    names_bind (crate_of base groups c) _ (names_crate base groups c) (λ krate. names_under (λ crates. krate ∷ crates) (crates_of base groups cs) (names_crates_of base groups cs))
+    names_bind (project_crate base groups c) _ (names_crate base groups c) (λ krate. names_under (λ crates. krate ∷ crates) (crates_on_base base groups cs) (names_crates_of base groups cs))
 
 -- a project that is read on any base
 abbrev NamesOn : OnBase → Type 0
@@ -94,11 +94,11 @@ mapped Y Z h level = by level.sysroot_project
     by (Some inner) = refl
 
 module _ (limit : ℕ) where
-  names_level : (stated : ProjectJsonData-F OnBase) → ((read : OnBase) → stated.sysroot_project ≡ Some read → NamesOn read) → NamesOn (project_level limit stated)
-  unfolding project_level level_read
+  names_level : (stated : ProjectJsonData-F OnBase) → ((read : OnBase) → stated.sysroot_project ≡ Some read → NamesOn read) → NamesOn (level_within_limit limit stated)
+  unfolding level_within_limit level_read
   names_level stated inner manifest base =
       names_if (nat_lt limit (length stated.crates)) (Err (TooMany Crates)) (level_read stated manifest base) names_many
-      (names_bind (crates_of base stated.cfg_groups stated.crates) _ (names_crates_of base stated.cfg_groups stated.crates) (λ crates.
+      (names_bind (crates_on_base base stated.cfg_groups stated.crates) _ (names_crates_of base stated.cfg_groups stated.crates) (λ crates.
       names_bind (sysroot_project_of (option_map (absolute_from base) stated.sysroot_src) stated.sysroot_project) _
       (names_inner (option_map (absolute_from base) stated.sysroot_src) stated.sysroot_project inner) (λ sysroot_project. names_ok _)))
 
@@ -121,14 +121,14 @@ module _ (limit : ℕ) where
   -- a document that is refused by a limit is refused by that of crates
   pub names_crates : (stated : ProjectJsonData) → NamesOn (project_of limit stated)
   names_crates = ind-ProjectJsonData (λ p. NamesOn (project_of limit p)) (λ x y is.
-      subst NamesOn (sym (fold-roll-ProjectJsonData OnBase (project_level limit) x))
+      subst NamesOn (sym (fold-roll-ProjectJsonData OnBase (level_within_limit limit) x))
       (names_level (map-ProjectJsonData ProjectJsonData OnBase (project_of limit) x) (inner_named x y is)))
 
 -- ---- how many crates are left
 
-length-crates_of : (base : List ℕ) (groups : Groups) (stated : List CrateData) (crates : List Crate) → crates_of base groups stated ≡ Ok crates → length crates ≡ length stated
+length-crates_of : (base : List ℕ) (groups : Groups) (stated : List CrateData) (crates : List Crate) → crates_on_base base groups stated ≡ Ok crates → length crates ≡ length stated
 length-crates_of base groups [] crates is = let same : [] ≡ crates = cc in ap length (sym same)
-length-crates_of base groups (c ∷ cs) crates is = by (crate_of base groups c) (crates_of base groups cs) (length-crates_of base groups cs) is
+length-crates_of base groups (c ∷ cs) crates is = by (project_crate base groups c) (crates_on_base base groups cs) (length-crates_of base groups cs) is
   where
     by : (first : Reading Crate) (rest : Reading (List Crate)) → ((others : List Crate) → rest ≡ Ok others → length others ≡ length cs)
         → (first >>= λ krate. under (λ crates. krate ∷ crates) rest) ≡ Ok crates → length crates ≡ length (c ∷ cs)
@@ -139,11 +139,11 @@ length-crates_of base groups (c ∷ cs) crates is = by (crate_of base groups c) 
         ap length (sym all) ∙ ap suc (counts others refl)
 
 module _ (limit : ℕ) where
-  few_level : (stated : ProjectJsonData-F OnBase) (manifest : Option (List ℕ)) (base : List ℕ) (project : ProjectJson) → project_level limit stated manifest base ≡ Ok project
+  few_level : (stated : ProjectJsonData-F OnBase) (manifest : Option (List ℕ)) (base : List ℕ) (project : ProjectJson) → level_within_limit limit stated manifest base ≡ Ok project
       → length (crates_in project) ≤ limit
-  unfolding project_level level_read
+  unfolding level_within_limit level_read
   few_level stated manifest base project is =
-      by (nat_lt limit (length stated.crates)) refl (crates_of base stated.cfg_groups stated.crates) refl
+      by (nat_lt limit (length stated.crates)) refl (crates_on_base base stated.cfg_groups stated.crates) refl
       (sysroot_project_of (option_map (absolute_from base) stated.sysroot_src) stated.sysroot_project) is
     where
       made : List Crate → Option ProjectJson → ProjectJson-F ProjectJson
@@ -157,7 +157,7 @@ module _ (limit : ℕ) where
         runnables = stated.runnables;
       }
 
-      by : (more : Bool) → nat_lt limit (length stated.crates) ≡ more → (crates : Reading (List Crate)) → crates_of base stated.cfg_groups stated.crates ≡ crates
+      by : (more : Bool) → nat_lt limit (length stated.crates) ≡ more → (crates : Reading (List Crate)) → crates_on_base base stated.cfg_groups stated.crates ≡ crates
           → (inner : Reading (Option ProjectJson))
           → cond more (Err (TooMany Crates)) (crates >>= λ cs. inner >>= λ p. Ok (roll-ProjectJson (made cs p))) ≡ Ok project → length (crates_in project) ≤ limit
       by true past crates are inner both = absurd (cc)
@@ -175,24 +175,24 @@ module _ (limit : ℕ) where
       → length (crates_in project) ≤ limit
   few_in_project stated manifest base project =
       subst (λ (read : OnBase). read manifest base ≡ Ok project → length (crates_in project) ≤ limit)
-      (sym (fold_out-ProjectJsonData OnBase (project_level limit) stated)) (few_level _ manifest base project)
+      (sym (fold_out-ProjectJsonData OnBase (level_within_limit limit) stated)) (few_level _ manifest base project)
 
 -- ---- roots
 
 -- distinct roots are no more than those that are put in
-few_fold : (before roots : List PackageRoot) → length (fold with_root before roots) ≤ length before + length roots
+few_fold : (before roots : List PackageRoot) → length (fold with_distinct_root before roots) ≤ length before + length roots
 few_fold before [] = omega arith
 few_fold before (root ∷ roots) =
-    let rest = few_fold (with_root before root) roots in
-    let one : length (with_root before root) ≤ length before + 1 =
+    let rest = few_fold (with_distinct_root before root) roots in
+    let one : length (with_distinct_root before root) ≤ length before + 1 =
     cond_both (list_any (root_eq root) before) before (before ++ root ∷ []) (λ (rs : List PackageRoot). length rs ≤ length before + 1)
     (λ there. omega arith) (λ new. let count = length-append before (root ∷ []) in omega (arith, count)) in
     omega (arith, rest, one)
 
 -- the roots of a project are no more than its crates
-pub few_distinct : (project : ProjectJson) (extra : List (List ℕ)) → length (roots_of project extra) ≤ length (crates_in project)
-unfolding roots_of
+pub few_distinct : (project : ProjectJson) (extra : List (List ℕ)) → length (json_roots project extra) ≤ length (crates_in project)
+unfolding json_roots
 few_distinct project extra =
-    let count = length-map (crates_in project) (root_of extra) in
-    let few = few_fold [] (map (root_of extra) (crates_in project)) in
+    let count = length-map (crates_in project) (json_crate_root extra) in
+    let few = few_fold [] (map (json_crate_root extra) (crates_in project)) in
     omega (arith, few, count)

@@ -15,7 +15,7 @@ use Rattle.pm_lower.specs.ToCrateGraph.{kind_lowering, shared_of}
 use Rattle.pm_lower.specs.declared.project_workspace.ProjectWorkspaceKind.{ProjectWorkspaceKind}
 use Rattle.pm_lower.specs.declared.project_workspace.ProjectWorkspaceKind.TheVariants.{Cargo, Json, DetachedFile}
 use Rattle.pm_lower_crates.specs.Lowering.{Crate, lowering, named_crates}
-use Rattle.pm_lower_crates.specs.Rows.{Part, parts, rows_of_parts}
+use Rattle.pm_lower_crates.specs.Rows.{ProjectPart, parts, rows_of_parts}
 use Rattle.pm_lower_crates.specs.WantedEdges.{bad_names}
 use Rattle.pm_lower_crates.specs.declared.lower_error.LowerError.TheVariants.{TooMany}
 use Rattle.vfs_core.specs.VfsPath.{PathContent}
@@ -23,12 +23,12 @@ use Rattle.live_project.specs.Crates.{files_by_path, project_crates}
 use Rattle.live_project.specs.Project.{ProjectContent}
 
 -- a name names no limit
-named-limit : (shared : CrateWorkspaceData) (all : List Part) (bad : Option (List ℕ)) (limit : Limit) → named_crates shared all bad ≡ Err (TooMany limit) → limit ≡ Crates
+named-limit : (shared : CrateWorkspaceData) (all : List ProjectPart) (bad : Option (List ℕ)) (limit : Limit) → named_crates shared all bad ≡ Err (TooMany limit) → limit ≡ Crates
 named-limit shared all None limit is = cc
 named-limit shared all (Some name) limit is = cc
 
 -- the same by whether there are too many
-parts-limit : (shared : CrateWorkspaceData) (all : List Part) (is_more : Bool) (limit : Limit)
+parts-limit : (shared : CrateWorkspaceData) (all : List ProjectPart) (is_more : Bool) (limit : Limit)
     → cond is_more (Err (TooMany Crates)) (named_crates shared all (slice_get (bad_names all) 0)) ≡ Err (TooMany limit) → limit ≡ Crates
 parts-limit shared all true limit is = cc
 parts-limit shared all false limit is = named-limit shared all (slice_get (bad_names all) 0) limit is
@@ -42,16 +42,16 @@ counted-limit : (is_more : Bool) (crates : List Crate) (limit : Limit) → cond 
 counted-limit true crates limit is = cc
 counted-limit false crates limit is = cc
 
-json-limit : (files : by_path.FileNumbers) (project : ProjectJson) (shared : CrateWorkspaceData) (most : ℕ) (limit : Limit) → json.lowering files project shared most ≡ Err (TooMany limit) → limit ≡ Crates
+json-limit : (files : by_path.FileNumbers) (project : ProjectJson) (shared : CrateWorkspaceData) (most : ℕ) (limit : Limit) → json.json_lowering files project shared most ≡ Err (TooMany limit) → limit ≡ Crates
 unfolding Rattle.pm_lower_crates.specs.JsonLowering.lowering
 json-limit files project shared most limit is =
-    counted-limit (nat_lt most (length (rows_among (rows_by_place files project)))) (json.crates_of files project shared) limit is
+    counted-limit (nat_lt most (length (rows_among (rows_by_place files project)))) (json.json_crates_of_rows files project shared) limit is
 
 detached-limit : (files : by_path.FileNumbers) (file : List ℕ) (cargo : Option Workspace) (shared : CrateWorkspaceData) (most : ℕ) (limit : Limit)
-    → detached.lowering files file cargo shared most ≡ Err (TooMany limit) → limit ≡ Crates
+    → detached.detached_lowering files file cargo shared most ≡ Err (TooMany limit) → limit ≡ Crates
 unfolding Rattle.pm_lower_crates.specs.DetachedLowering.within_limit
 detached-limit files file None shared most limit is =
-    let crates = detached.crates_of file shared (by_path.file_of files file) in
+    let crates = detached.crates_of_file file shared (by_path.file_number files file) in
     counted-limit (nat_lt most (length crates)) crates limit is
 detached-limit files file (Some w) shared most limit is = workspace-limit files w shared most limit is
 

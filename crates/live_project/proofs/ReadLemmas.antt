@@ -16,7 +16,7 @@ use Rattle.pm_lower_load.specs.Loading.{Loading, ◌>>=◌, of_document, of_fetc
 use Rattle.pm_lower_load.specs.Located.{located_manifest, located_root, manifest_or_located}
 use Rattle.pm_lower_load.specs.Metadata.{environment, metadata_answer}
 use Rattle.pm_lower_load.specs.ToolAnswers.{tool_answers}
-use Rattle.pm_lower.specs.Project.{cargo_project, kind_of, kind_with, located_project, project_of, project_with}
+use Rattle.pm_lower.specs.Project.{cargo_project, kind_of_project, kind_with, located_project, project_of_workspace, project_with}
 use Rattle.pm_lower.specs.ReadProject.{read_project}
 use Rattle.json_fields.specs.Document.{document}
 use Rattle.json_fields.specs.Outcome as fields
@@ -31,18 +31,18 @@ use Rattle.pm_lower.specs.DetachedProject.{detached_project, detached_with, meta
 use Rattle.pm_lower_load.specs.JsonDocument.{document_at, document_text, json_content, project_of_document, stated_sysroot, text_or_missing, toolchain_member, without_toolchain}
 use Rattle.pm_lower.specs.JsonProject.{inline_project, json_project}
 use Rattle.pm_lower.specs.ProjectWorkspace.{ScriptPart, script_workspace}
-use Rattle.pm_lower.specs.ToRoots.{HasNoRustc, KindHasNoRustc, kind_roots, library_roots, out_dir_at, project_roots, source_root, sysroot_roots}
+use Rattle.pm_lower.specs.ToRoots.{HasNoRustc, KindHasNoRustc, kind_roots, library_roots, out_dir_at, project_roots, library_source_root, sysroot_roots}
 use Rattle.pm_lower_load.specs.declared.load_error.LoadError.TheVariants.{TooMany}
 use Rattle.pm_lower.specs.declared.project_workspace.ProjectWorkspace.{ProjectWorkspace}
 use Rattle.pm_lower.specs.declared.project_workspace.ProjectWorkspaceKind.{ProjectWorkspaceKind}
 use Rattle.pm_lower.specs.declared.project_workspace.ProjectWorkspaceKind.TheVariants.{Json, DetachedFile}
 use Rattle.pm_lower_load.specs.declared.tool_answers.PlatformAsked.TheVariants.{FirstTarget, NoTarget}
 use Rattle.pm_lower_load.specs.declared.tool_answers.ToolAnswers.{ToolAnswers}
-use Rattle.pm_cargo_reading.specs.Packages.{manifest_path}
+use Rattle.pm_cargo_reading.specs.Packages.{absolute_manifest}
 use Rattle.pm_cargo_reading.specs.Reading.{Reading}
 use Rattle.pm_cargo_reading.specs.declared.workspace_error.WorkspaceError.TheVariants as refused
 use Rattle.base_text_paths.specs.ManifestPath.{directory_of}
-use Rattle.pm_lower_load.specs.Roots.{root_of, roots_of}
+use Rattle.pm_lower_load.specs.Roots.{package_root, roots_of}
 use Rattle.pm_tools_ask.specs.Ask.{Means}
 use Rattle.pm_tools_ask.specs.Sysroot.{empty_sysroot}
 use Rattle.pm_tools_ask.specs.Toolchain.{Toolchain}
@@ -107,7 +107,7 @@ names_plain (Some member) project limit is = absurd (cc)
 
 names_located : (manifest : List ℕ) (root : Option (List ℕ)) → Names (manifest_or_located manifest root)
 names_located manifest None = names_ok manifest
-names_located manifest (Some root) = names_reading (manifest_path root) (names_manifest root)
+names_located manifest (Some root) = names_reading (absolute_manifest root) (names_manifest root)
 
 module _ (sysroot : Toolchain) (config : CargoConfig) (limits : Limits) (means : Means) where
   names_kind : (manifest : List ℕ) (answers : ToolAnswers) (metadata : Metadata × Option Error) → Names (kind_with manifest config answers limits means metadata)
@@ -199,12 +199,12 @@ pub record IsSmall (limits : Limits) (p : ProjectWorkspace) : Type 0 where
   pub few : length (project_roots p) ≤ limits.packages + limits.crates + 2
 
 -- the roots of a toolchain are one
-one_root : (sysroot : Toolchain) (w : RustLibSrcWorkspace) → length (library_roots w ++ source_root sysroot.src ∷ []) ≡ 1
+one_root : (sysroot : Toolchain) (w : RustLibSrcWorkspace) → length (library_roots w ++ library_source_root sysroot.src ∷ []) ≡ 1
 one_root sysroot Empty = refl
 
 -- there are as many roots as packages
 pub as_many : (w : Workspace) (out_dir : ℕ → Option (List ℕ)) (extra : List (List ℕ)) → length (roots_of w out_dir extra) ≡ length w.packages
-as_many w out_dir extra = length-map (enumerate_from 0 w.packages) (λ p. root_of w (out_dir p.0) extra p.1) ∙ length-enumerate_from 0 w.packages
+as_many w out_dir extra = length-map (enumerate_from 0 w.packages) (λ p. package_root w (out_dir p.0) extra p.1) ∙ length-enumerate_from 0 w.packages
 
 -- a kind of project has few roots of its own, and no crates of the compiler
 abbrev pub FewRoots : Limits → ProjectWorkspaceKind → Type 0
@@ -212,7 +212,7 @@ FewRoots limits kind = (extra : List (List ℕ)) → length (kind_roots kind ext
 
 module _ (sysroot : Toolchain) (config : CargoConfig) (limits : Limits) (means : Means) where
   -- the project of a kind that is small
-  small_of : (toolchain : Toolchain) (answers : ToolAnswers) (kind : ProjectWorkspaceKind) → KindHasNoRustc kind → FewRoots limits kind → IsSmall limits (project_of toolchain config answers kind)
+  small_of : (toolchain : Toolchain) (answers : ToolAnswers) (kind : ProjectWorkspaceKind) → KindHasNoRustc kind → FewRoots limits kind → IsSmall limits (project_of_workspace toolchain config answers kind)
   small_of toolchain answers kind no_rustc few = record {
     no_rustc = no_rustc;
     few =
@@ -222,7 +222,7 @@ module _ (sysroot : Toolchain) (config : CargoConfig) (limits : Limits) (means :
         omega (arith, count, one, own);
   }
 
-  few_cargo : (error : Option Error) (cargo : Workspace) → length cargo.packages ≤ limits.packages → FewRoots limits (kind_of error cargo)
+  few_cargo : (error : Option Error) (cargo : Workspace) → length cargo.packages ≤ limits.packages → FewRoots limits (kind_of_project error cargo)
   few_cargo error cargo few extra = let many = as_many cargo (out_dir_at no_scripts) extra in omega (arith, many, few)
 
   small_with : (manifest : List ℕ) (answers : ToolAnswers) (metadata : Metadata × Option Error) → Keeps (IsSmall limits) (project_with sysroot manifest config answers limits means metadata)
@@ -230,12 +230,12 @@ module _ (sysroot : Toolchain) (config : CargoConfig) (limits : Limits) (means :
   small_with manifest answers metadata =
       let env = environment answers.config_file config means in
       let reading = read_workspace metadata.0 manifest env false limits in
-      let Small : ProjectWorkspaceKind → Type 0 = λ kind. IsSmall limits (project_of sysroot config answers kind) in
-      let kinds : Keeps Small (of_reading reading >>= λ cargo. Ok (kind_of metadata.1 cargo)) =
-      keeps_bind Small (of_reading reading) (λ cargo. Ok (kind_of metadata.1 cargo)) (λ cargo is.
-      keeps_ok Small (kind_of metadata.1 cargo) (small_of sysroot answers (kind_of metadata.1 cargo) refl (few_cargo metadata.1 cargo
+      let Small : ProjectWorkspaceKind → Type 0 = λ kind. IsSmall limits (project_of_workspace sysroot config answers kind) in
+      let kinds : Keeps Small (of_reading reading >>= λ cargo. Ok (kind_of_project metadata.1 cargo)) =
+      keeps_bind Small (of_reading reading) (λ cargo. Ok (kind_of_project metadata.1 cargo)) (λ cargo is.
+      keeps_ok Small (kind_of_project metadata.1 cargo) (small_of sysroot answers (kind_of_project metadata.1 cargo) refl (few_cargo metadata.1 cargo
       (keeps_reading (λ (w : Workspace). length w.packages ≤ limits.packages) reading (document_few metadata.0 manifest env false limits) cargo is)))) in
-      keeps_bind (IsSmall limits) (of_reading reading >>= λ cargo. Ok (kind_of metadata.1 cargo)) _ (λ kind is. keeps_ok (IsSmall limits) _ (kinds kind is))
+      keeps_bind (IsSmall limits) (of_reading reading >>= λ cargo. Ok (kind_of_project metadata.1 cargo)) _ (λ kind is. keeps_ok (IsSmall limits) _ (kinds kind is))
 
   small_located : (manifest : List ℕ) → Keeps (IsSmall limits) (located_project sysroot manifest config limits means)
   unfolding located_project
@@ -266,7 +266,7 @@ module _ (sysroot : Toolchain) (config : CargoConfig) (limits : Limits) (means :
   small_json path =
       keeps_bind (IsSmall limits) (json_content path limits means.files) _ (λ project is.
       let sysroot = stated_sysroot project in
-      let answers = compiler_answers sysroot (queries.root_of project) config.target means in
+      let answers = compiler_answers sysroot (queries.project_base project) config.target means in
       keeps_ok (IsSmall limits) _ (small_of sysroot answers (Json project) tt (few_json project (few_crates path project is))))
 
   -- ---- a detached file

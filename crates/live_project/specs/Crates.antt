@@ -4,7 +4,7 @@ use Rattle.std.specs.Prelude.{◌≡◌, ℕ, List, [], fold, nat_eq, Some, Resu
 use Rattle.std.specs.List.{All}
 use Rattle.std.specs.Map.{lookup}
 use Rattle.crate_graph_values.specs.declared.builder.CrateBuilder.{CrateBuilder}
-use Rattle.pm_lower_crates.specs.Loader.{FileNumbers, with_file}
+use Rattle.pm_lower_crates.specs.Loader.{FileNumbers, with_numbered_file}
 use Rattle.pm_lower.specs.ToCrateGraph.{kind_wants, project_lowering}
 use Rattle.pm_lower_crates.specs.Lowering.{Crate}
 use Rattle.pm_lower_crates.specs.WantedEdges.{Edge}
@@ -14,7 +14,7 @@ use Rattle.live_project.specs.Project.{ProjectContent}
 
 -- the files of a loader, with one more under its number; a virtual path is in no loader
 abbrev pub with_live_file : FileNumbers → ℕ × PathContent → FileNumbers
-with_live_file files file = if file.1.is_virtual then files else with_file files file.1.text file.0
+with_live_file files file = if file.1.is_virtual then files else with_numbered_file files file.1.text file.0
 
 -- the loader of these files
 unfoldable pub files_by_path : List (ℕ × PathContent) → FileNumbers

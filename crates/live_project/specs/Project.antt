@@ -97,10 +97,10 @@ NamesLoadLimit (Refused error) = NamesDocumentLimit error
 NamesLoadLimit OutOfMemory = Unit {0}
 
 -- the name of the variant, which is what is printed
-abbrev pub variant_name : ProjectError → List ℕ
-variant_name (BadManifest text) = codes "BadManifest"
-variant_name (Refused error) = codes "Refused"
-variant_name OutOfMemory = codes "OutOfMemory"
+abbrev pub project_error_name : ProjectError → List ℕ
+project_error_name (BadManifest text) = codes "BadManifest"
+project_error_name (Refused error) = codes "Refused"
+project_error_name OutOfMemory = codes "OutOfMemory"
 
 -- ---- what every project keeps
 

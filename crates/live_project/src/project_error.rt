@@ -56,9 +56,9 @@ impl TryClone for ProjectError {
 /// The variant's name.
 impl fmt::Display for ProjectError {
     ghost use Rattle.std.specs.Prelude.{Some};
-    ghost use Rattle.live_project.specs.Project.{variant_name};
+    ghost use Rattle.live_project.specs.Project.{project_error_name};
 
-    ghost output = { λ error. Some (variant_name error) };
+    ghost output = { λ error. Some (project_error_name error) };
 
     fn fmt<W: fmt::Write>(&self, f: &mut fmt::Formatter<W>) -> fmt::Result {
         f.write_str(match self {

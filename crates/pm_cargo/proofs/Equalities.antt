@@ -14,7 +14,7 @@ use Rattle.pm_cargo_packages.specs.Laws.{HasCleanManifest, HasCleanRoot}
 use Rattle.pm_cargo_packages.specs.declared.package.PackageData.{PackageData}
 use Rattle.pm_cargo_packages.specs.declared.target.TargetData.{TargetData}
 use Rattle.crate_graph_values.proofs.ContentsOn.{lists_on, options_on}
-use Rattle.pm_cargo.specs.Laws.{HasCleanPaths}
+use Rattle.pm_cargo.specs.Laws.{HasCleanWorkspace}
 use Rattle.pm_cargo.specs.Workspace.{Workspace}
 
 -- the variables of an environment
@@ -29,7 +29,7 @@ module _ (package_eq : PackageData → PackageData → Bool) (target_eq : Target
       && (env_eq x.env y.env && beq x.is_sysroot y.is_sysroot))))))
 
   module _ (packages : IsContentEqualityOn HasCleanManifest package_eq) (targets : IsContentEqualityOn HasCleanRoot target_eq) (environments : IsContentEquality env_eq) where
-    pub workspaces_are_equal : (x y : Workspace) → HasCleanPaths x → HasCleanPaths y → (workspace_eq x y ≡ true) ↔ (x ≡ y)
+    pub workspaces_are_equal : (x y : Workspace) → HasCleanWorkspace x → HasCleanWorkspace y → (workspace_eq x y ≡ true) ↔ (x ≡ y)
     workspaces_are_equal x y p q =
         let all =
         Decides-and _ _ (lists_on HasCleanManifest package_eq packages x.packages y.packages p.packages q.packages)

@@ -6,7 +6,7 @@ use Rattle.pm_cargo_packages.specs.Laws.{HasCleanManifest, HasCleanRoot}
 use Rattle.pm_cargo.specs.Workspace.{Workspace}
 
 -- every path of the workspace is clean: those of its packages and targets, and its own
-pub record HasCleanPaths (w : Workspace) : Type 0 where
+pub record HasCleanWorkspace (w : Workspace) : Type 0 where
   pub packages : All HasCleanManifest w.packages
   pub targets : All HasCleanRoot w.targets
   pub workspace_root : IsClean w.workspace_root

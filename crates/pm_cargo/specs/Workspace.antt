@@ -16,5 +16,5 @@ pub record Workspace : Type 0 where
   pub is_sysroot : Bool
 
 -- every id that the workspace holds is that of one of its packages or targets
-abbrev pub IsWithin : Workspace → Type 0
-IsWithin w = HoldsItsIds (record { packages = w.packages; targets = w.targets })
+abbrev pub HasOwnIds : Workspace → Type 0
+HasOwnIds w = HoldsItsIds (record { packages = w.packages; targets = w.targets })

@@ -10,7 +10,7 @@ ghost use Rattle.pm_cargo_reading.specs.Links.{linked_contents};
 ghost use Rattle.pm_cargo_reading.specs.Nodes.{nodes_of};
 ghost use Rattle.pm_cargo_reading.specs.Presence.{HoldsItsIds};
 ghost use Rattle.pm_cargo_reading.specs.Reading.{Gives};
-ghost use Rattle.pm_cargo.specs.Workspace.{IsWithin};
+ghost use Rattle.pm_cargo.specs.Workspace.{HasOwnIds};
 
 use crate::package_iter::PackageIter;
 use base_text_paths::{AbsPath, AbsPathBuf, Items, Limits, ManifestPath, TryClone};
@@ -64,7 +64,7 @@ impl Model for CargoWorkspace {
       is_sysroot = w.is_sysroot;
     } };
 
-    ghost invariant = { λ a. seen.IsWithin (record {
+    ghost invariant = { λ a. seen.HasOwnIds (record {
       packages = a.packages;
       targets = a.targets;
       workspace_root = a.workspace_root;
@@ -146,7 +146,7 @@ impl CargoWorkspace {
     /// Whether the workspace has a package of that number.
     pub fn has_package(&self, id: Package) -> bool
         ensures present { IsTrue result ↔ (number_of id < length self.now.packages) }
-        ensures ids { IsWithin self.now }
+        ensures ids { HasOwnIds self.now }
     {
         (id.into_raw() as usize) < self.packages.len()
     }
@@ -154,7 +154,7 @@ impl CargoWorkspace {
     /// Whether the workspace has a target of that number.
     pub fn has_target(&self, id: Target) -> bool
         ensures present { IsTrue result ↔ (number_of id < length self.now.targets) }
-        ensures ids { IsWithin self.now }
+        ensures ids { HasOwnIds self.now }
     {
         (id.into_raw() as usize) < self.targets.len()
     }

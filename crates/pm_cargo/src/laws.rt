@@ -3,7 +3,7 @@
 ghost use Rattle.std.specs.Prelude.{◌≡◌};
 ghost use Rattle.cargo_meta.specs.declared.metadata.Metadata.{Metadata};
 ghost use Rattle.crate_graph_values.specs.Laws.{IsContentEqualityOn};
-ghost use Rattle.pm_cargo.specs.Laws.{HasCleanPaths};
+ghost use Rattle.pm_cargo.specs.Laws.{HasCleanWorkspace};
 ghost use Rattle.pm_cargo.specs.Shuffle.{IsReadAlike, IsShuffle};
 
 use crate::cargo_workspace::CargoWorkspace;
@@ -18,7 +18,7 @@ pub fn shuffled_documents_give_one_workspace()
 /// Two workspaces are equal exactly where all that they hold is: their packages, targets, directories,
 /// manifests and environments. Each path's text is clean.
 pub fn equality_of_workspaces_is_content()
-    ensures { IsContentEqualityOn HasCleanPaths ⟦<CargoWorkspace as PartialEq>⟧.eq }
+    ensures { IsContentEqualityOn HasCleanWorkspace ⟦<CargoWorkspace as PartialEq>⟧.eq }
 {
     pm_cargo_packages::laws::equality_of_packages_is_content();
     pm_cargo_packages::laws::equality_of_targets_is_content();

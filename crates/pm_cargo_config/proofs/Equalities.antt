@@ -9,7 +9,7 @@ use Rattle.base_values.specs.Equality.{IsContentEquality}
 use Rattle.base_text_paths.proofs.Equalities.{paths}
 use Rattle.base_text_paths.specs.CfgChange.{CfgChange}
 use Rattle.base_text_paths.specs.PathOrder.{path_eq}
-use Rattle.pm_cargo_config.specs.Laws.{HasCleanPath}
+use Rattle.pm_cargo_config.specs.Laws.{HasCleanSource}
 use Rattle.pm_cargo_config.specs.declared.config.RustLibSource.{RustLibSource}
 use Rattle.pm_cargo_config.specs.declared.config.RustLibSource.TheVariants.{Path, Discover}
 use Rattle.pm_cargo_config.specs.declared.features.CargoFeatures.{CargoFeatures}
@@ -78,7 +78,7 @@ path_of Discover other = other
 pub sources : (eq : RustLibSource → RustLibSource → Bool)
     → ((p q : List ℕ) → eq (Path p) (Path q) ≡ path_eq p q) → ((p : List ℕ) → eq (Path p) Discover ≡ false)
     → ((q : List ℕ) → eq Discover (Path q) ≡ false) → eq Discover Discover ≡ true
-    → (x y : RustLibSource) → HasCleanPath x → HasCleanPath y → (eq x y ≡ true) ↔ (x ≡ y)
+    → (x y : RustLibSource) → HasCleanSource x → HasCleanSource y → (eq x y ≡ true) ↔ (x ≡ y)
 unfolding kind path_of
 sources eq both first second none (Path p) (Path q) a b =
     let same = paths p q a b in

@@ -4,6 +4,6 @@ use Rattle.pm_cargo_config.specs.declared.config.RustLibSource.{RustLibSource}
 use Rattle.pm_cargo_config.specs.declared.config.RustLibSource.TheVariants.{Path, Discover}
 
 -- the text of the path is clean, as that of an `AbsPathBuf` is
-abbrev pub HasCleanPath : RustLibSource → Type 0
-HasCleanPath (Path path) = IsClean path
-HasCleanPath Discover = Unit {0}
+abbrev pub HasCleanSource : RustLibSource → Type 0
+HasCleanSource (Path path) = IsClean path
+HasCleanSource Discover = Unit {0}

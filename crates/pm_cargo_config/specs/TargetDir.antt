@@ -9,11 +9,11 @@ abbrev pub takes_name : List ℕ → Bool
 takes_name dir = length dir == 0 || slice_index dir (length dir - 1) == 47
 
 -- a name below a directory
-abbrev pub below : List ℕ → List ℕ → List ℕ
-below dir name = dir ++ (if takes_name dir then [] else codes "/") ++ name
+abbrev pub name_below : List ℕ → List ℕ → List ℕ
+name_below dir name = dir ++ (if takes_name dir then [] else codes "/") ++ name
 
 -- the directory that a build is to write into, by the directory of the workspace's other builds
 abbrev pub target_dir : TargetDirectoryConfig → Option (List ℕ) → Option (List ℕ)
 target_dir of.None dir = None
-target_dir of.UseSubdirectory dir = option_map (λ d. below d (codes "rust-analyzer")) dir
+target_dir of.UseSubdirectory dir = option_map (λ d. name_below d (codes "rust-analyzer")) dir
 target_dir (of.Directory given) dir = Some given

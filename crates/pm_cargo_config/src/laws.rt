@@ -2,7 +2,7 @@
 
 ghost use Rattle.std.specs.Prelude.{◌≡◌, ◌↔◌, true};
 ghost use Rattle.base_values.specs.Equality.{IsContentEquality};
-ghost use Rattle.pm_cargo_config.specs.Laws.{HasCleanPath};
+ghost use Rattle.pm_cargo_config.specs.Laws.{HasCleanSource};
 ghost use Rattle.pm_cargo_config.specs.declared.config.InvocationStrategy.{InvocationStrategy};
 ghost use Rattle.pm_cargo_config.specs.declared.config.InvocationStrategy.TheVariants.{PerWorkspace};
 ghost use Rattle.pm_cargo_config.specs.declared.config.RustLibSource.{RustLibSource};
@@ -41,7 +41,7 @@ pub fn equality_of_overrides_is_content()
 
 /// Where sources are found is equal exactly where it is one place. Each path's text is clean.
 pub fn equality_of_sources_is_content()
-    ensures { (x y : RustLibSource) → HasCleanPath x → HasCleanPath y
+    ensures { (x y : RustLibSource) → HasCleanSource x → HasCleanSource y
         → (⟦<RustLibSource as PartialEq>⟧.eq x y ≡ true) ↔ (x ≡ y) }
 {}
 

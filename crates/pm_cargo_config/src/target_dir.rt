@@ -1,7 +1,7 @@
 //! Where a build writes, beside the directory that other builds of the workspace write into.
 
 ghost use Rattle.std.specs.Prelude.{◌≡◌, codes, IfOk, option_copied};
-ghost use Rattle.pm_cargo_config.specs.TargetDir.{below, target_dir};
+ghost use Rattle.pm_cargo_config.specs.TargetDir.{name_below, target_dir};
 
 use base_text::{Text, TryClone};
 use std::alloc::{AllocError, Global};
@@ -52,7 +52,7 @@ impl TryClone for TargetDirectoryConfig {
 
 // The directory `rust-analyzer` below another one.
 fn subdirectory(alloc: Global, dir: &str) -> Result<Text, AllocError>
-    ensures { IfOk result (λ text. text ≡ below dir.now (codes "rust-analyzer")) }
+    ensures { IfOk result (λ text. text ≡ name_below dir.now (codes "rust-analyzer")) }
 {
     let separator = if dir.is_empty() || dir.ends_with('/') {
         ""

@@ -8,26 +8,26 @@ use Rattle.base_text_outside.specs.declared.command.CommandLine.{CommandLine}
 use Rattle.base_text_outside.specs.declared.command.Output.{Output}
 use Rattle.base_text_outside.specs.declared.command.Question.{Question}
 use Rattle.cargo_meta.specs.Answer.{of_answer}
-use Rattle.cargo_meta.specs.Command.{Settings, command_of, words_of}
+use Rattle.cargo_meta.specs.Command.{Settings, metadata_command, words_of}
 use Rattle.cargo_meta_values.specs.declared.errors.Error.{Error}
 use Rattle.cargo_meta.specs.declared.metadata.Metadata.{Metadata}
 use Rattle.pm_cargo_config.specs.Variables.{with_channel}
 use Rattle.pm_cargo_config.specs.declared.metadata_config.CargoMetadataConfig.{CargoMetadataConfig}
 use Rattle.base_text.specs.declared.tool_root.ToolRoot.{ToolRoot}
 use Rattle.pm_cargo_fetch.specs.Fetch.{Fetch, fetch_by, fetch_of, full_line}
-use Rattle.pm_cargo_fetch.specs.Options.{full_options, has_unstable, options_of, platform_words}
+use Rattle.pm_cargo_fetch.specs.Options.{full_options, has_unstable, options_of, filter_words}
 use Rattle.pm_cargo_fetch.specs.Questions.{full_question, metadata_question}
 use Rattle.pm_cargo_fetch.specs.Settings.{settings_of}
 
 -- the command with its options asks the full question
 pub full_is : (manifest dir : List ℕ) (config : CargoMetadataConfig) (root : ToolRoot) (options : List (List ℕ))
-    → command_of (record (settings_of manifest dir config root) { other_options = options }) ≡ metadata_question [] options manifest dir config root
+    → metadata_command (record (settings_of manifest dir config root) { other_options = options }) ≡ metadata_question [] options manifest dir config root
 unfolding words_of
 full_is manifest dir config root options = refl
 
 -- and for members alone the light one
 pub light_is : (manifest dir : List ℕ) (config : CargoMetadataConfig) (root : ToolRoot) (options : List (List ℕ))
-    → command_of (record (settings_of manifest dir config root) { other_options = options; no_deps = true })
+    → metadata_command (record (settings_of manifest dir config root) { other_options = options; no_deps = true })
     ≡ metadata_question (codes "--no-deps" ∷ []) options manifest dir config root
 unfolding words_of
 light_is manifest dir config root options = refl
@@ -35,15 +35,15 @@ light_is manifest dir config root options = refl
 -- the words of one platform more
 pub next_platform : (options one two targets : List (List ℕ)) (i : ℕ) (target : List ℕ) → target ≡ get_or targets i target → i < length targets
     → one ≡ options ++ codes "--filter-platform" ∷ [] → two ≡ one ++ target ∷ []
-    → two ++ platform_words (drop (i + 1) targets) ≡ options ++ platform_words (drop i targets)
+    → two ++ filter_words (drop (i + 1) targets) ≡ options ++ filter_words (drop i targets)
 next_platform options one two targets i target is within first second =
     let word = codes "--filter-platform" in let rest = drop (suc i) targets in
     let split : drop i targets ≡ target ∷ rest = drop-cons targets i target within ∙ ap (λ x. x ∷ rest) (sym is) in
-    ap (λ k. two ++ platform_words (drop k targets)) (add-one i)
-    ∙ ap (λ x. x ++ platform_words rest) (second ∙ ap (λ x. x ++ target ∷ []) first)
-    ∙ append_assoc (options ++ word ∷ []) (target ∷ []) (platform_words rest)
-    ∙ append_assoc options (word ∷ []) (target ∷ platform_words rest)
-    ∙ ap (λ x. options ++ platform_words x) (sym split)
+    ap (λ k. two ++ filter_words (drop k targets)) (add-one i)
+    ∙ ap (λ x. x ++ filter_words rest) (second ∙ ap (λ x. x ++ target ∷ []) first)
+    ∙ append_assoc (options ++ word ∷ []) (target ∷ []) (filter_words rest)
+    ∙ append_assoc options (word ∷ []) (target ∷ filter_words rest)
+    ∙ ap (λ x. options ++ filter_words x) (sym split)
 
 -- a question with its light answer
 abbrev the_fetch : CommandLine → Bool → Result Metadata Error → Fetch
@@ -54,11 +54,11 @@ pub prepared : (set between limited : Settings) (options : List (List ℕ)) (no_
     → full ≡ full_line set options
     → between ≡ record set { other_options = full_options options }
     → limited ≡ record between { other_options = options; no_deps = true }
-    → light ≡ of_answer (command_of limited) (answer_of answers (command_of limited))
+    → light ≡ of_answer (metadata_command limited) (answer_of answers (metadata_command limited))
     → ◌≡◌ {A = Fetch} (record { full = full; no_deps = no_deps; light = light }) (fetch_by set options no_deps answers)
 prepared set between limited options no_deps answers full light is_full is_between is_limited is_light =
-    let line : command_of limited ≡ command_of (record set { other_options = options; no_deps = true }) =
-    ap command_of is_limited ∙ ap (λ (s : Settings). command_of (record s { other_options = options; no_deps = true })) is_between in
+    let line : metadata_command limited ≡ metadata_command (record set { other_options = options; no_deps = true }) =
+    ap metadata_command is_limited ∙ ap (λ (s : Settings). metadata_command (record s { other_options = options; no_deps = true })) is_between in
     let answer = is_light ∙ ap (λ (l : CommandLine). of_answer l (answer_of answers l)) line in
     ap (λ (f : CommandLine). the_fetch f no_deps light) is_full
     ∙ ap (λ (l : Result Metadata Error). the_fetch (full_line set options) no_deps l) answer

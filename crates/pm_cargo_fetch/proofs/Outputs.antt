@@ -8,11 +8,11 @@ use Rattle.base_text_outside.specs.declared.command.Question.{Question}
 use Rattle.cargo_meta.specs.declared.metadata.Metadata.{Metadata}
 use Rattle.cargo_meta_values.specs.declared.errors.Error.{Error}
 use Rattle.cargo_meta_values.specs.declared.errors.Error.TheVariants.{CargoMetadata, Io, Json, NoJson, OutOfMemory}
-use Rattle.pm_cargo_fetch.specs.Fetch.{Answers, Fetch, FetchAnswer, HasOutput, fetch_answer, of_full, output_answer, without_error}
+use Rattle.pm_cargo_fetch.specs.Fetch.{AnswersFetch, Fetch, FetchAnswer, HasOutput, fetch_answer, of_full, output_answer, without_error}
 use Rattle.pm_cargo_fetch.specs.Questions.{locked_question}
 
 -- the command was not started
-not_started : (light : Result Metadata Error) (line : CommandLine) (answer : Option Output) (e : Error) → HasOutput (Err e) line answer → Answers (Err e) (of_full light line answer)
+not_started : (light : Result Metadata Error) (line : CommandLine) (answer : Option Output) (e : Error) → HasOutput (Err e) line answer → AnswersFetch (Err e) (of_full light line answer)
 not_started light line answer (CargoMetadata stderr) h = absurd h
 not_started light line answer (Io text) h = ap (of_full light line) h.0 ∙ ap (λ t. Err (Io t)) (sym h.1)
 not_started light line answer (Json field) h = absurd h
@@ -26,13 +26,13 @@ module _ (whole fetch : Fetch) (same : fetch ≡ whole) (locked : Bool) (answers
       ap (λ b. cond b (without_error fetch.light) (of_full fetch.light line (answer_of answers line))) (sym asks) ∙ ap (λ (f : Fetch). fetch_answer f locked answers) same
 
   -- the command was not started
-  pub output-refused : (e : Error) → HasOutput (Err e) (locked_question fetch.full locked) (answer_of answers (locked_question fetch.full locked)) → Answers (Err e) (fetch_answer whole locked answers)
+  pub output-refused : (e : Error) → HasOutput (Err e) (locked_question fetch.full locked) (answer_of answers (locked_question fetch.full locked)) → AnswersFetch (Err e) (fetch_answer whole locked answers)
   output-refused e h =
       let line = locked_question fetch.full locked in
-      subst (λ (wanted : FetchAnswer). Answers (Err e) wanted) by_full (not_started fetch.light line (answer_of answers line) e h)
+      subst (λ (wanted : FetchAnswer). AnswersFetch (Err e) wanted) by_full (not_started fetch.light line (answer_of answers line) e h)
 
   -- the command wrote this
-  pub output-given : (output : Output) (result : FetchAnswer) → answer_of answers (locked_question fetch.full locked) ≡ Some output → Answers result (output_answer fetch.light output)
-      → Answers result (fetch_answer whole locked answers)
+  pub output-given : (output : Output) (result : FetchAnswer) → answer_of answers (locked_question fetch.full locked) ≡ Some output → AnswersFetch result (output_answer fetch.light output)
+      → AnswersFetch result (fetch_answer whole locked answers)
   output-given output result is h =
-      subst (λ (wanted : FetchAnswer). Answers result wanted) by_full (subst (λ (a : Option Output). Answers result (of_full fetch.light (locked_question fetch.full locked) a)) (sym is) h)
+      subst (λ (wanted : FetchAnswer). AnswersFetch result wanted) by_full (subst (λ (a : Option Output). AnswersFetch result (of_full fetch.light (locked_question fetch.full locked) a)) (sym is) h)

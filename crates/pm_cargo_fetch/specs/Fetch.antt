@@ -6,7 +6,7 @@ use Rattle.base_text_outside.specs.declared.command.Output.{Output}
 use Rattle.base_text_outside.specs.declared.command.Question.{Question}
 use Rattle.cargo_meta.specs.Answer as metadata
 use Rattle.cargo_meta.specs.Answer.{json_line, line_text, of_line}
-use Rattle.cargo_meta.specs.Command.{Settings, command_of}
+use Rattle.cargo_meta.specs.Command.{Settings, metadata_command}
 use Rattle.cargo_meta_values.specs.declared.errors.Error.{Error}
 use Rattle.cargo_meta_values.specs.declared.errors.Error.TheVariants.{CargoMetadata, Io, Json, NoJson, OutOfMemory}
 use Rattle.cargo_meta.specs.declared.metadata.Metadata.{Metadata}
@@ -28,12 +28,12 @@ pub record Fetch : Type 0 where
 
 -- the full question by the settings of a command without options, and by the options
 abbrev pub full_line : Settings → List (List ℕ) → CommandLine
-full_line set options = with_channel (has_unstable options) (command_of (record set { other_options = full_options options }))
+full_line set options = with_channel (has_unstable options) (metadata_command (record set { other_options = full_options options }))
 
 -- what is ready to be fetched, by those settings and options
 abbrev pub fetch_by : Settings → List (List ℕ) → Bool → List (Question × Output) → Fetch
 fetch_by set options no_deps answers =
-    let line = command_of (record set { other_options = options; no_deps = true }) in
+    let line = metadata_command (record set { other_options = options; no_deps = true }) in
     record {
       full = full_line set options;
       no_deps = no_deps;
@@ -86,10 +86,10 @@ fetch_answer fetch locked answers =
     if fetch.no_deps then without_error fetch.light else of_full fetch.light line (answer_of answers line)
 
 -- a call answers exactly that, unless memory ran out
-abbrev pub Answers : FetchAnswer → FetchAnswer → Type 0
-Answers (Ok m) wanted = wanted ≡ Ok m
-Answers (Err (CargoMetadata stderr)) wanted = wanted ≡ Err (CargoMetadata stderr)
-Answers (Err (Io line)) wanted = wanted ≡ Err (Io line)
-Answers (Err (Json field)) wanted = wanted ≡ Err (Json field)
-Answers (Err NoJson) wanted = wanted ≡ Err NoJson
-Answers (Err OutOfMemory) wanted = Unit {0}
+abbrev pub AnswersFetch : FetchAnswer → FetchAnswer → Type 0
+AnswersFetch (Ok m) wanted = wanted ≡ Ok m
+AnswersFetch (Err (CargoMetadata stderr)) wanted = wanted ≡ Err (CargoMetadata stderr)
+AnswersFetch (Err (Io line)) wanted = wanted ≡ Err (Io line)
+AnswersFetch (Err (Json field)) wanted = wanted ≡ Err (Json field)
+AnswersFetch (Err NoJson) wanted = wanted ≡ Err NoJson
+AnswersFetch (Err OutOfMemory) wanted = Unit {0}

@@ -14,8 +14,8 @@ unstable_pairs (word ∷ next ∷ rest) =
     if bytes_eq word (codes "-Z") then word ∷ next ∷ unstable_pairs rest else unstable_pairs (next ∷ rest)
 
 -- dependencies are wanted for these platforms alone
-abbrev pub platform_words : List (List ℕ) → List (List ℕ)
-platform_words targets = flat_map (λ target. codes "--filter-platform" ∷ target ∷ []) targets
+abbrev pub filter_words : List (List ℕ) → List (List ℕ)
+filter_words targets = flat_map (λ target. codes "--filter-platform" ∷ target ∷ []) targets
 
 -- the options of both questions
 abbrev pub options_of : List ℕ → CargoMetadataConfig → List (List ℕ)
@@ -24,16 +24,16 @@ options_of manifest config =
     ++ config.metadata_extra_args
     ++ option_words (codes "--config") config.config_path
     ++ flag_word (is_rust_manifest manifest) (codes "-Zscript")
-    ++ platform_words config.targets
+    ++ filter_words config.targets
     ++ flag_word (list_any (needs_json_flag config.toolchain_version) config.targets) (codes "-Zjson-target-spec")
 
 -- an unstable option
-abbrev pub is_unstable : List ℕ → Bool
-is_unstable option = starts_with nat_eq option (codes "-Z")
+abbrev pub is_unstable_option : List ℕ → Bool
+is_unstable_option option = starts_with nat_eq option (codes "-Z")
 
 -- one of the options is unstable
 abbrev pub has_unstable : List (List ℕ) → Bool
-has_unstable options = list_any is_unstable options
+has_unstable options = list_any is_unstable_option options
 
 -- the options of the full question, unless it is locked: unstable ones must be allowed
 abbrev pub full_options : List (List ℕ) → List (List ℕ)

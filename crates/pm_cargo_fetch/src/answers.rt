@@ -5,7 +5,7 @@ ghost use Rattle.std.specs.Str.Lines.{lines};
 ghost use Rattle.cargo_meta.specs.Answer as answer;
 ghost use Rattle.base_text.specs.Progress.{with_lines};
 ghost use Rattle.pm_cargo_fetch.specs.Fetch as spec;
-ghost use Rattle.pm_cargo_fetch.specs.Fetch.{Answers};
+ghost use Rattle.pm_cargo_fetch.specs.Fetch.{AnswersFetch};
 ghost use Rattle.pm_cargo_fetch.specs.Lines.{TakesLines};
 ghost use Rattle.pm_cargo_fetch.specs.Reports.{answer_lines, begins_error, output_lines, reported_line, stream_lines};
 
@@ -29,7 +29,7 @@ pub(crate) fn of_output(
     light: Result<Metadata, Error>,
     output: Output,
 ) -> Result<(Metadata, Option<Error>), Error>
-    ensures { Answers result (spec.output_answer light output) }
+    ensures { AnswersFetch result (spec.output_answer light output) }
 {
     if output.ok {
         return without_error(document_of(alloc, output.out.as_str()));
@@ -43,7 +43,7 @@ pub(crate) fn of_output(
 
 // The document of the first line that begins with `{`.
 fn document_of(alloc: Global, out: &str) -> Result<Metadata, Error>
-    ensures { answer.Answers result (answer.of_line (answer.json_line out.now)) }
+    ensures { answer.AnswersMetadata result (answer.of_line (answer.json_line out.now)) }
 {
     match json_line(out) {
         Some(line) => MetadataCommand::parse(alloc, line),

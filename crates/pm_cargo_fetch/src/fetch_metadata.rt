@@ -3,9 +3,9 @@
 ghost use Rattle.std.specs.Prelude.{◌≡◌, true, IfOk, IsErrOf, OnOk};
 ghost use Rattle.base_text_outside.specs.Runner.{answer_of};
 ghost use Rattle.cargo_meta.specs.Answer.{of_answer};
-ghost use Rattle.cargo_meta.specs.Command.{command_of};
+ghost use Rattle.cargo_meta.specs.Command.{metadata_command};
 ghost use Rattle.base_text_paths.specs.AbsPath.{abs_text};
-ghost use Rattle.pm_cargo_fetch.specs.Fetch.{Answers, HasOutput, fetch_answer, fetch_by, fetch_of, full_line};
+ghost use Rattle.pm_cargo_fetch.specs.Fetch.{AnswersFetch, HasOutput, fetch_answer, fetch_by, fetch_of, full_line};
 ghost use Rattle.pm_cargo_fetch.specs.Lines.{TakesLines};
 ghost use Rattle.pm_cargo_fetch.specs.Options.{full_options};
 ghost use Rattle.pm_cargo_fetch.specs.Questions.{locked_question};
@@ -83,7 +83,7 @@ impl FetchMetadata {
         runner: &R,
         progress: &mut P,
     ) -> Result<(Metadata, Option<Error>), Error>
-        ensures answer { Answers result (fetch_answer self locked (R.answers runner.now)) }
+        ensures answer { AnswersFetch result (fetch_answer self locked (R.answers runner.now)) }
         ensures lines { TakesLines (IsErrOf result Error.OutOfMemory)
             (P.lines progress.old) (P.lines progress.new)
             (fetch_lines self locked (R.answers runner.now)) }
@@ -216,8 +216,8 @@ fn ask<R: Runner>(
     command: &MetadataCommand,
     runner: &R,
 ) -> Result<Result<Metadata, Error>, AllocError>
-    ensures { IfOk result (λ answer. answer ≡ of_answer (command_of command.now)
-        (answer_of (R.answers runner.now) (command_of command.now))) }
+    ensures { IfOk result (λ answer. answer ≡ of_answer (metadata_command command.now)
+        (answer_of (R.answers runner.now) (metadata_command command.now))) }
 {
     match command.exec(alloc, runner) {
         Err(Error::OutOfMemory) => Err(AllocError),

@@ -3,7 +3,7 @@
 ghost use Rattle.std.specs.Prelude.{◌≡◌, ◌++◌, IfOk, OnOk};
 ghost use Rattle.std.specs.List.{list_any};
 ghost use Rattle.pm_cargo_config.specs.Versions.{needs_json_flag};
-ghost use Rattle.pm_cargo_fetch.specs.Options.{full_options, has_unstable, is_unstable, options_of, platform_words, unstable_pairs};
+ghost use Rattle.pm_cargo_fetch.specs.Options.{full_options, has_unstable, is_unstable_option, options_of, filter_words, unstable_pairs};
 
 use crate::words::push_path;
 use base_text::{Items, ManifestPath, Text, TryClone, Version};
@@ -56,7 +56,7 @@ pub(crate) fn has_unstable(options: &[Text]) -> bool
 
 // Whether the option is unstable.
 fn is_unstable(option: &str) -> bool
-    ensures { result ≡ is_unstable option.now }
+    ensures { result ≡ is_unstable_option option.now }
 {
     option.starts_with("-Z")
 }
@@ -89,7 +89,7 @@ fn push_platforms(
     options: &mut Vec<Text>,
     targets: &[Text],
 ) -> Result<(), AllocError>
-    ensures { OnOk result (options.new.items ≡ options.old.items ++ platform_words targets.now) }
+    ensures { OnOk result (options.new.items ≡ options.old.items ++ filter_words targets.now) }
 {
     for target in targets {
         push_word(alloc, options, "--filter-platform")?;

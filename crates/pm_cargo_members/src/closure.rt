@@ -7,7 +7,7 @@ ghost use Rattle.graph_base.specs.Edges.{IsInRange, row};
 ghost use Rattle.graph_base.specs.Reach.{Reaches};
 ghost use Rattle.graph_base.specs.Trail.{empty_trail, trail_after_clear};
 ghost use Rattle.pm_cargo_members.specs.Closure.{closure};
-ghost use Rattle.graph_base.specs.Reversed.{IsGraph, rows_of};
+ghost use Rattle.graph_base.specs.Reversed.{IsGraph, target_rows};
 
 use graph_base::{Graph as _, Reversed, Trail, search_into};
 use std::alloc::{AllocError, Global};
@@ -22,19 +22,19 @@ struct Rows {
 /// Contracts see a graph as its rows.
 impl Model for Rows {
     ghost use Rattle.std.specs.Prelude.{ℕ, List};
-    ghost use Rattle.graph_base.specs.Reversed.{IsGraph, rows_of};
+    ghost use Rattle.graph_base.specs.Reversed.{IsGraph, target_rows};
 
     ghost Value = { List (List ℕ) };
 
-    ghost view = { λ a. rows_of a.rows.items };
+    ghost view = { λ a. target_rows a.rows.items };
 
-    ghost invariant = { λ a. IsGraph (rows_of a.rows.items) };
+    ghost invariant = { λ a. IsGraph (target_rows a.rows.items) };
 }
 
 impl Rows {
     fn new(rows: Vec<Vec<u32>>) -> Self
-        requires { IsGraph (rows_of rows.items) }
-        ensures { result ≡ rows_of rows.items }
+        requires { IsGraph (target_rows rows.items) }
+        ensures { result ≡ target_rows rows.items }
     {
         Rows { rows }
     }
@@ -60,7 +60,7 @@ impl graph_base::Graph for Rows {
 fn all_targets(alloc: Global, rows: &[Vec<u32>], nodes: &[u32]) -> Result<Vec<u32>, AllocError>
     requires { All (λ node. node < length rows.now) nodes.now }
     ensures { IfOk result
-        (λ targets. targets.items ≡ flat_map (row (rows_of rows.now)) nodes.now) }
+        (λ targets. targets.items ≡ flat_map (row (target_rows rows.now)) nodes.now) }
 {
     let mut targets = Vec::new(alloc);
     for node in nodes {
@@ -114,8 +114,8 @@ impl Graph {
     /// The graph of some rows of targets.
     pub(crate) fn new(alloc: Global, rows: Vec<Vec<u32>>) -> Result<Self, AllocError>
         requires short { length rows.items < 2 ^ 32 }
-        requires in_range { IsInRange (rows_of rows.items) }
-        ensures { IfOk result (λ graph. graph ≡ rows_of rows.items) }
+        requires in_range { IsInRange (target_rows rows.items) }
+        ensures { IfOk result (λ graph. graph ≡ target_rows rows.items) }
     {
         let rows = Rows::new(rows);
         let back = Reversed::of(alloc, &rows)?;

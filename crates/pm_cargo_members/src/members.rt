@@ -6,7 +6,7 @@ ghost use Rattle.pm_cargo_members.specs.Members.{is_member_at, member_graph, mem
 ghost use Rattle.pm_cargo_members.specs.SharedLists.{AreClosures, SharesList, closure_list};
 ghost use Rattle.graph_base.specs.Edges.{IsInRange};
 ghost use Rattle.graph_base.specs.Trail.{empty_trail};
-ghost use Rattle.graph_base.specs.Reversed.{rows_of};
+ghost use Rattle.graph_base.specs.Reversed.{target_rows};
 
 use crate::closure::Graph;
 use base_values::{Items, Shared, TryClone};
@@ -47,7 +47,7 @@ fn member_row(
 
 // The graph of dependencies between members.
 fn member_graph(alloc: Global, packages: &[PackageData]) -> Result<Vec<Vec<u32>>, AllocError>
-    ensures { IfOk result (λ rows. rows_of rows.items ≡ member_graph packages.now) }
+    ensures { IfOk result (λ rows. target_rows rows.items ≡ member_graph packages.now) }
 {
     let mut rows = Vec::with_capacity(alloc, packages.len())?;
     for package in packages {

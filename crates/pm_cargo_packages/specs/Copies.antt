@@ -15,8 +15,8 @@ lists_of p = record {
 }
 
 -- the texts that its manifest may leave out
-abbrev pub texts_of : PackageData → OptionalTexts
-texts_of p = record {
+abbrev pub optional_texts : PackageData → OptionalTexts
+optional_texts p = record {
   repository = p.repository;
   description = p.description;
   homepage = p.homepage;

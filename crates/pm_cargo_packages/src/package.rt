@@ -1,7 +1,7 @@
 //! Packages of a workspace, each under its number.
 
 ghost use Rattle.std.specs.Prelude.{◌≡◌, IfOk};
-ghost use Rattle.pm_cargo_packages.specs.Copies.{lists_of, package_of, parts_of, texts_of};
+ghost use Rattle.pm_cargo_packages.specs.Copies.{lists_of, package_of, parts_of, optional_texts};
 
 use crate::target::Target;
 use base_text_paths::{ByText, Edition, Idx, Items, ManifestPath, Shared, Text, TryClone, Version};
@@ -148,7 +148,7 @@ impl PackageData {
 
     // Copies of the texts that the manifest may leave out.
     fn copy_texts(&self, alloc: Global) -> Result<OptionalTexts, AllocError>
-        ensures { IfOk result (λ copies. copies ≡ texts_of self.now) }
+        ensures { IfOk result (λ copies. copies ≡ optional_texts self.now) }
     {
         Ok(OptionalTexts {
             repository: self.repository.try_clone(alloc)?,
@@ -177,7 +177,7 @@ impl PackageData {
 
     // Copies of the lists and of the texts.
     fn copy_details(&self, alloc: Global) -> Result<(Lists, OptionalTexts), AllocError>
-        ensures { IfOk result (λ copies. copies ≡ (lists_of self.now, texts_of self.now)) }
+        ensures { IfOk result (λ copies. copies ≡ (lists_of self.now, optional_texts self.now)) }
     {
         let lists = self.copy_lists(alloc)?;
         Ok((lists, self.copy_texts(alloc)?))

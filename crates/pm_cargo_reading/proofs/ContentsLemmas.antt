@@ -22,7 +22,7 @@ use Rattle.cargo_meta_values.specs.declared.target.Target.{Target}
 use Rattle.pm_cargo_packages.specs.declared.package.PackageData.{PackageData}
 use Rattle.pm_cargo_packages.specs.declared.target.TargetData.{TargetData}
 use Rattle.pm_cargo_reading.specs.declared.contents.Contents.{Contents}
-use Rattle.pm_cargo_reading.specs.Packages.{by_package_id, contents_of, by_id, ids_between, is_listed, manifest_path, root_of, take_package, take_target, target_with_root, unresolved_package, with_package}
+use Rattle.pm_cargo_reading.specs.Packages.{by_package_id, contents_of, by_id, ids_between, is_listed, absolute_manifest, target_root, take_package, take_target, target_with_root, unresolved_package, with_package}
 use Rattle.pm_cargo_reading.specs.Reading.{◌>>=◌, take_each}
 use Rattle.pm_cargo_reading.specs.declared.workspace_error.WorkspaceError.TheVariants.{TooMany}
 use Rattle.pm_cargo_reading.proofs.ReadingLemmas.{ok_from_bind, ok_from_limit, one_value, take_each-keeps, take_each-lists, take_each-same}
@@ -57,8 +57,8 @@ module _ (limit place : ℕ) (manifest : List ℕ) where
       → (root : List ℕ) × (after ≡ before ++ target_with_root place t root ∷ []) × (length before < limit)
   unfolding take_target
   target-from before after t is =
-      let a = ok_from_limit (nat_lt (length before) limit) (root_of manifest t >>= λ root. Ok (before ++ target_with_root place t root ∷ [])) (TooMany Targets) after is in
-      let b = ok_from_bind (root_of manifest t) (λ root. Ok (before ++ target_with_root place t root ∷ [])) after a.1 in
+      let a = ok_from_limit (nat_lt (length before) limit) (target_root manifest t >>= λ root. Ok (before ++ target_with_root place t root ∷ [])) (TooMany Targets) after is in
+      let b = ok_from_bind (target_root manifest t) (λ root. Ok (before ++ target_with_root place t root ∷ [])) after a.1 in
       (b.0, one_value after (before ++ target_with_root place t b.0 ∷ []) (Ok after) refl (sym b.2), ltb-true (length before) limit a.0)
 
   -- targets that are taken are none fewer, and each new one is of the package
@@ -104,10 +104,10 @@ module _ (members : List PackageId) (limits : Limits) where
       × (after ≡ with_package members before manifest p targets)
   unfolding take_package
   package-from before after p is =
-      let a = ok_from_limit (nat_lt (length before.packages) limits.packages) (manifest_path p.manifest_path >>= λ manifest.
+      let a = ok_from_limit (nat_lt (length before.packages) limits.packages) (absolute_manifest p.manifest_path >>= λ manifest.
       take_each (take_target limits.targets (length before.packages) manifest) before.targets p.targets >>= λ targets.
       Ok (with_package members before manifest p targets)) (TooMany Packages) after is in
-      let b = ok_from_bind (manifest_path p.manifest_path) (λ manifest.
+      let b = ok_from_bind (absolute_manifest p.manifest_path) (λ manifest.
       take_each (take_target limits.targets (length before.packages) manifest) before.targets p.targets >>= λ targets.
       Ok (with_package members before manifest p targets)) after a.1 in
       let c = ok_from_bind (take_each (take_target limits.targets (length before.packages) b.0) before.targets p.targets) (λ targets. Ok (with_package members before b.0 p targets)) after b.2 in
@@ -158,7 +158,7 @@ pub package-members : (members others : List PackageId) (limits : Limits) → ((
     → (contents : Contents) (p : Package) → take_package members limits contents p ≡ take_package others limits contents p
 unfolding take_package
 package-members members others limits same contents p =
-    ap (λ b. cond (nat_lt (length contents.packages) limits.packages) (manifest_path p.manifest_path >>= λ manifest.
+    ap (λ b. cond (nat_lt (length contents.packages) limits.packages) (absolute_manifest p.manifest_path >>= λ manifest.
     take_each (take_target limits.targets (length contents.packages) manifest) contents.targets p.targets >>= λ targets.
     Ok (record {
       packages = contents.packages ++ unresolved_package b manifest (ids_between (length contents.targets) (length targets)) p ∷ [];

@@ -3,7 +3,7 @@ use Rattle.std.proofs.Common.{◌≡◌, ℕ, List, [], ◌∷◌, Bool, true, f
 use Rattle.std.specs.Prelude.{bytes_eq, codes}
 use Rattle.std.proofs.lemmas.Slice.Eq.{bytes_eq-Decides}
 use Rattle.base_text_paths.specs.Paths.{components, is_absolute, path_text}
-use Rattle.pm_cargo_reading.specs.Packages.{absolute_path, manifest_path}
+use Rattle.pm_cargo_reading.specs.Packages.{absolute_path, absolute_manifest}
 use Rattle.pm_cargo_reading.specs.Reading.{Refuses, ◌>>=◌}
 use Rattle.pm_cargo_reading.specs.declared.workspace_error.WorkspaceError.{WorkspaceError}
 use Rattle.pm_cargo_reading.specs.declared.workspace_error.WorkspaceError.TheVariants.{NotAbsolute, NoParent}
@@ -28,8 +28,8 @@ relative_is text copy relative is = by (is_absolute text) relative ∙ ap (λ t.
     by false e = refl
 
 -- a path that is not the root is that of a manifest
-pub manifest_is : (text path : List ℕ) → absolute_path text ≡ Ok path → (path ≡ 47 ∷ [] → ⊥) → manifest_path text ≡ Ok path
-unfolding manifest_path
+pub manifest_is : (text path : List ℕ) → absolute_path text ≡ Ok path → (path ≡ 47 ∷ [] → ⊥) → absolute_manifest text ≡ Ok path
+unfolding absolute_manifest
 manifest_is text path is other = ap (λ r. r >>= λ p. cond (bytes_eq p (codes "/")) (Err (NoParent p)) (Ok p)) is ∙ by (bytes_eq path (codes "/")) refl
   where
     by : (b : Bool) → bytes_eq path (codes "/") ≡ b → cond b (Err (NoParent path)) (Ok path) ≡ Ok path
@@ -37,14 +37,14 @@ manifest_is text path is other = ap (λ r. r >>= λ p. cond (bytes_eq p (codes "
     by false e = refl
 
 -- the root is refused
-pub root_is : (text path copy : List ℕ) → absolute_path text ≡ Ok path → path ≡ 47 ∷ [] → copy ≡ path → manifest_path text ≡ Err (NoParent copy)
-unfolding manifest_path
+pub root_is : (text path copy : List ℕ) → absolute_path text ≡ Ok path → path ≡ 47 ∷ [] → copy ≡ path → absolute_manifest text ≡ Err (NoParent copy)
+unfolding absolute_manifest
 root_is text path copy is root same =
     ap (λ r. r >>= λ p. cond (bytes_eq p (codes "/")) (Err (NoParent p)) (Ok p)) is
     ∙ ap (λ b. cond b (Err (NoParent path)) (Ok path)) ((bytes_eq-Decides path (codes "/")).1 root)
     ∙ ap (λ p. Err (NoParent p)) (sym same)
 
 -- a text that is no absolute path is no manifest's
-pub manifest_refused : (e : WorkspaceError) (text : List ℕ) → Refuses e (absolute_path text) → Refuses e (manifest_path text)
-unfolding manifest_path
+pub manifest_refused : (e : WorkspaceError) (text : List ℕ) → Refuses e (absolute_path text) → Refuses e (absolute_manifest text)
+unfolding absolute_manifest
 manifest_refused e text h = refuses_bind e (absolute_path text) (λ p. cond (bytes_eq p (codes "/")) (Err (NoParent p)) (Ok p)) h

@@ -8,7 +8,7 @@ use Rattle.cargo_meta.specs.declared.package.Package.{Package}
 use Rattle.cargo_meta_values.specs.declared.target.Target.{Target}
 use Rattle.pm_cargo_packages.specs.declared.target.TargetData.{TargetData}
 use Rattle.pm_cargo_reading.specs.declared.contents.Contents.{Contents}
-use Rattle.pm_cargo_reading.specs.Packages.{absolute_path, is_script, manifest_path, root_of, take_package, take_target, target_with_root, with_package}
+use Rattle.pm_cargo_reading.specs.Packages.{absolute_path, is_script, absolute_manifest, target_root, take_package, take_target, target_with_root, with_package}
 use Rattle.pm_cargo_reading.specs.Reading.{Refuses, take_each}
 use Rattle.pm_cargo_reading.specs.declared.workspace_error.WorkspaceError.{WorkspaceError}
 use Rattle.pm_cargo_reading.specs.declared.workspace_error.WorkspaceError.TheVariants.{TooMany}
@@ -21,12 +21,12 @@ module _ (limit place : ℕ) (manifest : List ℕ) (before : List TargetData) (t
   target-too_many full = rw (le-ltb (length before) limit full) refl
 
   -- the target's root is refused
-  pub target-refused : (e : WorkspaceError) → length before < limit → Refuses e (root_of manifest t) → Refuses e (take_target limit place manifest before t)
+  pub target-refused : (e : WorkspaceError) → length before < limit → Refuses e (target_root manifest t) → Refuses e (take_target limit place manifest before t)
   unfolding take_target
-  target-refused e room h = rw (lt-ltb (length before) limit room) (refuses_bind e (root_of manifest t) (λ root. Ok (before ++ target_with_root place t root ∷ [])) h)
+  target-refused e room h = rw (lt-ltb (length before) limit room) (refuses_bind e (target_root manifest t) (λ root. Ok (before ++ target_with_root place t root ∷ [])) h)
 
   -- the target is taken
-  pub target-added : (root : List ℕ) → length before < limit → root_of manifest t ≡ Ok root
+  pub target-added : (root : List ℕ) → length before < limit → target_root manifest t ≡ Ok root
       → take_target limit place manifest before t ≡ Ok (before ++ target_with_root place t root ∷ [])
   unfolding take_target
   target-added root room is = rw (lt-ltb (length before) limit room) (rw is refl)
@@ -40,13 +40,13 @@ target-moved e limit p q manifest before t same h = subst (λ place. Refuses e (
 
 module _ (manifest : List ℕ) (t : Target) where
   -- the program of a script has the script as its root
-  pub root-script : is_script manifest t ≡ true → root_of manifest t ≡ Ok manifest
-  unfolding root_of
+  pub root-script : is_script manifest t ≡ true → target_root manifest t ≡ Ok manifest
+  unfolding target_root
   root-script is = ap (λ b. cond b (Ok manifest) (absolute_path t.src_path)) is
 
   -- any other target has its source file
-  pub root-source : is_script manifest t ≡ false → root_of manifest t ≡ absolute_path t.src_path
-  unfolding root_of
+  pub root-source : is_script manifest t ≡ false → target_root manifest t ≡ absolute_path t.src_path
+  unfolding target_root
   root-source is = ap (λ b. cond b (Ok manifest) (absolute_path t.src_path)) is
 
 module _ (members : List PackageId) (limits : Limits) (before : Contents) (p : Package) where
@@ -56,16 +56,16 @@ module _ (members : List PackageId) (limits : Limits) (before : Contents) (p : P
   package-too_many full = rw (le-ltb (length before.packages) limits.packages full) refl
 
   -- the package's manifest is refused
-  pub package-no_manifest : (e : WorkspaceError) (text : List ℕ) → text ≡ p.manifest_path → length before.packages < limits.packages → Refuses e (manifest_path text)
+  pub package-no_manifest : (e : WorkspaceError) (text : List ℕ) → text ≡ p.manifest_path → length before.packages < limits.packages → Refuses e (absolute_manifest text)
       → Refuses e (take_package members limits before p)
   unfolding take_package
   package-no_manifest e text same room h =
       rw (lt-ltb (length before.packages) limits.packages room)
-      (refuses_bind e (manifest_path p.manifest_path) _ (subst (λ t. Refuses e (manifest_path t)) same h))
+      (refuses_bind e (absolute_manifest p.manifest_path) _ (subst (λ t. Refuses e (absolute_manifest t)) same h))
 
   -- a target of it is refused
   pub package-no_targets : (e : WorkspaceError) (manifest : List ℕ) (targets : List Target) → targets ≡ p.targets → length before.packages < limits.packages
-      → manifest_path p.manifest_path ≡ Ok manifest
+      → absolute_manifest p.manifest_path ≡ Ok manifest
       → Refuses e (take_each (take_target limits.targets (length before.packages) manifest) before.targets targets)
       → Refuses e (take_package members limits before p)
   unfolding take_package
@@ -75,7 +75,7 @@ module _ (members : List PackageId) (limits : Limits) (before : Contents) (p : P
       (subst (λ ts. Refuses e (take_each (take_target limits.targets (length before.packages) manifest) before.targets ts)) same h)))
 
   -- the package is taken
-  pub package-added : (manifest : List ℕ) (targets : List TargetData) → length before.packages < limits.packages → manifest_path p.manifest_path ≡ Ok manifest
+  pub package-added : (manifest : List ℕ) (targets : List TargetData) → length before.packages < limits.packages → absolute_manifest p.manifest_path ≡ Ok manifest
       → take_each (take_target limits.targets (length before.packages) manifest) before.targets p.targets ≡ Ok targets
       → take_package members limits before p ≡ Ok (with_package members before manifest p targets)
   unfolding take_package

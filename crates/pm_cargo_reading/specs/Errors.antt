@@ -4,9 +4,9 @@ use Rattle.pm_cargo_reading.specs.declared.workspace_error.WorkspaceError.{Works
 use Rattle.pm_cargo_reading.specs.declared.workspace_error.WorkspaceError.TheVariants.{NotAbsolute, NoParent, UnknownPackage, TooMany, OutOfMemory}
 
 -- the name of the variant, which is what is printed of a refusal
-abbrev pub variant_name : WorkspaceError → List ℕ
-variant_name (NotAbsolute text) = codes "NotAbsolute"
-variant_name (NoParent text) = codes "NoParent"
-variant_name (UnknownPackage id) = codes "UnknownPackage"
-variant_name (TooMany limit) = codes "TooMany"
-variant_name OutOfMemory = codes "OutOfMemory"
+abbrev pub workspace_error_name : WorkspaceError → List ℕ
+workspace_error_name (NotAbsolute text) = codes "NotAbsolute"
+workspace_error_name (NoParent text) = codes "NoParent"
+workspace_error_name (UnknownPackage id) = codes "UnknownPackage"
+workspace_error_name (TooMany limit) = codes "TooMany"
+workspace_error_name OutOfMemory = codes "OutOfMemory"

@@ -43,8 +43,8 @@ optional_path None = Ok None
 optional_path (Some text) = absolute_path text >>= λ path. Ok (Some path)
 
 -- the path of a manifest, which must be absolute and lie in a directory
-unfoldable pub manifest_path : List ℕ → Reading (List ℕ)
-manifest_path text = absolute_path text >>= λ path. if bytes_eq path (codes "/") then Err (NoParent path) else Ok path
+unfoldable pub absolute_manifest : List ℕ → Reading (List ℕ)
+absolute_manifest text = absolute_path text >>= λ path. if bytes_eq path (codes "/") then Err (NoParent path) else Ok path
 
 -- ---- targets
 
@@ -63,8 +63,8 @@ abbrev pub is_script : List ℕ → Target → Bool
 is_script manifest t = is_bin (target_kind t.kind) && is_rust_manifest manifest
 
 -- the root of a target: its source file, and for the program of a script the script
-unfoldable pub root_of : List ℕ → Target → Reading (List ℕ)
-root_of manifest t = if is_script manifest t then Ok manifest else absolute_path t.src_path
+unfoldable pub target_root : List ℕ → Target → Reading (List ℕ)
+target_root manifest t = if is_script manifest t then Ok manifest else absolute_path t.src_path
 
 -- a target of the package at a place, with its root
 abbrev pub target_with_root : ℕ → Target → List ℕ → TargetData
@@ -79,7 +79,7 @@ target_with_root place t root = record {
 -- one more target of the package at a place: it is counted, and then its root is checked
 unfoldable pub take_target : ℕ → ℕ → List ℕ → List TargetData → Target → Reading (List TargetData)
 take_target limit place manifest targets t =
-    if nat_lt (length targets) limit then (root_of manifest t >>= λ root. Ok (targets ++ target_with_root place t root ∷ [])) else Err (TooMany Targets)
+    if nat_lt (length targets) limit then (target_root manifest t >>= λ root. Ok (targets ++ target_with_root place t root ∷ [])) else Err (TooMany Targets)
 
 -- ---- packages
 
@@ -88,13 +88,13 @@ abbrev pub by_id : Package → Package → Ordering
 by_id p q = text_cmp p.id.repr q.id.repr
 
 -- the edition of a package; those that are not out yet are the last one
-abbrev pub edition_of : document.Edition → Edition
-edition_of E2015 = Edition2015
-edition_of E2018 = Edition2018
-edition_of E2021 = Edition2021
-edition_of E2024 = Edition2024
-edition_of _E2027 = Edition2024
-edition_of _E2030 = Edition2024
+abbrev pub package_edition : document.Edition → Edition
+package_edition E2015 = Edition2015
+package_edition E2018 = Edition2018
+package_edition E2021 = Edition2021
+package_edition E2024 = Edition2024
+package_edition _E2027 = Edition2024
+package_edition _E2030 = Edition2024
 
 -- whether an id is listed as that of a member
 abbrev pub is_listed : List PackageId → PackageId → Bool
@@ -115,7 +115,7 @@ unresolved_package is_member manifest targets p = record {
   is_local = is_none p.source;
   is_member = is_member;
   dependencies = [];
-  edition = edition_of p.edition;
+  edition = package_edition p.edition;
   features = p.features;
   active_features = [];
   id = p.id;
@@ -144,14 +144,14 @@ with_package members contents manifest p targets = record {
 -- one more package: it is counted, then its manifest is checked, then its targets are taken
 unfoldable pub take_package : List PackageId → Limits → Contents → Package → Reading Contents
 take_package members limits contents p =
-    if nat_lt (length contents.packages) limits.packages then (manifest_path p.manifest_path >>= λ manifest.
+    if nat_lt (length contents.packages) limits.packages then (absolute_manifest p.manifest_path >>= λ manifest.
     take_each (take_target limits.targets (length contents.packages) manifest) contents.targets p.targets >>= λ targets.
     Ok (with_package members contents manifest p targets)) else Err (TooMany Packages)
 
 -- what is read of one more package, and all targets with its own, where none of them is refused
 pub record ArePartsOf (by : List PackageId × Limits) (contents : Contents) (p : Package) (targets : List TargetData) (parts : PackageParts) : Type 0 where
   pub room : length contents.packages < by.1.packages
-  pub manifest : manifest_path p.manifest_path ≡ Ok parts.manifest
+  pub manifest : absolute_manifest p.manifest_path ≡ Ok parts.manifest
   pub taken : take_each (take_target by.1.targets (length contents.packages) parts.manifest) contents.targets p.targets ≡ Ok targets
   pub few : length contents.packages + 1 < 2 ^ 32
   pub short : length targets < 2 ^ 32

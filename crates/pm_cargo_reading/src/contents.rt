@@ -3,7 +3,7 @@
 ghost use Rattle.std.specs.Prelude.{◌≡◌, ◌<◌, ◌^◌, [], length, IfErr, IfOk, OnOk};
 ghost use Rattle.std.specs.List.Sorted.{IsSorted};
 ghost use Rattle.base_values.specs.Sorted.{sorted};
-ghost use Rattle.pm_cargo_reading.specs.Packages.{ArePartsOf, by_id, by_package_id, contents_of, ids_between, is_bin, is_listed, is_script, root_of, take_package, take_target};
+ghost use Rattle.pm_cargo_reading.specs.Packages.{ArePartsOf, by_id, by_package_id, contents_of, ids_between, is_bin, is_listed, is_script, target_root, take_package, take_target};
 ghost use Rattle.pm_cargo_reading.specs.Reading.{Gives, Leaves, Refuses, take_each};
 
 use crate::paths::{absolute_path, manifest_path};
@@ -37,7 +37,7 @@ fn root_of(
     manifest: &ManifestPath,
     target: &cargo_meta_values::Target,
 ) -> Result<AbsPathBuf, WorkspaceError>
-    ensures { Gives result (root_of manifest.now target.now) }
+    ensures { Gives result (target_root manifest.now target.now) }
 {
     if is_script(manifest, target) {
         return Ok(manifest.as_path().to_path_buf(alloc)?);

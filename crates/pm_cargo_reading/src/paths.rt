@@ -1,6 +1,6 @@
 //! Paths of a document, which must be absolute.
 
-ghost use Rattle.pm_cargo_reading.specs.Packages.{absolute_path, manifest_path, optional_path};
+ghost use Rattle.pm_cargo_reading.specs.Packages.{absolute_path, absolute_manifest, optional_path};
 ghost use Rattle.pm_cargo_reading.specs.Reading.{Gives};
 
 use crate::workspace_error::WorkspaceError;
@@ -33,7 +33,7 @@ pub fn optional_path(
 
 /// The path of a manifest, which must be absolute and lie in a directory.
 pub(crate) fn manifest_path(alloc: Global, text: &str) -> Result<ManifestPath, WorkspaceError>
-    ensures { Gives result (manifest_path text.now) }
+    ensures { Gives result (absolute_manifest text.now) }
 {
     let path = absolute_path(alloc, text)?;
     match ManifestPath::new(path) {

@@ -1,7 +1,7 @@
 //! A package as its manifest describes it, before the nodes say what it resolved to.
 
 ghost use Rattle.std.specs.Prelude.{◌≡◌, IfOk};
-ghost use Rattle.pm_cargo_reading.specs.Packages.{edition_of, rustc_private, unresolved_package};
+ghost use Rattle.pm_cargo_reading.specs.Packages.{package_edition, rustc_private, unresolved_package};
 ghost use Rattle.serde_json.specs.View as json;
 
 use base_text_paths::{Edition, Items, ManifestPath, Shared, Text};
@@ -14,7 +14,7 @@ use std::rc::Rc;
 
 // The edition of a package. Those that are not out yet are read as the last one.
 fn edition_of(edition: cargo_meta_values::Edition) -> Edition
-    ensures { result ≡ edition_of edition }
+    ensures { result ≡ package_edition edition }
 {
     match edition {
         cargo_meta_values::Edition::E2015 => Edition::Edition2015,

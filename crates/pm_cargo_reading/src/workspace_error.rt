@@ -60,9 +60,9 @@ impl TryClone for WorkspaceError {
 /// The variant's name.
 impl fmt::Display for WorkspaceError {
     ghost use Rattle.std.specs.Prelude.{Some};
-    ghost use Rattle.pm_cargo_reading.specs.Errors.{variant_name};
+    ghost use Rattle.pm_cargo_reading.specs.Errors.{workspace_error_name};
 
-    ghost output = { λ error. Some (variant_name error) };
+    ghost output = { λ error. Some (workspace_error_name error) };
 
     fn fmt<W: fmt::Write>(&self, f: &mut fmt::Formatter<W>) -> fmt::Result {
         f.write_str(match self {

@@ -20,7 +20,7 @@ use Rattle.pm_json.specs.declared.dep.Dep.{Dep}
 use Rattle.pm_json.specs.declared.kinds.RunnableKind.{RunnableKind}
 use Rattle.pm_json.specs.declared.parts.Runnable.{Runnable}
 use Rattle.crate_graph_values.proofs.ContentsOn.{lists_on, options, options_on}
-use Rattle.pm_json.specs.ProjectLaws.{HasCleanLevel, HasCleanPaths, HaveCleanPaths}
+use Rattle.pm_json.specs.ProjectLaws.{HasCleanLevel, HasCleanCrate, HasCleanLevels}
 use Rattle.pm_json.specs.contracts.parts.RunnablePartialEq.TheImpl as commands
 use Rattle.pm_json.specs.contracts.krate.CratePartialEq.TheImpl as krates
 use Rattle.pm_json.specs.contracts.project_json.ProjectJsonEq.TheImpl.Laws as equivalent
@@ -65,7 +65,7 @@ module _ (name_eq : DisplayName → DisplayName → Bool) (edition_eq : Edition 
       && (pointwise text_eq x.crate_attrs y.crate_attrs && rest_eq x y))))))))
 
   module _ (names : IsContentEquality name_eq) (editions : IsContentEquality edition_eq) (deps : IsContentEquality dep_eq) (atoms : IsContentEquality atom_eq) (builds : IsContentEquality build_eq) where
-    pub crates_are_equal : (x y : Crate) → HasCleanPaths x → HasCleanPaths y → (crate_eq x y ≡ true) ↔ (x ≡ y)
+    pub crates_are_equal : (x y : Crate) → HasCleanCrate x → HasCleanCrate y → (crate_eq x y ≡ true) ↔ (x ≡ y)
     crates_are_equal x y p q =
         let optional_texts = options text_eq texts in
         let rest =
@@ -186,7 +186,7 @@ level_eq x y =
 by_level : (x y : ProjectJson) → project_eq x y ≡ level_eq (out-ProjectJson x) (out-ProjectJson y)
 by_level x y = compared.is x y
 
-module _ (crates : IsContentEqualityOn HasCleanPaths crates_eq) (runnables : IsContentEquality runnable_eq) where
+module _ (crates : IsContentEqualityOn HasCleanCrate crates_eq) (runnables : IsContentEquality runnable_eq) where
   -- equal levels are one, where equal projects in them are
   same_levels : (x y : Level) → HasCleanLevel x → HasCleanLevel y → (option_eq project_eq x.sysroot_project y.sysroot_project ≡ true → x.sysroot_project ≡ y.sysroot_project)
       → level_eq x y ≡ true → x ≡ y
@@ -201,7 +201,7 @@ module _ (crates : IsContentEqualityOn HasCleanPaths crates_eq) (runnables : IsC
       let project = inner (and_first _ _ past_src) in
       let root = (paths x.project_root y.project_root p.project_root q.project_root).0 (and_first _ _ past_project) in
       let manifest = (options_on IsClean path_eq paths x.manifest y.manifest p.manifest q.manifest).0 (and_first _ _ past_root) in
-      let all_crates = (lists_on HasCleanPaths crates_eq crates x.crates y.crates p.crates q.crates).0 (and_first _ _ past_manifest) in
+      let all_crates = (lists_on HasCleanCrate crates_eq crates x.crates y.crates p.crates q.crates).0 (and_first _ _ past_manifest) in
       let all_runnables = (lists runnable_eq runnables x.runnables y.runnables).0 (and_second (pointwise crates_eq x.crates y.crates) _ past_manifest) in
       λ i. record {
         sysroot = sysroot i;
@@ -233,15 +233,15 @@ module _ (crates : IsContentEqualityOn HasCleanPaths crates_eq) (runnables : IsC
   beside {P = P} (Some e) a is = subst P (let same : e.0 ≡ a = cc in same) e.1
 
   -- the paths of the project in a project are clean
-  clean_inside : (x a : ProjectJson) → HaveCleanPaths x → (out-ProjectJson x).sysroot_project ≡ Some a → HaveCleanPaths a
+  clean_inside : (x a : ProjectJson) → HasCleanLevels x → (out-ProjectJson x).sysroot_project ≡ Some a → HasCleanLevels a
   clean_inside x a p is =
       let held = every_held-ProjectJson HasCleanLevel x p in
-      beside {P = HaveCleanPaths} held.0.sysroot_project a
-      (sym (mapped (λ (e : (z : ProjectJson) × HaveCleanPaths z). e.0) held.0) ∙ ap (λ (l : Level). l.sysroot_project) held.1 ∙ is)
+      beside {P = HasCleanLevels} held.0.sysroot_project a
+      (sym (mapped (λ (e : (z : ProjectJson) × HasCleanLevels z). e.0) held.0) ∙ ap (λ (l : Level). l.sysroot_project) held.1 ∙ is)
 
   -- a project of which every equal one with clean paths is the same
   abbrev IsAlone : ProjectJson → Type 0
-  IsAlone x = (y : ProjectJson) → HaveCleanPaths x → HaveCleanPaths y → project_eq x y ≡ true → x ≡ y
+  IsAlone x = (y : ProjectJson) → HasCleanLevels x → HasCleanLevels y → project_eq x y ≡ true → x ≡ y
 
   alone : (x : Level) (y : ProjectJson-F ((p : ProjectJson) × IsAlone p)) → map-ProjectJson ((p : ProjectJson) × IsAlone p) ProjectJson (λ e. e.0) y ≡ x → IsAlone (roll-ProjectJson x)
   alone x y is z p q e =
@@ -258,7 +258,7 @@ module _ (crates : IsContentEqualityOn HasCleanPaths crates_eq) (runnables : IsC
       (same_inner x.sysroot_project (out-ProjectJson z).sysroot_project inner) levels in
       ap roll-ProjectJson here ∙ roll-out-ProjectJson z
 
-  pub projects_are_equal : (x y : ProjectJson) → HaveCleanPaths x → HaveCleanPaths y → (project_eq x y ≡ true) ↔ (x ≡ y)
+  pub projects_are_equal : (x y : ProjectJson) → HasCleanLevels x → HasCleanLevels y → (project_eq x y ≡ true) ↔ (x ≡ y)
   projects_are_equal x y p q = (
     ind-ProjectJson IsAlone alone x y p q,
     λ e. subst (λ z. project_eq x z ≡ true) e (equivalent.laws-law.refl x),

@@ -7,18 +7,18 @@ use Rattle.json_fields.specs.Outcome.{Reading, ◌>>=◌}
 use Rattle.json_fields.specs.Versions.{version_at, version_data}
 use Rattle.json_fields.specs.Written.{is_null, list_data, map_data, option_data, set_member}
 use Rattle.pm_json.specs.Dep.{dep_at, dep_data}
-use Rattle.pm_json.specs.Kinds.{edition_at, edition_data}
-use Rattle.pm_json.specs.Parts.{build_at, build_data, source_at, source_data}
+use Rattle.pm_json.specs.Kinds.{json_edition_at, json_edition_data}
+use Rattle.pm_json.specs.Parts.{build_data_at, build_data, crate_source_at, crate_source_data}
 use Rattle.pm_json.specs.declared.crate_data.CrateData.{CrateData}
 use Rattle.pm_json.specs.declared.crate_rows.CrateHead.{CrateHead}
 use Rattle.pm_json.specs.declared.crate_rows.CrateTail.{CrateTail}
 
 -- the first eight rows
-unfoldable pub head_from : Members → Reading CrateHead
-head_from ms = do
+unfoldable pub crate_head_from : Members → Reading CrateHead
+crate_head_from ms = do
   display_name ← optional_member (codes "display_name") text_at ms
   root_module ← required_member (codes "root_module") text_at ms
-  edition ← required_member (codes "edition") edition_at ms
+  edition ← required_member (codes "edition") json_edition_at ms
   version ← optional_member (codes "version") version_at ms
   deps ← required_member (codes "deps") (list_at dep_at) ms
   cfg_groups ← default_member (codes "cfg_groups") [] (list_at text_at) ms
@@ -36,16 +36,16 @@ head_from ms = do
   })
 
 -- the nine rows after them
-unfoldable pub tail_from : Members → Reading CrateTail
-tail_from ms = do
+unfoldable pub crate_tail_from : Members → Reading CrateTail
+crate_tail_from ms = do
   env ← default_member (codes "env") [] (map_at text_at) ms
   crate_attrs ← default_member (codes "crate_attrs") [] (list_at text_at) ms
   proc_macro_dylib_path ← optional_member (codes "proc_macro_dylib_path") text_at ms
   is_workspace_member ← optional_member (codes "is_workspace_member") flag_at ms
-  source ← optional_member (codes "source") source_at ms
+  source ← optional_member (codes "source") crate_source_at ms
   is_proc_macro ← default_member (codes "is_proc_macro") false flag_at ms
   repository ← optional_member (codes "repository") text_at ms
-  build ← optional_member (codes "build") build_at ms
+  build ← optional_member (codes "build") build_data_at ms
   proc_macro_cwd ← optional_member (codes "proc_macro_cwd") text_at ms
   Ok (record {
     env = env;
@@ -60,8 +60,8 @@ tail_from ms = do
   })
 
 -- the crate of its rows
-abbrev pub crate_of : CrateHead → CrateTail → CrateData
-crate_of head tail = record {
+abbrev pub crate_of_rows : CrateHead → CrateTail → CrateData
+crate_of_rows head tail = record {
   display_name = head.display_name;
   root_module = head.root_module;
   edition = head.edition;
@@ -84,42 +84,42 @@ crate_of head tail = record {
 -- a crate as its members have it
 unfoldable pub crate_from : Members → Reading CrateData
 crate_from ms = do
-  head ← head_from ms
-  tail ← tail_from ms
-  Ok (crate_of head tail)
+  head ← crate_head_from ms
+  tail ← crate_tail_from ms
+  Ok (crate_of_rows head tail)
 
 -- a crate as its document has it
 unfoldable pub crate_at : Data → Reading CrateData
 crate_at d = members_at d >>= crate_from
 
 -- what the first rows of a crate have
-abbrev pub head_of : CrateData → CrateHead
-head_of c = record { display_name = c.display_name; root_module = c.root_module; edition = c.edition; version = c.version; deps = c.deps; cfg_groups = c.cfg_groups; cfg = c.cfg; target = c.target }
+abbrev pub stated_head : CrateData → CrateHead
+stated_head c = record { display_name = c.display_name; root_module = c.root_module; edition = c.edition; version = c.version; deps = c.deps; cfg_groups = c.cfg_groups; cfg = c.cfg; target = c.target }
 
 -- what the others have
-abbrev pub tail_of : CrateData → CrateTail
-tail_of c = record { env = c.env; crate_attrs = c.crate_attrs; proc_macro_dylib_path = c.proc_macro_dylib_path; is_workspace_member = c.is_workspace_member; source = c.source; is_proc_macro = c.is_proc_macro; repository = c.repository; build = c.build; proc_macro_cwd = c.proc_macro_cwd }
+abbrev pub stated_tail : CrateData → CrateTail
+stated_tail c = record { env = c.env; crate_attrs = c.crate_attrs; proc_macro_dylib_path = c.proc_macro_dylib_path; is_workspace_member = c.is_workspace_member; source = c.source; is_proc_macro = c.is_proc_macro; repository = c.repository; build = c.build; proc_macro_cwd = c.proc_macro_cwd }
 
 -- the first eight members of a crate, put among members
-unfoldable pub head_set : CrateHead → Members → Members
-head_set c ms =
+unfoldable pub crate_head_set : CrateHead → Members → Members
+crate_head_set c ms =
     set_member (codes "target") (option_data string c.target)
     (set_member (codes "cfg") (list_data cfg_data c.cfg)
     (set_member (codes "cfg_groups") (list_data string c.cfg_groups)
     (set_member (codes "deps") (list_data dep_data c.deps)
     (set_member (codes "version") (option_data version_data c.version)
-    (set_member (codes "edition") (edition_data c.edition)
+    (set_member (codes "edition") (json_edition_data c.edition)
     (set_member (codes "root_module") (string c.root_module)
     (set_member (codes "display_name") (option_data string c.display_name) ms)))))))
 
 -- the nine after them
-unfoldable pub tail_set : CrateTail → Members → Members
-tail_set c ms =
+unfoldable pub crate_tail_set : CrateTail → Members → Members
+crate_tail_set c ms =
     set_member (codes "proc_macro_cwd") (option_data string c.proc_macro_cwd)
     (set_member (codes "build") (option_data build_data c.build)
     (set_member (codes "repository") (option_data string c.repository)
     (set_member (codes "is_proc_macro") (boolean c.is_proc_macro)
-    (set_member (codes "source") (option_data source_data c.source)
+    (set_member (codes "source") (option_data crate_source_data c.source)
     (set_member (codes "is_workspace_member") (option_data boolean c.is_workspace_member)
     (set_member (codes "proc_macro_dylib_path") (option_data string c.proc_macro_dylib_path)
     (set_member (codes "crate_attrs") (list_data string c.crate_attrs)
@@ -127,7 +127,7 @@ tail_set c ms =
 
 -- the members of a crate
 unfoldable pub crate_members : CrateData → Members
-crate_members c = tail_set (tail_of c) (head_set (head_of c) no_members)
+crate_members c = crate_tail_set (stated_tail c) (crate_head_set (stated_head c) no_members)
 
 -- the document of a crate
 unfoldable pub crate_data : CrateData → Data

@@ -38,12 +38,12 @@ abbrev pub group_names : List (List ℕ) → List (List ℕ)
 group_names names = dedup (pointwise nat_eq) (sorted text_cmp names)
 
 -- the atoms of a group, of which an unknown one has none
-abbrev pub atoms_of : Groups → List ℕ → List CfgAtom
-atoms_of groups name = unwrap_or (value_at name groups) []
+abbrev pub group_atoms : Groups → List ℕ → List CfgAtom
+group_atoms groups name = unwrap_or (value_at name groups) []
 
 -- the atoms of a crate: those of its groups, and then its own
 unfoldable pub cfgs_of : Groups → List (List ℕ) → List CfgAtom → List CfgAtom
-cfgs_of groups names own = flat_map (atoms_of groups) (group_names names) ++ own
+cfgs_of groups names own = flat_map (group_atoms groups) (group_names names) ++ own
 
 -- the directory that a root module lies in, which `/` has not
 abbrev pub folder_of_parent : List ℕ → Option (List ℕ) → Reading Folders
@@ -56,12 +56,12 @@ folders_of base root (Some source) = Ok (record { include = map (absolute_from b
 folders_of base root None = folder_of_parent root (parent_text root)
 
 -- what a build system knows of a crate
-abbrev pub build_of : BuildData → Build
-build_of stated = record { label = stated.label; build_file = stated.build_file; target_kind = target_kind_from stated.target_kind }
+abbrev pub stated_build : BuildData → Build
+stated_build stated = record { label = stated.label; build_file = stated.build_file; target_kind = target_kind_from stated.target_kind }
 
 -- what of a crate is read on the base
-unfoldable pub head_from : List ℕ → CrateData → Reading CrateHead
-head_from base stated = do
+unfoldable pub head_on_base : List ℕ → CrateData → Reading CrateHead
+head_on_base base stated = do
   folders ← folders_of base (absolute_from base stated.root_module) stated.source
   Ok (record {
     display_name = option_map shown_as stated.display_name;
@@ -77,7 +77,7 @@ head_from base stated = do
 -- what of a crate is read on the base, and all of its atoms
 abbrev pub parts_from : List ℕ → Groups → CrateData → Reading (CrateHead × List CfgAtom)
 parts_from base groups stated = do
-  head ← head_from base stated
+  head ← head_on_base base stated
   Ok (head, cfgs_of groups stated.cfg_groups stated.cfg)
 
 -- what is taken as it is stated, with the atoms of the groups and the crate's own
@@ -91,7 +91,7 @@ tail_with stated cfg = record {
   crate_attrs = stated.crate_attrs;
   is_proc_macro = stated.is_proc_macro;
   repository = stated.repository;
-  build = option_map build_of stated.build;
+  build = option_map stated_build stated.build;
 }
 
 -- the crate of both
@@ -117,20 +117,20 @@ crate_with head tail = record {
 }
 
 -- what of a crate is read on the base
-abbrev pub head_of : Crate → CrateHead
-head_of c = record { display_name = c.display_name; root_module = c.root_module; version = c.version; proc_macro_dylib_path = c.proc_macro_dylib_path; is_workspace_member = c.is_workspace_member; include = c.include; exclude = c.exclude; proc_macro_cwd = c.proc_macro_cwd }
+abbrev pub read_head : Crate → CrateHead
+read_head c = record { display_name = c.display_name; root_module = c.root_module; version = c.version; proc_macro_dylib_path = c.proc_macro_dylib_path; is_workspace_member = c.is_workspace_member; include = c.include; exclude = c.exclude; proc_macro_cwd = c.proc_macro_cwd }
 
 -- what of a crate is taken as it is stated
-abbrev pub tail_of : Crate → CrateTail
-tail_of c = record { edition = c.edition; deps = c.deps; cfg = c.cfg; target = c.target; env = c.env; crate_attrs = c.crate_attrs; is_proc_macro = c.is_proc_macro; repository = c.repository; build = c.build }
+abbrev pub taken_tail : Crate → CrateTail
+taken_tail c = record { edition = c.edition; deps = c.deps; cfg = c.cfg; target = c.target; env = c.env; crate_attrs = c.crate_attrs; is_proc_macro = c.is_proc_macro; repository = c.repository; build = c.build }
 
 -- a crate of a document
-unfoldable pub crate_of : List ℕ → Groups → CrateData → Reading Crate
-crate_of base groups stated = do
-  head ← head_from base stated
+unfoldable pub project_crate : List ℕ → Groups → CrateData → Reading Crate
+project_crate base groups stated = do
+  head ← head_on_base base stated
   Ok (crate_with head (tail_with stated (cfgs_of groups stated.cfg_groups stated.cfg)))
 
 -- the crates of a document in order, of which the first that is refused refuses all
-abbrev pub crates_of : List ℕ → Groups → List CrateData → Reading (List Crate)
-crates_of base groups [] = Ok []
-crates_of base groups (stated ∷ rest) = crate_of base groups stated >>= λ krate. under (λ crates. krate ∷ crates) (crates_of base groups rest)
+abbrev pub crates_on_base : List ℕ → Groups → List CrateData → Reading (List Crate)
+crates_on_base base groups [] = Ok []
+crates_on_base base groups (stated ∷ rest) = project_crate base groups stated >>= λ krate. under (λ crates. krate ∷ crates) (crates_on_base base groups rest)

@@ -16,27 +16,27 @@ use Rattle.pm_json.specs.declared.kinds.TargetKindData.{TargetKindData}
 use Rattle.pm_json.specs.declared.kinds.TargetKindData.TheVariants as target
 
 -- the text of an edition
-abbrev pub edition_text : EditionData → List ℕ
-edition_text edition.Edition2015 = codes "2015"
-edition_text edition.Edition2018 = codes "2018"
-edition_text edition.Edition2021 = codes "2021"
-edition_text edition.Edition2024 = codes "2024"
+abbrev pub json_edition_text : EditionData → List ℕ
+json_edition_text edition.Edition2015 = codes "2015"
+json_edition_text edition.Edition2018 = codes "2018"
+json_edition_text edition.Edition2021 = codes "2021"
+json_edition_text edition.Edition2024 = codes "2024"
 
 -- the editions
-abbrev pub editions : List EditionData
-editions = edition.Edition2015 ∷ edition.Edition2018 ∷ edition.Edition2021 ∷ edition.Edition2024 ∷ []
+abbrev pub json_editions : List EditionData
+json_editions = edition.Edition2015 ∷ edition.Edition2018 ∷ edition.Edition2021 ∷ edition.Edition2024 ∷ []
 
 -- the edition that a text names
-unfoldable pub edition_of : List ℕ → Reading EditionData
-edition_of = value_named edition_text editions
+unfoldable pub json_edition_of : List ℕ → Reading EditionData
+json_edition_of = value_named json_edition_text json_editions
 
 -- an edition, read
-abbrev pub edition_at : Data → Reading EditionData
-edition_at = text_form_at edition_of
+abbrev pub json_edition_at : Data → Reading EditionData
+json_edition_at = text_form_at json_edition_of
 
 -- an edition, written
-abbrev pub edition_data : EditionData → Data
-edition_data = text_form_data edition_text
+abbrev pub json_edition_data : EditionData → Data
+json_edition_data = text_form_data json_edition_text
 
 -- the edition of a crate that a document states
 abbrev pub edition_from : EditionData → Edition
@@ -46,26 +46,26 @@ edition_from edition.Edition2021 = base.Edition2021
 edition_from edition.Edition2024 = base.Edition2024
 
 -- the text of a kind of target
-abbrev pub target_kind_text : TargetKindData → List ℕ
-target_kind_text target.Bin = codes "bin"
-target_kind_text target.Lib = codes "lib"
-target_kind_text target.Test = codes "test"
+abbrev pub json_target_kind_text : TargetKindData → List ℕ
+json_target_kind_text target.Bin = codes "bin"
+json_target_kind_text target.Lib = codes "lib"
+json_target_kind_text target.Test = codes "test"
 
 -- the kinds of target
-abbrev pub target_kinds : List TargetKindData
-target_kinds = target.Bin ∷ target.Lib ∷ target.Test ∷ []
+abbrev pub json_target_kinds : List TargetKindData
+json_target_kinds = target.Bin ∷ target.Lib ∷ target.Test ∷ []
 
 -- the kind of target that a text names
-unfoldable pub target_kind_of : List ℕ → Reading TargetKindData
-target_kind_of = value_named target_kind_text target_kinds
+unfoldable pub json_target_kind_of : List ℕ → Reading TargetKindData
+json_target_kind_of = value_named json_target_kind_text json_target_kinds
 
 -- a kind of target, read
-abbrev pub target_kind_at : Data → Reading TargetKindData
-target_kind_at = text_form_at target_kind_of
+abbrev pub json_target_kind_at : Data → Reading TargetKindData
+json_target_kind_at = text_form_at json_target_kind_of
 
 -- a kind of target, written
-abbrev pub target_kind_data : TargetKindData → Data
-target_kind_data = text_form_data target_kind_text
+abbrev pub json_target_kind_data : TargetKindData → Data
+json_target_kind_data = text_form_data json_target_kind_text
 
 -- the kind of a crate that a build system states, whose libraries are none of procedural macros
 abbrev pub target_kind_from : TargetKindData → TargetKind

@@ -4,24 +4,24 @@ use Rattle.serde_json.specs.Data.{Data, object, string, no_members}
 use Rattle.json_fields.specs.Fields.{list_at, members_at, required_member, text_at}
 use Rattle.json_fields.specs.Outcome.{Reading, ◌>>=◌}
 use Rattle.json_fields.specs.Written.{is_null, list_data, set_member}
-use Rattle.pm_json.specs.Kinds.{runnable_kind_at, runnable_kind_data, target_kind_at, target_kind_data}
+use Rattle.pm_json.specs.Kinds.{runnable_kind_at, runnable_kind_data, json_target_kind_at, json_target_kind_data}
 use Rattle.pm_json.specs.declared.parts.BuildData.{BuildData}
 use Rattle.pm_json.specs.declared.parts.CrateSource.{CrateSource}
 use Rattle.pm_json.specs.declared.parts.Runnable.{Runnable}
 
 -- what a build system knows of a crate
-unfoldable pub build_at : Data → Reading BuildData
-build_at d = do
+unfoldable pub build_data_at : Data → Reading BuildData
+build_data_at d = do
   ms ← members_at d
   label ← required_member (codes "label") text_at ms
   build_file ← required_member (codes "build_file") text_at ms
-  target_kind ← required_member (codes "target_kind") target_kind_at ms
+  target_kind ← required_member (codes "target_kind") json_target_kind_at ms
   Ok (record { label = label; build_file = build_file; target_kind = target_kind })
 
 -- its document
 unfoldable pub build_data : BuildData → Data
 build_data b =
-    object (set_member (codes "target_kind") (target_kind_data b.target_kind)
+    object (set_member (codes "target_kind") (json_target_kind_data b.target_kind)
     (set_member (codes "build_file") (string b.build_file)
     (set_member (codes "label") (string b.label) no_members)))
 
@@ -31,20 +31,20 @@ unfolding build_data
 build_data-present b = refl
 
 -- the directories of a crate's sources
-unfoldable pub source_at : Data → Reading CrateSource
-source_at d = do
+unfoldable pub crate_source_at : Data → Reading CrateSource
+crate_source_at d = do
   ms ← members_at d
   include_dirs ← required_member (codes "include_dirs") (list_at text_at) ms
   exclude_dirs ← required_member (codes "exclude_dirs") (list_at text_at) ms
   Ok (record { include_dirs = include_dirs; exclude_dirs = exclude_dirs })
 
 -- their document
-unfoldable pub source_data : CrateSource → Data
-source_data s = object (set_member (codes "exclude_dirs") (list_data string s.exclude_dirs) (set_member (codes "include_dirs") (list_data string s.include_dirs) no_members))
+unfoldable pub crate_source_data : CrateSource → Data
+crate_source_data s = object (set_member (codes "exclude_dirs") (list_data string s.exclude_dirs) (set_member (codes "include_dirs") (list_data string s.include_dirs) no_members))
 
 -- they are not written as null
-pub source_data-present : (s : CrateSource) → is_null (source_data s) ≡ false
-unfolding source_data
+pub source_data-present : (s : CrateSource) → is_null (crate_source_data s) ≡ false
+unfolding crate_source_data
 source_data-present s = refl
 
 -- a runnable

@@ -5,7 +5,7 @@ use Rattle.base_text_outside.specs.declared.limits.Limit.TheVariants.{Crates}
 use Rattle.pm_json.specs.declared.project_json_data.ProjectJsonData.{ProjectJsonData}
 use Rattle.pm_json.specs.declared.project_json_data.ProjectJsonData.TheFolds.{fold-ProjectJsonData}
 use Rattle.pm_json.specs.declared.project_json_data.ProjectJsonData.TheOpen.{ProjectJsonData-F}
-use Rattle.pm_json.specs.Crates.{absolute_from, crates_of}
+use Rattle.pm_json.specs.Crates.{absolute_from, crates_on_base}
 use Rattle.pm_json.specs.Refusals.{Reading, under, ◌>>=◌}
 use Rattle.pm_json.specs.declared.project_json.ProjectJson.{ProjectJson}
 use Rattle.pm_json.specs.declared.project_json.ProjectJson.TheViews.{roll-ProjectJson}
@@ -24,7 +24,7 @@ sysroot_project_of (Some source) (Some inner) = under Some (inner None source)
 -- one level of a project, given how the project of its standard library is read
 unfoldable pub level_read : ProjectJsonData-F OnBase → OnBase
 level_read stated manifest base = do
-  crates ← crates_of base stated.cfg_groups stated.crates
+  crates ← crates_on_base base stated.cfg_groups stated.crates
   sysroot_project ← sysroot_project_of (option_map (absolute_from base) stated.sysroot_src) stated.sysroot_project
   Ok (roll-ProjectJson (record {
     sysroot = option_map (absolute_from base) stated.sysroot;
@@ -37,9 +37,9 @@ level_read stated manifest base = do
   }))
 
 -- the same, where the level has no more crates than the limit
-unfoldable pub project_level : ℕ → ProjectJsonData-F OnBase → OnBase
-project_level limit stated manifest base = if nat_lt limit (length stated.crates) then Err (TooMany Crates) else level_read stated manifest base
+unfoldable pub level_within_limit : ℕ → ProjectJsonData-F OnBase → OnBase
+level_within_limit limit stated manifest base = if nat_lt limit (length stated.crates) then Err (TooMany Crates) else level_read stated manifest base
 
 -- the project of a document, each of whose levels has no more crates than the limit
 abbrev pub project_of : ℕ → ProjectJsonData → OnBase
-project_of limit = fold-ProjectJsonData OnBase (project_level limit)
+project_of limit = fold-ProjectJsonData OnBase (level_within_limit limit)

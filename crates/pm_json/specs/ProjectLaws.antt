@@ -8,7 +8,7 @@ use Rattle.pm_json.specs.declared.project_json.ProjectJson.TheOpen.{ProjectJson-
 use Rattle.pm_json.specs.declared.project_json.ProjectJson.TheFolds.{every-ProjectJson}
 
 -- every path of the crate is clean
-pub record HasCleanPaths (krate : Crate) : Type 0 where
+pub record HasCleanCrate (krate : Crate) : Type 0 where
   pub root_module : IsClean krate.root_module
   pub proc_macro_dylib_path : IfSome krate.proc_macro_dylib_path IsClean
   pub include : All IsClean krate.include
@@ -21,8 +21,8 @@ pub record HasCleanLevel {A : Type 0} (level : ProjectJson-F A) : Type 0 where
   pub sysroot_src : IfSome level.sysroot_src IsClean
   pub project_root : IsClean level.project_root
   pub manifest : IfSome level.manifest IsClean
-  pub crates : All HasCleanPaths level.crates
+  pub crates : All HasCleanCrate level.crates
 
 -- every path of a project is clean, at each level
-abbrev pub HaveCleanPaths : ProjectJson → Type 0
-HaveCleanPaths = every-ProjectJson HasCleanLevel
+abbrev pub HasCleanLevels : ProjectJson → Type 0
+HasCleanLevels = every-ProjectJson HasCleanLevel

@@ -16,12 +16,12 @@ abbrev pub runnables_in : ProjectJson → List Runnable
 runnables_in project = (out-ProjectJson project).runnables
 
 -- the base directory of a project
-abbrev pub root_of : ProjectJson → List ℕ
-root_of project = (out-ProjectJson project).project_root
+abbrev pub project_base : ProjectJson → List ℕ
+project_base project = (out-ProjectJson project).project_root
 
 -- the path of a project's document, where it has one
-abbrev pub manifest_of : ProjectJson → Option (List ℕ)
-manifest_of project = (out-ProjectJson project).manifest
+abbrev pub document_path : ProjectJson → Option (List ℕ)
+document_path project = (out-ProjectJson project).manifest
 
 -- the crate is a member with that property
 abbrev pub is_member_that : (Crate → Bool) → Crate → Bool

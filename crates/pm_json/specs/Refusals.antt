@@ -4,10 +4,10 @@ use Rattle.pm_json.specs.declared.workspace_json_error.WorkspaceJsonError.{Works
 use Rattle.pm_json.specs.declared.workspace_json_error.WorkspaceJsonError.TheVariants.{TooMany, NoParent, OutOfMemory}
 
 -- the name of the variant, which is what is printed of a refusal
-abbrev pub variant_name : WorkspaceJsonError → List ℕ
-variant_name (TooMany limit) = codes "TooMany"
-variant_name (NoParent text) = codes "NoParent"
-variant_name OutOfMemory = codes "OutOfMemory"
+abbrev pub json_error_name : WorkspaceJsonError → List ℕ
+json_error_name (TooMany limit) = codes "TooMany"
+json_error_name (NoParent text) = codes "NoParent"
+json_error_name OutOfMemory = codes "OutOfMemory"
 
 -- a value, or a refusal
 abbrev pub Reading : Type 0 → Type 0

@@ -2,7 +2,7 @@
 //! are stated.
 
 ghost use Rattle.std.specs.Prelude.{◌≡◌, IfOk};
-ghost use Rattle.pm_json.specs.Crates.{crate_with, head_of, tail_of, tail_with};
+ghost use Rattle.pm_json.specs.Crates.{crate_with, read_head, taken_tail, tail_with};
 
 use crate::crate_data::CrateData;
 use crate::dep::Dep;
@@ -84,7 +84,7 @@ pub(crate) fn crate_of(head: CrateHead, tail: CrateTail) -> Crate
 
 /// A copy of the first group.
 pub(crate) fn copy_head(alloc: Global, from: &Crate) -> Result<CrateHead, AllocError>
-    ensures { IfOk result (λ head. head ≡ head_of from.now) }
+    ensures { IfOk result (λ head. head ≡ read_head from.now) }
 {
     Ok(CrateHead {
         is_workspace_member: from.is_workspace_member,
@@ -100,7 +100,7 @@ pub(crate) fn copy_head(alloc: Global, from: &Crate) -> Result<CrateHead, AllocE
 
 /// A copy of the second group.
 pub(crate) fn copy_tail(alloc: Global, from: &Crate) -> Result<CrateTail, AllocError>
-    ensures { IfOk result (λ tail. tail ≡ tail_of from.now) }
+    ensures { IfOk result (λ tail. tail ≡ taken_tail from.now) }
 {
     Ok(CrateTail {
         edition: from.edition,

@@ -3,7 +3,7 @@
 ghost use Rattle.std.specs.Prelude.{◌≡◌, IfOk, OnOk};
 ghost use Rattle.serde_json.specs.View.{members_view};
 ghost use Rattle.json_fields.specs.Outcome.{Gives};
-ghost use Rattle.pm_json.specs.CrateData.{crate_of, head_from, head_of, head_set, tail_from, tail_of, tail_set};
+ghost use Rattle.pm_json.specs.CrateData.{crate_of_rows, crate_head_from, stated_head, crate_head_set, crate_tail_from, stated_tail, crate_tail_set};
 
 use crate::crate_data::CrateData;
 use crate::dep::Dep;
@@ -45,7 +45,7 @@ pub(crate) struct CrateTail {
 
 /// The crate of its rows.
 pub(crate) fn crate_of(head: CrateHead, tail: CrateTail) -> CrateData
-    ensures { result ≡ crate_of head tail }
+    ensures { result ≡ crate_of_rows head tail }
 {
     CrateData {
         display_name: head.display_name,
@@ -70,7 +70,7 @@ pub(crate) fn crate_of(head: CrateHead, tail: CrateTail) -> CrateData
 
 /// A copy of the first eight fields.
 pub(crate) fn copy_head(alloc: Global, from: &CrateData) -> Result<CrateHead, AllocError>
-    ensures { IfOk result (λ head. head ≡ head_of from.now) }
+    ensures { IfOk result (λ head. head ≡ stated_head from.now) }
 {
     Ok(CrateHead {
         edition: from.edition,
@@ -86,7 +86,7 @@ pub(crate) fn copy_head(alloc: Global, from: &CrateData) -> Result<CrateHead, Al
 
 /// A copy of the other nine.
 pub(crate) fn copy_tail(alloc: Global, from: &CrateData) -> Result<CrateTail, AllocError>
-    ensures { IfOk result (λ tail. tail ≡ tail_of from.now) }
+    ensures { IfOk result (λ tail. tail ≡ stated_tail from.now) }
 {
     Ok(CrateTail {
         env: from.env.try_clone(alloc)?,
@@ -101,9 +101,9 @@ pub(crate) fn copy_tail(alloc: Global, from: &CrateData) -> Result<CrateTail, Al
     })
 }
 
-#[tactic(auto, unfolding(crate::specs::CrateData::head_from, json_fields::specs::Fields::required_member, json_fields::specs::Fields::optional_member, json_fields::specs::Fields::default_member))]
+#[tactic(auto, unfolding(crate::specs::CrateData::crate_head_from, json_fields::specs::Fields::required_member, json_fields::specs::Fields::optional_member, json_fields::specs::Fields::default_member))]
 pub(crate) fn read_head(alloc: Global, fields: &Map<String, Value>) -> Result<CrateHead, ReadError>
-    ensures exact { Gives result (head_from (members_view fields.now.entries)) }
+    ensures exact { Gives result (crate_head_from (members_view fields.now.entries)) }
 {
     let display_name = optional_member(alloc, fields, "display_name")?;
     let root_module = required_member(alloc, fields, "root_module")?;
@@ -125,9 +125,9 @@ pub(crate) fn read_head(alloc: Global, fields: &Map<String, Value>) -> Result<Cr
     })
 }
 
-#[tactic(auto, unfolding(crate::specs::CrateData::tail_from, json_fields::specs::Fields::required_member, json_fields::specs::Fields::optional_member, json_fields::specs::Fields::default_member))]
+#[tactic(auto, unfolding(crate::specs::CrateData::crate_tail_from, json_fields::specs::Fields::required_member, json_fields::specs::Fields::optional_member, json_fields::specs::Fields::default_member))]
 pub(crate) fn read_tail(alloc: Global, fields: &Map<String, Value>) -> Result<CrateTail, ReadError>
-    ensures exact { Gives result (tail_from (members_view fields.now.entries)) }
+    ensures exact { Gives result (crate_tail_from (members_view fields.now.entries)) }
 {
     let env = map_member(alloc, fields, "env")?;
     let crate_attrs = list_member(alloc, fields, "crate_attrs")?;
@@ -151,14 +151,14 @@ pub(crate) fn read_tail(alloc: Global, fields: &Map<String, Value>) -> Result<Cr
     })
 }
 
-#[tactic(auto, unfolding(crate::specs::CrateData::head_set))]
+#[tactic(auto, unfolding(crate::specs::CrateData::crate_head_set))]
 pub(crate) fn set_head(
     alloc: Global,
     fields: &mut Map<String, Value>,
     from: &CrateData,
 ) -> Result<(), AllocError>
     ensures { OnOk result (members_view fields.new.entries
-        ≡ head_set (head_of from.now) (members_view fields.old.entries)) }
+        ≡ crate_head_set (stated_head from.now) (members_view fields.old.entries)) }
 {
     set(alloc, fields, "display_name", &from.display_name)?;
     set(alloc, fields, "root_module", &from.root_module)?;
@@ -171,14 +171,14 @@ pub(crate) fn set_head(
     Ok(())
 }
 
-#[tactic(auto, unfolding(crate::specs::CrateData::tail_set))]
+#[tactic(auto, unfolding(crate::specs::CrateData::crate_tail_set))]
 pub(crate) fn set_tail(
     alloc: Global,
     fields: &mut Map<String, Value>,
     from: &CrateData,
 ) -> Result<(), AllocError>
     ensures { OnOk result (members_view fields.new.entries
-        ≡ tail_set (tail_of from.now) (members_view fields.old.entries)) }
+        ≡ crate_tail_set (stated_tail from.now) (members_view fields.old.entries)) }
 {
     set(alloc, fields, "env", &from.env)?;
     set(alloc, fields, "crate_attrs", &from.crate_attrs)?;

@@ -1,9 +1,9 @@
 //! The closed tables of names of a document: editions, kinds of target, and kinds of runnable.
 
 ghost use Rattle.std.specs.Prelude.{◌≡◌, Ok};
-ghost use Rattle.pm_json.specs.Kinds.{edition_from, edition_of, edition_text, runnable_kind_of, runnable_kind_text};
-ghost use Rattle.pm_json.specs.Kinds.{target_kind_from, target_kind_of, target_kind_text};
-ghost use Rattle.pm_json.specs.laws.Kinds.{edition-again, runnable_kind-again, target_kind-again};
+ghost use Rattle.pm_json.specs.Kinds.{edition_from, json_edition_of, json_edition_text, runnable_kind_of, runnable_kind_text};
+ghost use Rattle.pm_json.specs.Kinds.{target_kind_from, json_target_kind_of, json_target_kind_text};
+ghost use Rattle.pm_json.specs.laws.Kinds.{json_edition-again, runnable_kind-again, json_target_kind-again};
 
 use base_text_paths::{Edition, TryClone};
 use crate_graph_values::TargetKind;
@@ -78,7 +78,7 @@ impl From<TargetKindData> for TargetKind {
 
 impl EditionData {
     pub fn as_str(self) -> &'static str
-        ensures { result.now ≡ edition_text self }
+        ensures { result.now ≡ json_edition_text self }
     {
         match self {
             EditionData::Edition2015 => "2015",
@@ -91,7 +91,7 @@ impl EditionData {
 
 impl TargetKindData {
     pub fn as_str(self) -> &'static str
-        ensures { result.now ≡ target_kind_text self }
+        ensures { result.now ≡ json_target_kind_text self }
     {
         match self {
             TargetKindData::Bin => "bin",
@@ -136,11 +136,11 @@ impl TryClone for RunnableKind {
     }
 }
 
-#[tactic(auto, unfolding(crate::specs::Kinds::edition_of))]
+#[tactic(auto, unfolding(crate::specs::Kinds::json_edition_of))]
 impl TextJson for EditionData {
-    ghost of_text = { edition_of };
+    ghost of_text = { json_edition_of };
 
-    ghost text_of = { edition_text };
+    ghost text_of = { json_edition_text };
 
     fn read_text(alloc: Global, text: &str) -> Result<EditionData, ReadError> {
         match text {
@@ -156,14 +156,14 @@ impl TextJson for EditionData {
         String::from_str(alloc, self.as_str())
     }
 
-    ghost again = { edition-again };
+    ghost again = { json_edition-again };
 }
 
-#[tactic(auto, unfolding(crate::specs::Kinds::target_kind_of))]
+#[tactic(auto, unfolding(crate::specs::Kinds::json_target_kind_of))]
 impl TextJson for TargetKindData {
-    ghost of_text = { target_kind_of };
+    ghost of_text = { json_target_kind_of };
 
-    ghost text_of = { target_kind_text };
+    ghost text_of = { json_target_kind_text };
 
     fn read_text(alloc: Global, text: &str) -> Result<TargetKindData, ReadError> {
         match text {
@@ -178,7 +178,7 @@ impl TextJson for TargetKindData {
         String::from_str(alloc, self.as_str())
     }
 
-    ghost again = { target_kind-again };
+    ghost again = { json_target_kind-again };
 }
 
 #[tactic(auto, unfolding(crate::specs::Kinds::runnable_kind_of))]

@@ -2,7 +2,7 @@
 
 ghost use Rattle.std.specs.Prelude.{◌≡◌, map};
 ghost use Rattle.std.specs.Iterator.{YieldsFirstBy, item_count};
-ghost use Rattle.pm_json.specs.Crates.{build_of};
+ghost use Rattle.pm_json.specs.Crates.{stated_build};
 
 use crate::crate_parts::{copy_head, copy_tail, crate_of};
 use crate::dep::{CrateArrayIdx, Dep};
@@ -80,7 +80,7 @@ impl TryClone for Build {
 }
 
 impl From<BuildData> for Build {
-    ghost from_gives = { λ stated build. build ≡ build_of stated };
+    ghost from_gives = { λ stated build. build ≡ stated_build stated };
 
     fn from(stated: BuildData) -> Build {
         Build {

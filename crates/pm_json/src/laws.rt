@@ -2,7 +2,7 @@
 
 ghost use Rattle.base_values.specs.Equality.{IsContentEquality};
 ghost use Rattle.crate_graph_values.specs.Laws.{IsContentEqualityOn};
-ghost use Rattle.pm_json.specs.ProjectLaws.{HasCleanPaths, HaveCleanPaths};
+ghost use Rattle.pm_json.specs.ProjectLaws.{HasCleanCrate, HasCleanLevels};
 
 use crate::dep::Dep;
 use crate::krate::{Build, Crate};
@@ -27,7 +27,7 @@ fn equality_of_stated_parts_is_content()
 
 /// Two crates are equal exactly where all that they hold is. Each path's text is clean.
 pub fn equality_of_crates_is_content()
-    ensures { IsContentEqualityOn HasCleanPaths ⟦<Crate as PartialEq>⟧.eq }
+    ensures { IsContentEqualityOn HasCleanCrate ⟦<Crate as PartialEq>⟧.eq }
 {
     equality_of_builds_is_content();
     equality_of_stated_parts_is_content();
@@ -38,7 +38,7 @@ pub fn equality_of_crates_is_content()
 /// Two projects are equal exactly where all that they hold is: their paths, crates and runnables, and their
 /// standard libraries' projects. Each path's text is clean.
 pub fn equality_of_projects_is_content()
-    ensures { IsContentEqualityOn HaveCleanPaths ⟦<ProjectJson as PartialEq>⟧.eq }
+    ensures { IsContentEqualityOn HasCleanLevels ⟦<ProjectJson as PartialEq>⟧.eq }
 {
     equality_of_crates_is_content();
     equality_of_stated_parts_is_content();

@@ -1,9 +1,9 @@
 //! What a document says beside the crates: who builds them, where their sources are, what can be run.
 
 ghost use Rattle.std.specs.Prelude.{◌≡◌};
-ghost use Rattle.pm_json.specs.Parts.{build_at, build_data, build_data-present, runnable_at, runnable_data};
-ghost use Rattle.pm_json.specs.Parts.{runnable_data-present, source_at, source_data, source_data-present};
-ghost use Rattle.pm_json.specs.laws.Parts.{build-round_trips, runnable-round_trips, source-round_trips};
+ghost use Rattle.pm_json.specs.Parts.{build_data_at, build_data, build_data-present, runnable_at, runnable_data};
+ghost use Rattle.pm_json.specs.Parts.{runnable_data-present, crate_source_at, crate_source_data, source_data-present};
+ghost use Rattle.pm_json.specs.laws.Parts.{build-round_trips, runnable-round_trips, crate_source-round_trips};
 
 use crate::kinds::{RunnableKind, TargetKindData};
 use base_text_paths::{Items, Text, TryClone};
@@ -68,9 +68,9 @@ impl TryClone for Runnable {
     }
 }
 
-#[tactic(auto, unfolding(crate::specs::Parts::build_at, json_fields::specs::Fields::required_member))]
+#[tactic(auto, unfolding(crate::specs::Parts::build_data_at, json_fields::specs::Fields::required_member))]
 impl ReadJson for BuildData {
-    ghost reads = { build_at };
+    ghost reads = { build_data_at };
 
     fn read(alloc: Global, value: &Value) -> Result<BuildData, ReadError> {
         let fields = members(alloc, value)?;
@@ -103,9 +103,9 @@ impl Present for BuildData {
     ghost present = { build_data-present };
 }
 
-#[tactic(auto, unfolding(crate::specs::Parts::source_at, json_fields::specs::Fields::required_member))]
+#[tactic(auto, unfolding(crate::specs::Parts::crate_source_at, json_fields::specs::Fields::required_member))]
 impl ReadJson for CrateSource {
-    ghost reads = { source_at };
+    ghost reads = { crate_source_at };
 
     fn read(alloc: Global, value: &Value) -> Result<CrateSource, ReadError> {
         let fields = members(alloc, value)?;
@@ -116,9 +116,9 @@ impl ReadJson for CrateSource {
     }
 }
 
-#[tactic(auto, unfolding(crate::specs::Parts::source_data, json_fields::specs::Written::set_member))]
+#[tactic(auto, unfolding(crate::specs::Parts::crate_source_data, json_fields::specs::Written::set_member))]
 impl Json for CrateSource {
-    ghost writes = { source_data };
+    ghost writes = { crate_source_data };
 
     ghost height = { 0 };
 
@@ -129,7 +129,7 @@ impl Json for CrateSource {
         Ok(Value::Object(fields))
     }
 
-    ghost round_trips = { source-round_trips };
+    ghost round_trips = { crate_source-round_trips };
 }
 
 impl Present for CrateSource {

@@ -38,7 +38,7 @@ pub struct ProjectJson {
 impl ProjectJson {
     /// The project of a document, whose paths are read from the base.
     #[cycle(project)]
-    #[tactic(auto, unfolding(crate::specs::Project::project_level, crate::specs::Project::level_read))]
+    #[tactic(auto, unfolding(crate::specs::Project::level_within_limit, crate::specs::Project::level_read))]
     pub fn new(
         alloc: Global,
         manifest: Option<ManifestPath>,

@@ -6,7 +6,7 @@ ghost use Rattle.std.specs.List.{enumerate_from};
 ghost use Rattle.std.specs.Option.{option_and_then, option_copied, unwrap_or};
 ghost use Rattle.base_text_paths.specs.AbsPath.{abs_text};
 ghost use Rattle.pm_json.specs.Queries.{begins_in, crates_in, first_member, has_build, has_label};
-ghost use Rattle.pm_json.specs.Queries.{is_described_in, manifest_of, root_of, runnables_in};
+ghost use Rattle.pm_json.specs.Queries.{is_described_in, document_path, project_base, runnables_in};
 ghost use Rattle.pm_json.specs.declared.project_json.ProjectJson.{out-ProjectJson};
 
 use crate::dep::CrateArrayIdx;
@@ -37,27 +37,27 @@ impl ProjectJson {
 
     /// The base directory, as `project_root`.
     pub fn path(&self) -> AbsPath<'_>
-        ensures { abs_text result ≡ root_of self.now }
+        ensures { abs_text result ≡ project_base self.now }
     {
         self.project_root.as_path()
     }
 
     /// The base directory.
     pub fn project_root(&self) -> AbsPath<'_>
-        ensures { abs_text result ≡ root_of self.now }
+        ensures { abs_text result ≡ project_base self.now }
     {
         self.project_root.as_path()
     }
 
     pub fn manifest(&self) -> Option<&ManifestPath>
-        ensures { option_copied result ≡ manifest_of self.now }
+        ensures { option_copied result ≡ document_path self.now }
     {
         self.manifest.as_ref()
     }
 
     /// The document's path, or the base directory where it has none.
     pub fn manifest_or_root(&self) -> AbsPath<'_>
-        ensures { abs_text result ≡ unwrap_or (manifest_of self.now) (root_of self.now) }
+        ensures { abs_text result ≡ unwrap_or (document_path self.now) (project_base self.now) }
     {
         match &self.manifest {
             Some(manifest) => manifest.as_path(),

@@ -6,7 +6,7 @@ ghost use Rattle.base_text_paths.specs.Paths.{parent_text};
 ghost use Rattle.crate_graph_values.specs.Names.{shown_as};
 ghost use Rattle.json_fields.specs.Versions.{version_text};
 ghost use Rattle.pm_json.specs.Crates as crates;
-ghost use Rattle.pm_json.specs.Crates.{absolute_from, cfgs_of, crates_of, folder_of_parent, group_names, head_from, is_member, parts_from};
+ghost use Rattle.pm_json.specs.Crates.{absolute_from, cfgs_of, crates_on_base, folder_of_parent, group_names, head_on_base, is_member, parts_from};
 ghost use Rattle.pm_json.specs.Refusals.{Gives};
 
 use crate::crate_data::CrateData;
@@ -35,7 +35,7 @@ pub(crate) fn read_crates(
     groups: &ByText<Items<CfgAtom>>,
     stated: Items<CrateData>,
 ) -> Result<Items<Crate>, WorkspaceJsonError>
-    ensures exact { Gives result (crates_of (abs_text base.entry) groups.now stated) }
+    ensures exact { Gives result (crates_on_base (abs_text base.entry) groups.now stated) }
 {
     let mut crates = Vec::with_capacity(alloc, stated.len())?;
     for krate in stated.into_inner() {
@@ -44,14 +44,14 @@ pub(crate) fn read_crates(
     Ok(Items::new(crates))
 }
 
-#[tactic(auto, unfolding(crate::specs::Crates::crate_of))]
+#[tactic(auto, unfolding(crate::specs::Crates::project_crate))]
 fn read_crate(
     alloc: Global,
     base: AbsPath<'_>,
     groups: &ByText<Items<CfgAtom>>,
     mut stated: CrateData,
 ) -> Result<Crate, WorkspaceJsonError>
-    ensures exact { Gives result (crates.crate_of (abs_text base.entry) groups.now stated) }
+    ensures exact { Gives result (crates.project_crate (abs_text base.entry) groups.now stated) }
 {
     let (head, cfg) = read_parts(alloc, base, groups, &mut stated)?;
     Ok(crate_of(head, CrateTail::new(stated, cfg)))
@@ -84,13 +84,13 @@ fn is_member(stated: Option<bool>, base: AbsPath<'_>, root: AbsPath<'_>) -> bool
 }
 
 // What of a crate is read on the base.
-#[tactic(auto, unfolding(crate::specs::Crates::head_from))]
+#[tactic(auto, unfolding(crate::specs::Crates::head_on_base))]
 fn read_head(
     alloc: Global,
     base: AbsPath<'_>,
     stated: &CrateData,
 ) -> Result<CrateHead, WorkspaceJsonError>
-    ensures exact { Gives result (head_from (abs_text base.entry) stated.now) }
+    ensures exact { Gives result (head_on_base (abs_text base.entry) stated.now) }
 {
     let root_module = base.absolutize(alloc, stated.root_module.as_str())?;
     let folders = read_folders(alloc, base, root_module.as_path(), &stated.source)?;
@@ -226,7 +226,7 @@ fn group_cfgs(
     names: &[Text],
 ) -> Result<Vec<CfgAtom>, AllocError>
     ensures { IfOk result (λ cfgs. cfgs.items
-        ≡ flat_map (crates.atoms_of groups.now) names.now) }
+        ≡ flat_map (crates.group_atoms groups.now) names.now) }
 {
     let mut cfgs = Vec::new(alloc);
     for name in names {

@@ -52,9 +52,9 @@ impl TryClone for WorkspaceJsonError {
 /// The variant's name.
 impl fmt::Display for WorkspaceJsonError {
     ghost use Rattle.std.specs.Prelude.{Some};
-    ghost use Rattle.pm_json.specs.Refusals.{variant_name};
+    ghost use Rattle.pm_json.specs.Refusals.{json_error_name};
 
-    ghost output = { λ error. Some (variant_name error) };
+    ghost output = { λ error. Some (json_error_name error) };
 
     fn fmt<W: fmt::Write>(&self, f: &mut fmt::Formatter<W>) -> fmt::Result {
         f.write_str(match self {

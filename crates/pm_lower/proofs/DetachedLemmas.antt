@@ -18,7 +18,7 @@ use Rattle.pm_lower_load.specs.declared.tool_answers.ToolAnswers.{ToolAnswers}
 use Rattle.pm_lower_load.proofs.LoadingLemmas.{refuses_first, refuses_reading}
 use Rattle.pm_lower.specs.DetachedProject.{detached_kind, detached_project, detached_with, metadata_or_none, script_of, script_with}
 use Rattle.pm_lower.specs.Order.{IsDetachedAlike}
-use Rattle.pm_lower.specs.Project.{project_of}
+use Rattle.pm_lower.specs.Project.{project_of_workspace}
 use Rattle.pm_lower.specs.ProjectWorkspace.{ScriptPart}
 use Rattle.pm_lower.specs.declared.cargo_project.Settings.{Settings}
 use Rattle.pm_lower.specs.declared.project_workspace.ProjectWorkspace.{ProjectWorkspace}
@@ -92,23 +92,23 @@ then_made (Ok x) f g = refl
 then_made (Err e) f g = refl
 
 module _ (sysroot : Toolchain) (file : List ℕ) (config : CargoConfig) (answers : ToolAnswers) (limits : Limits) (means : Means) (metadata : Option (Metadata × Option Error)) where
-  by_kind : (detached_kind file answers.config_file limits means metadata >>= λ (kind : ProjectWorkspaceKind). Ok (project_of sysroot config answers kind))
+  by_kind : (detached_kind file answers.config_file limits means metadata >>= λ (kind : ProjectWorkspaceKind). Ok (project_of_workspace sysroot config answers kind))
       ≡ detached_with sysroot file config answers limits means metadata
   unfolding detached_with
   by_kind =
       then_made (script_with file answers.config_file limits means metadata) (λ (script : Option ScriptPart). DetachedFile file script)
-      (λ (kind : ProjectWorkspaceKind). project_of sysroot config answers kind)
+      (λ (kind : ProjectWorkspaceKind). project_of_workspace sysroot config answers kind)
 
   pub detached-refused : (e : LoadError) → Refuses e (detached_kind file answers.config_file limits means metadata) → Refuses e (detached_with sysroot file config answers limits means metadata)
   detached-refused e h =
       subst (Refuses e) by_kind
-      (refuses_first e (detached_kind file answers.config_file limits means metadata) (λ (kind : ProjectWorkspaceKind). Ok (project_of sysroot config answers kind)) h)
+      (refuses_first e (detached_kind file answers.config_file limits means metadata) (λ (kind : ProjectWorkspaceKind). Ok (project_of_workspace sysroot config answers kind)) h)
 
   pub detached-read : (kind : ProjectWorkspaceKind) (settings : Settings) (made : ProjectWorkspace) → detached_kind file answers.config_file limits means metadata ≡ Ok kind
       → settings ≡ settings_kept config → made ≡ made_of sysroot settings answers kind → detached_with sysroot file config answers limits means metadata ≡ Ok made
   detached-read kind settings made is is_settings is_made =
       sym by_kind
-      ∙ ap (λ (l : Loading ProjectWorkspaceKind). l >>= λ k. Ok (project_of sysroot config answers k)) is
+      ∙ ap (λ (l : Loading ProjectWorkspaceKind). l >>= λ k. Ok (project_of_workspace sysroot config answers k)) is
       ∙ ap Ok (sym (made-is sysroot config settings answers kind made is_made is_settings))
 
 -- the answers are those of the definition
@@ -128,7 +128,7 @@ unfolding detached_with
 detached-order a b shuffle sysroot file config answers limits means error p q is are =
     let env : List (List ℕ × List ℕ) = config_env answers.config_file means in
     let some : Workspace → Option ScriptPart = λ w. Some (script_of error w) in
-    let made : Option ScriptPart → ProjectWorkspace = λ s. project_of sysroot config answers (DetachedFile file s) in
+    let made : Option ScriptPart → ProjectWorkspace = λ s. project_of_workspace sysroot config answers (DetachedFile file s) in
     let x = read_before (read_workspace a file env false limits) some made p is in
     let y = read_before (read_workspace b file env false limits) some made q are in
     sym x.2 ∙ ap (λ (w : Workspace). made (some w)) (shuffle-read a b shuffle file env false limits x.0 y.0 x.1 y.1) ∙ y.2

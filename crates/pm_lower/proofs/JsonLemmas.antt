@@ -2,7 +2,7 @@
 use Rattle.std.proofs.Common.{◌≡◌, ℕ, List, Option, Ok, sym, ap, ◌∙◌}
 use Rattle.base_text_outside.specs.declared.limits.Limits.{Limits}
 use Rattle.pm_cargo_config.specs.declared.config.CargoConfig.{CargoConfig}
-use Rattle.pm_json.specs.Queries.{root_of}
+use Rattle.pm_json.specs.Queries.{project_base}
 use Rattle.pm_json.specs.declared.project_json.ProjectJson.{ProjectJson}
 use Rattle.pm_lower_load.specs.Compiler.{compiler_answers}
 use Rattle.pm_lower_load.specs.JsonDocument.{json_content, stated_sysroot}
@@ -11,7 +11,7 @@ use Rattle.pm_lower_load.specs.declared.load_error.LoadError.{LoadError}
 use Rattle.pm_lower_load.specs.declared.tool_answers.ToolAnswers.{ToolAnswers}
 use Rattle.pm_lower_load.proofs.LoadingLemmas.{refuses_first}
 use Rattle.pm_lower.specs.JsonProject.{inline_project, json_project}
-use Rattle.pm_lower.specs.Project.{project_of}
+use Rattle.pm_lower.specs.Project.{project_of_workspace}
 use Rattle.pm_lower.specs.declared.cargo_project.Settings.{Settings}
 use Rattle.pm_lower.specs.declared.project_workspace.ProjectWorkspace.{ProjectWorkspace}
 use Rattle.pm_lower.specs.declared.project_workspace.ProjectWorkspaceKind.TheVariants.{Json}
@@ -26,11 +26,11 @@ answers-are sysroot stated dir root target means answers is_sysroot is_dir is = 
 
 -- the parts of a project that was read
 pub inline-is : (project : ProjectJson) (config : CargoConfig) (means : Means) (sysroot : Toolchain) (settings : Settings) (answers : ToolAnswers) (made : ProjectWorkspace)
-    → sysroot ≡ stated_sysroot project → answers ≡ compiler_answers (stated_sysroot project) (root_of project) config.target means → settings ≡ settings_kept config
+    → sysroot ≡ stated_sysroot project → answers ≡ compiler_answers (stated_sysroot project) (project_base project) config.target means → settings ≡ settings_kept config
     → made ≡ made_of sysroot settings answers (Json project) → made ≡ inline_project project config means
 unfolding inline_project
 inline-is project config means sysroot settings answers made is_sysroot is_answers is_settings is_made =
-    made-is sysroot config settings answers (Json project) made is_made is_settings ∙ (λ i. project_of (is_sysroot i) config (is_answers i) (Json project))
+    made-is sysroot config settings answers (Json project) made is_made is_settings ∙ (λ i. project_of_workspace (is_sysroot i) config (is_answers i) (Json project))
 
 module _ (path : List ℕ) (config : CargoConfig) (limits : Limits) (means : Means) where
   pub json-refused : (e : LoadError) → Refuses e (json_content path limits means.files) → Refuses e (json_project path config limits means)

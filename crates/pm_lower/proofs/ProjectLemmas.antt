@@ -17,7 +17,7 @@ use Rattle.pm_lower_load.specs.declared.tool_answers.PlatformAsked.TheVariants.{
 use Rattle.pm_lower_load.specs.declared.tool_answers.ToolAnswers.{ToolAnswers}
 use Rattle.pm_lower_load.proofs.LoadingLemmas.{gives_next, refuses_first, refuses_reading}
 use Rattle.pm_lower.specs.Order.{IsLoadedAlike}
-use Rattle.pm_lower.specs.Project.{cargo_project, kind_of, kind_with, located_project, project_of, project_with}
+use Rattle.pm_lower.specs.Project.{cargo_project, kind_of_project, kind_with, located_project, project_of_workspace, project_with}
 use Rattle.pm_lower.specs.declared.cargo_project.Settings.{Settings}
 use Rattle.pm_lower.specs.declared.project_workspace.ProjectWorkspace.{ProjectWorkspace}
 use Rattle.pm_lower.specs.declared.project_workspace.ProjectWorkspaceKind.{ProjectWorkspaceKind}
@@ -52,7 +52,7 @@ settings_kept config = record {
 
 -- with these, the project is that of the definition
 pub made-is : (sysroot : Toolchain) (config : CargoConfig) (settings : Settings) (answers : ToolAnswers) (kind : ProjectWorkspaceKind) (made : ProjectWorkspace)
-    → made ≡ made_of sysroot settings answers kind → settings ≡ settings_kept config → made ≡ project_of sysroot config answers kind
+    → made ≡ made_of sysroot settings answers kind → settings ≡ settings_kept config → made ≡ project_of_workspace sysroot config answers kind
 made-is sysroot config settings answers kind made is_made is_settings = is_made ∙ ap (λ (s : Settings). made_of sysroot s answers kind) is_settings
 
 -- ---- a load
@@ -69,15 +69,15 @@ module _ (manifest : List ℕ) (config : CargoConfig) (limits : Limits) (means :
     unfolding kind_with
     kind-refused e h =
         refuses_first (of_workspace_error e) (of_reading (read_workspace metadata.0 manifest (environment answers.config_file config means) false limits))
-        (λ (cargo : Workspace). Ok (kind_of metadata.1 cargo))
+        (λ (cargo : Workspace). Ok (kind_of_project metadata.1 cargo))
         (refuses_reading e _ (subst (λ (v : List (List ℕ × List ℕ)). reading.Refuses e (read_workspace metadata.0 manifest v false limits)) env_is h))
 
     -- metadata that is read as a workspace
-    pub kind-read : (cargo : Workspace) (kind : ProjectWorkspaceKind) → read_workspace metadata.0 manifest env false limits ≡ Ok cargo → kind ≡ kind_of metadata.1 cargo
+    pub kind-read : (cargo : Workspace) (kind : ProjectWorkspaceKind) → read_workspace metadata.0 manifest env false limits ≡ Ok cargo → kind ≡ kind_of_project metadata.1 cargo
         → kind_with manifest config answers limits means metadata ≡ Ok kind
     unfolding kind_with
     kind-read cargo kind is made =
-        ap (λ (r : Loading Workspace). r >>= λ c. Ok (kind_of metadata.1 c))
+        ap (λ (r : Loading Workspace). r >>= λ c. Ok (kind_of_project metadata.1 c))
         (ap of_reading (ap (λ (v : List (List ℕ × List ℕ)). read_workspace metadata.0 manifest v false limits) (sym env_is) ∙ is))
         ∙ ap Ok (sym made)
 
@@ -86,13 +86,13 @@ module _ (sysroot : Toolchain) (manifest : List ℕ) (config : CargoConfig) (lim
     -- metadata that gives no kind of project
     pub project-refused : (e : LoadError) → Refuses e (kind_with manifest config answers limits means metadata) → Refuses e (project_with sysroot manifest config answers limits means metadata)
     unfolding project_with
-    project-refused e h = refuses_first e (kind_with manifest config answers limits means metadata) (λ (kind : ProjectWorkspaceKind). Ok (project_of sysroot config answers kind)) h
+    project-refused e h = refuses_first e (kind_with manifest config answers limits means metadata) (λ (kind : ProjectWorkspaceKind). Ok (project_of_workspace sysroot config answers kind)) h
 
     -- metadata that gives one
     pub project-read : (kind : ProjectWorkspaceKind) (project : ProjectWorkspace) → kind_with manifest config answers limits means metadata ≡ Ok kind
-        → project ≡ project_of sysroot config answers kind → project_with sysroot manifest config answers limits means metadata ≡ Ok project
+        → project ≡ project_of_workspace sysroot config answers kind → project_with sysroot manifest config answers limits means metadata ≡ Ok project
     unfolding project_with
-    project-read kind project is made = ap (λ (r : Loading ProjectWorkspaceKind). r >>= λ k. Ok (project_of sysroot config answers k)) is ∙ ap Ok (sym made)
+    project-read kind project is made = ap (λ (r : Loading ProjectWorkspaceKind). r >>= λ k. Ok (project_of_workspace sysroot config answers k)) is ∙ ap Ok (sym made)
 
   module _ (answers : ToolAnswers) (is_answers : answers ≡ tool_answers sysroot manifest FirstTarget config means) where
     -- no metadata is fetched
@@ -137,7 +137,7 @@ pub project-order : (a b : Metadata) → IsShuffle a b → IsLoadedAlike a b
 unfolding project_with kind_with
 project-order a b shuffle sysroot manifest config answers limits means error p q is are =
     let env : List (List ℕ × List ℕ) = environment answers.config_file config means in
-    let made : ProjectWorkspaceKind → ProjectWorkspace = project_of sysroot config answers in
-    let x = read_before (read_workspace a manifest env false limits) (kind_of error) made p is in
-    let y = read_before (read_workspace b manifest env false limits) (kind_of error) made q are in
-    sym x.2 ∙ ap (λ (w : Workspace). made (kind_of error w)) (shuffle-read a b shuffle manifest env false limits x.0 y.0 x.1 y.1) ∙ y.2
+    let made : ProjectWorkspaceKind → ProjectWorkspace = project_of_workspace sysroot config answers in
+    let x = read_before (read_workspace a manifest env false limits) (kind_of_project error) made p is in
+    let y = read_before (read_workspace b manifest env false limits) (kind_of_project error) made q are in
+    sym x.2 ∙ ap (λ (w : Workspace). made (kind_of_project error w)) (shuffle-read a b shuffle manifest env false limits x.0 y.0 x.1 y.1) ∙ y.2

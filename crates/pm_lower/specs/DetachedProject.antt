@@ -3,7 +3,7 @@ use Rattle.std.specs.Prelude.{ℕ, false, List, Option, Some, None, Ok, Err}
 use Rattle.std.specs.Option.{option_map}
 use Rattle.base_text_outside.specs.declared.limits.Limits.{Limits}
 use Rattle.cargo_meta.specs.declared.metadata.Metadata.{Metadata}
-use Rattle.cargo_meta_values.specs.Errors.{error_text}
+use Rattle.cargo_meta_values.specs.Errors.{metadata_error_text}
 use Rattle.cargo_meta_values.specs.declared.errors.Error.{Error}
 use Rattle.pm_cargo.specs.ReadWorkspace.{read_workspace}
 use Rattle.pm_cargo.specs.Workspace.{Workspace}
@@ -15,7 +15,7 @@ use Rattle.pm_lower_load.specs.ToolAnswers.{tool_answers}
 use Rattle.pm_lower_load.specs.declared.tool_answers.PlatformAsked.TheVariants.{NoTarget}
 use Rattle.pm_lower_load.specs.declared.tool_answers.ToolAnswers.{ToolAnswers}
 use Rattle.pm_lower.specs.Builds.{no_scripts}
-use Rattle.pm_lower.specs.Project.{project_of}
+use Rattle.pm_lower.specs.Project.{project_of_workspace}
 use Rattle.pm_lower.specs.ProjectWorkspace.{ScriptPart}
 use Rattle.pm_lower.specs.declared.project_workspace.ProjectWorkspace.{ProjectWorkspace}
 use Rattle.pm_lower.specs.declared.project_workspace.ProjectWorkspaceKind.{ProjectWorkspaceKind}
@@ -31,7 +31,7 @@ metadata_or_none (Err error) = None
 
 -- a workspace as the project of a file, with why the light metadata stood in, where it did; nothing is built yet
 abbrev pub script_of : Option Error → Workspace → ScriptPart
-script_of error cargo = (cargo, no_scripts, option_map error_text error)
+script_of error cargo = (cargo, no_scripts, option_map metadata_error_text error)
 
 -- the project that cargo reads a file as, where there is metadata; its environment is the one that the printed configuration gives, and no variable is set behind it
 abbrev pub script_with : List ℕ → Option (List ℕ) → Limits → Means → Option (Metadata × Option Error) → Loading (Option ScriptPart)
@@ -48,7 +48,7 @@ detached_kind file printed limits means metadata = script_with file printed limi
 unfoldable pub detached_with : Toolchain → List ℕ → CargoConfig → ToolAnswers → Limits → Means → Option (Metadata × Option Error) → Loading ProjectWorkspace
 detached_with sysroot file config answers limits means metadata =
     script_with file answers.config_file limits means metadata >>= λ script.
-    Ok (project_of sysroot config answers (of.DetachedFile file script))
+    Ok (project_of_workspace sysroot config answers (of.DetachedFile file script))
 
 -- the project of a file; atoms and the machine are asked of no platform by name
 unfoldable pub detached_project : Toolchain → List ℕ → CargoConfig → Limits → Means → Loading ProjectWorkspace

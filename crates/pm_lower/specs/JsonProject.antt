@@ -2,12 +2,12 @@
 use Rattle.std.specs.Prelude.{ℕ, List, Ok}
 use Rattle.base_text_outside.specs.declared.limits.Limits.{Limits}
 use Rattle.pm_cargo_config.specs.declared.config.CargoConfig.{CargoConfig}
-use Rattle.pm_json.specs.Queries.{root_of}
+use Rattle.pm_json.specs.Queries.{project_base}
 use Rattle.pm_json.specs.declared.project_json.ProjectJson.{ProjectJson}
 use Rattle.pm_lower_load.specs.Compiler.{compiler_answers}
 use Rattle.pm_lower_load.specs.JsonDocument.{json_content, stated_sysroot}
 use Rattle.pm_lower_load.specs.Loading.{Loading, ◌>>=◌}
-use Rattle.pm_lower.specs.Project.{project_of}
+use Rattle.pm_lower.specs.Project.{project_of_workspace}
 use Rattle.pm_lower.specs.declared.project_workspace.ProjectWorkspace.{ProjectWorkspace}
 use Rattle.pm_lower.specs.declared.project_workspace.ProjectWorkspaceKind.TheVariants as of
 use Rattle.pm_tools_ask.specs.Ask.{Means}
@@ -16,7 +16,7 @@ use Rattle.pm_tools_ask.specs.Ask.{Means}
 unfoldable pub inline_project : ProjectJson → CargoConfig → Means → ProjectWorkspace
 inline_project project config means =
     let sysroot = stated_sysroot project in
-    project_of sysroot config (compiler_answers sysroot (root_of project) config.target means) (of.Json project)
+    project_of_workspace sysroot config (compiler_answers sysroot (project_base project) config.target means) (of.Json project)
 
 -- the project of a document's path
 unfoldable pub json_project : List ℕ → CargoConfig → Limits → Means → Loading ProjectWorkspace

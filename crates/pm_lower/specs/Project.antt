@@ -3,7 +3,7 @@ use Rattle.std.specs.Prelude.{ℕ, false, List, Option, None, Ok, Err}
 use Rattle.std.specs.Option.{option_map}
 use Rattle.base_text_outside.specs.declared.limits.Limits.{Limits}
 use Rattle.cargo_meta.specs.declared.metadata.Metadata.{Metadata}
-use Rattle.cargo_meta_values.specs.Errors.{error_text}
+use Rattle.cargo_meta_values.specs.Errors.{metadata_error_text}
 use Rattle.cargo_meta_values.specs.declared.errors.Error.{Error}
 use Rattle.pm_cargo.specs.ReadWorkspace.{read_workspace}
 use Rattle.pm_cargo.specs.Workspace.{Workspace}
@@ -22,18 +22,18 @@ use Rattle.pm_tools_ask.specs.Ask.{Means}
 use Rattle.pm_tools_ask.specs.Toolchain.{Toolchain}
 
 -- a workspace as a kind of project, with why the light metadata stood in, where it did; nothing is built yet
-abbrev pub kind_of : Option Error → Workspace → ProjectWorkspaceKind
-kind_of error cargo = of.Cargo cargo (option_map error_text error) no_scripts (Err None)
+abbrev pub kind_of_project : Option Error → Workspace → ProjectWorkspaceKind
+kind_of_project error cargo = of.Cargo cargo (option_map metadata_error_text error) no_scripts (Err None)
 
 -- the workspace of metadata, as a kind of project
 unfoldable pub kind_with : List ℕ → CargoConfig → ToolAnswers → Limits → Means → Metadata × Option Error → Loading ProjectWorkspaceKind
 kind_with manifest config answers limits means metadata =
     of_reading (read_workspace metadata.0 manifest (environment answers.config_file config means) false limits) >>= λ cargo.
-    Ok (kind_of metadata.1 cargo)
+    Ok (kind_of_project metadata.1 cargo)
 
 -- the project of a workspace
-abbrev pub project_of : Toolchain → CargoConfig → ToolAnswers → ProjectWorkspaceKind → ProjectWorkspace
-project_of sysroot config answers kind = record {
+abbrev pub project_of_workspace : Toolchain → CargoConfig → ToolAnswers → ProjectWorkspaceKind → ProjectWorkspace
+project_of_workspace sysroot config answers kind = record {
   kind = kind;
   sysroot = sysroot;
   rustc_cfg = answers.rustc_cfg;
@@ -48,7 +48,7 @@ project_of sysroot config answers kind = record {
 unfoldable pub project_with : Toolchain → List ℕ → CargoConfig → ToolAnswers → Limits → Means → Metadata × Option Error → Loading ProjectWorkspace
 project_with sysroot manifest config answers limits means metadata =
     kind_with manifest config answers limits means metadata >>= λ kind.
-    Ok (project_of sysroot config answers kind)
+    Ok (project_of_workspace sysroot config answers kind)
 
 -- the project of a located manifest
 unfoldable pub located_project : Toolchain → List ℕ → CargoConfig → Limits → Means → Loading ProjectWorkspace

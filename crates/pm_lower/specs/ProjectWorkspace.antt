@@ -4,7 +4,7 @@ use Rattle.std.specs.Option.{option_map, option_to_list}
 use Rattle.base_text_paths.specs.Paths.{components_with_tail, path_text}
 use Rattle.pm_tools.specs.Outputs.{BuildScripts}
 use Rattle.pm_cargo.specs.Workspace.{Workspace}
-use Rattle.pm_json.specs.Queries.{crates_in, manifest_of, root_of}
+use Rattle.pm_json.specs.Queries.{crates_in, document_path, project_base}
 use Rattle.pm_json.specs.declared.krate.Crate.{Crate}
 use Rattle.pm_json.specs.declared.project_json.ProjectJson.{ProjectJson}
 use Rattle.pm_lower.specs.declared.project_workspace.ProjectWorkspace.{ProjectWorkspace}
@@ -31,19 +31,19 @@ script_workspace script = option_map (λ s. s.0) script
 -- the manifest of a kind of project, if it has one
 abbrev pub kind_manifest : ProjectWorkspaceKind → Option (List ℕ)
 kind_manifest (Cargo cargo error scripts rustc) = Some cargo.manifest_path
-kind_manifest (Json project) = manifest_of project
+kind_manifest (Json project) = document_path project
 kind_manifest (DetachedFile file script) = option_map (λ w. w.manifest_path) (script_workspace script)
 
 -- the manifest of a kind of project, or what stands for it: the directory of a JSON project that no file describes, and a detached file itself
 abbrev pub kind_manifest_or_root : ProjectWorkspaceKind → List ℕ
 kind_manifest_or_root (Cargo cargo error scripts rustc) = cargo.manifest_path
-kind_manifest_or_root (Json project) = unwrap_or (manifest_of project) (root_of project)
+kind_manifest_or_root (Json project) = unwrap_or (document_path project) (project_base project)
 kind_manifest_or_root (DetachedFile file script) = file
 
 -- the root of a kind of project; that of a detached file is its directory
 abbrev pub kind_root : ProjectWorkspaceKind → List ℕ
 kind_root (Cargo cargo error scripts rustc) = cargo.workspace_root
-kind_root (Json project) = root_of project
+kind_root (Json project) = project_base project
 kind_root (DetachedFile file script) = directory_of file
 
 -- ---- what kind it is
@@ -95,7 +95,7 @@ build_file_of root krate = option_to_list (option_map (λ build. path_text (comp
 
 -- those of the crates of a JSON project, in order
 abbrev pub json_buildfiles : ProjectJson → List (List ℕ)
-json_buildfiles project = flat_map (build_file_of (root_of project)) (crates_in project)
+json_buildfiles project = flat_map (build_file_of (project_base project)) (crates_in project)
 
 -- those of a kind of project: cargo builds by none
 abbrev pub kind_buildfiles : ProjectWorkspaceKind → List (List ℕ)

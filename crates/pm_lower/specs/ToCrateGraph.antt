@@ -24,8 +24,8 @@ shared_of p = record { target = p.target; toolchain = p.toolchain }
 -- the crates of a kind of project, or why there are none
 abbrev pub kind_lowering : FileNumbers → ProjectWorkspaceKind → CrateWorkspaceData → ℕ → Result (List Crate) LowerError
 kind_lowering files (Cargo cargo error scripts rustc) shared limit = lowering files cargo shared limit
-kind_lowering files (Json project) shared limit = json.lowering files project shared limit
-kind_lowering files (DetachedFile file script) shared limit = detached.lowering files file (script_workspace script) shared limit
+kind_lowering files (Json project) shared limit = json.json_lowering files project shared limit
+kind_lowering files (DetachedFile file script) shared limit = detached.detached_lowering files file (script_workspace script) shared limit
 
 -- the crates of a project with these live files and at most so many crates, or why there are none
 abbrev pub project_lowering : FileNumbers → ℕ → ProjectWorkspace → Result (List Crate) LowerError
@@ -39,5 +39,5 @@ IsGraphOf limit (Err error) crates = Refuses error crates
 -- the edges that a kind of project wants
 abbrev pub kind_wants : FileNumbers → ProjectWorkspaceKind → List Edge
 kind_wants files (Cargo cargo error scripts rustc) = wanted_edges (parts files cargo)
-kind_wants files (Json project) = json_edges.wanted_edges (rows_by_place files project)
-kind_wants files (DetachedFile file script) = detached.wanted_edges files (script_workspace script)
+kind_wants files (Json project) = json_edges.json_wanted_edges (rows_by_place files project)
+kind_wants files (DetachedFile file script) = detached.detached_wanted_edges files (script_workspace script)

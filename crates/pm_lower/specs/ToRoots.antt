@@ -22,13 +22,13 @@ out_dir_at scripts number = option_and_then (λ output. output.out_dir) (get scr
 
 -- the roots of a detached file: its own, and then those of its project
 abbrev pub script_roots : List ℕ → Option ScriptPart → List (List ℕ) → List PackageRoot
-script_roots file None extra = detached.roots_of file None (out_dir_at no_scripts) extra
-script_roots file (Some script) extra = detached.roots_of file (Some script.0) (out_dir_at script.1) extra
+script_roots file None extra = detached.detached_roots file None (out_dir_at no_scripts) extra
+script_roots file (Some script) extra = detached.detached_roots file (Some script.0) (out_dir_at script.1) extra
 
 -- the roots of a kind of project, with the extra directories
 abbrev pub kind_roots : ProjectWorkspaceKind → List (List ℕ) → List PackageRoot
 kind_roots (Cargo cargo error scripts rustc) extra = roots_of cargo (out_dir_at scripts) extra
-kind_roots (Json project) extra = json.roots_of project extra
+kind_roots (Json project) extra = json.json_roots project extra
 kind_roots (DetachedFile file script) extra = script_roots file script extra
 
 -- the roots of the packages of a toolchain's libraries
@@ -36,12 +36,12 @@ abbrev pub library_roots : RustLibSrcWorkspace → List PackageRoot
 library_roots Empty = []
 
 -- the root of the directory of the libraries' sources, which is there without a directory too
-abbrev pub source_root : Option (List ℕ) → PackageRoot
-source_root src = record { is_local = false; include = option_to_list src; exclude = [] }
+abbrev pub library_source_root : Option (List ℕ) → PackageRoot
+library_source_root src = record { is_local = false; include = option_to_list src; exclude = [] }
 
 -- the roots of a toolchain
 abbrev pub sysroot_roots : Toolchain → List PackageRoot
-sysroot_roots sysroot = library_roots sysroot.workspace ++ source_root sysroot.src ∷ []
+sysroot_roots sysroot = library_roots sysroot.workspace ++ library_source_root sysroot.src ∷ []
 
 -- the roots of a project
 abbrev pub project_roots : ProjectWorkspace → List PackageRoot

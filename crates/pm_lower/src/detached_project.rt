@@ -2,7 +2,7 @@
 
 ghost use Rattle.std.specs.Prelude.{◌≡◌, IfOk, option_copied};
 ghost use Rattle.std.specs.Option.{option_map};
-ghost use Rattle.cargo_meta_values.specs.Errors.{error_text};
+ghost use Rattle.cargo_meta_values.specs.Errors.{metadata_error_text};
 ghost use Rattle.pm_lower_load.specs.Loading.{Gives};
 ghost use Rattle.pm_lower_load.specs.Metadata.{metadata_answer};
 ghost use Rattle.pm_lower.specs.DetachedProject as spec;
@@ -54,7 +54,7 @@ fn beside_script<R: Runner, T: Tree>(
 ) -> Result<(Env, Option<Text>), AllocError>
     ensures env { IfOk result (λ made. made.0
         ≡ config_env (option_copied printed_config.entry) (means_of R.answers T.files ask.now)) }
-    ensures error { IfOk result (λ made. made.1 ≡ option_map error_text error) }
+    ensures error { IfOk result (λ made. made.1 ≡ option_map metadata_error_text error) }
 {
     let error = error_text(alloc, error)?;
     Ok((cargo_config_env(alloc, printed_config, ask)?, error))

@@ -2,7 +2,7 @@
 
 ghost use Rattle.std.specs.Prelude.{◌≡◌, ◌∷◌, [], IfOk, IsErr, IsErrOf};
 ghost use Rattle.pm_cargo_fetch.specs.Lines.{TakesLines};
-ghost use Rattle.pm_json.specs.Queries.{root_of};
+ghost use Rattle.pm_json.specs.Queries.{project_base};
 ghost use Rattle.pm_lower_load.specs.Compiler.{compiler_answers};
 ghost use Rattle.pm_lower_load.specs.JsonDocument as stated;
 ghost use Rattle.pm_lower_load.specs.Loading.{Gives};
@@ -31,7 +31,7 @@ fn ask_stated<R: Runner, T: Tree, P: Progress>(
 ) -> Result<(Sysroot, ToolAnswers), AllocError>
     ensures sysroot { IfOk result (λ said. said.0 ≡ stated.stated_sysroot project.now) }
     ensures answers { IfOk result (λ said. said.1 ≡ compiler_answers (stated.stated_sysroot project.now)
-        (root_of project.now) config.now.target (means_of R.answers T.files ask.now)) }
+        (project_base project.now) config.now.target (means_of R.answers T.files ask.now)) }
     ensures lines { TakesLines (IsErr result) (P.lines progress.old) (P.lines progress.new)
         (sysroot_line ∷ metadata_line ∷ []) }
 {

@@ -1,7 +1,7 @@
 //! The roots of a project: the directories that the files of its packages are read from.
 
 ghost use Rattle.std.specs.Prelude.{◌≡◌, ◌++◌, IfErr, IfOk, OnOk};
-ghost use Rattle.pm_lower.specs.ToRoots.{HasNoRustc, kind_roots, project_roots, script_roots, source_root, sysroot_roots};
+ghost use Rattle.pm_lower.specs.ToRoots.{HasNoRustc, kind_roots, project_roots, script_roots, library_source_root, sysroot_roots};
 ghost use Rattle.pm_cargo_reading.specs.declared.workspace_error.WorkspaceError.TheVariants.{OutOfMemory};
 
 use crate::project_workspace::{ProjectWorkspace, ProjectWorkspaceKind, ScriptWorkspace};
@@ -34,7 +34,7 @@ impl<'a> OutDirs for BuildDirs<'a> {
 
 // The root of the directory of a toolchain's sources.
 fn source_root(alloc: Global, sysroot: &Sysroot) -> Result<PackageRoot, AllocError>
-    ensures { IfOk result (λ root. root ≡ source_root sysroot.now.src) }
+    ensures { IfOk result (λ root. root ≡ library_source_root sysroot.now.src) }
 {
     let mut include = Vec::new(alloc);
     if let Some(src) = sysroot.rust_lib_src_root() {

@@ -4,27 +4,27 @@ use Rattle.std.specs.List.{All}
 use Rattle.std.proofs.lemmas.List.Elements.{All-append, All-cons, All-head, All-map, All-nil, All-tail}
 use Rattle.graph_base.specs.EdgeList as graph
 use Rattle.graph_base.proofs.EdgeListLemmas.{found_if, reaches_if}
-use Rattle.pm_lower_crates.specs.KeptEdges.{AreKept, IsWithin, Keeps, none, keeps, drops, ends, keep, kept_edges}
+use Rattle.pm_lower_crates.specs.KeptEdges.{AreKept, IsWithinRows, Keeps, none, keeps, drops, ends, keep, kept_edges}
 use Rattle.pm_lower_crates.specs.WantedEdges.{Edge}
 use Rattle.pm_lower_crates.proofs.KeptLemmas.{kept_once}
 
 module _ (count : ℕ) where
-  step : (kept more : List Edge) (e : Edge) (b : Bool) → graph.reach_over (map ends kept) e.dep.target e.source ≡ b → All (IsWithin count) kept → IsWithin count e
-      → ((next : List Edge) → All (IsWithin count) next → Keeps count next more (fold keep next more)) → Keeps count kept (e ∷ more) (fold keep (if b then kept else kept ++ e ∷ []) more)
-  step kept more e true is all within rest = drops (reaches_if count (map ends kept) e.dep.target e.source (All-map (graph.IsWithin count) ends kept all) is) (rest kept all)
+  step : (kept more : List Edge) (e : Edge) (b : Bool) → graph.reach_over (map ends kept) e.dep.target e.source ≡ b → All (IsWithinRows count) kept → IsWithinRows count e
+      → ((next : List Edge) → All (IsWithinRows count) next → Keeps count next more (fold keep next more)) → Keeps count kept (e ∷ more) (fold keep (if b then kept else kept ++ e ∷ []) more)
+  step kept more e true is all within rest = drops (reaches_if count (map ends kept) e.dep.target e.source (All-map (graph.IsEdgeWithin count) ends kept all) is) (rest kept all)
   step kept more e false is all within rest =
-      keeps (λ r. let found = found_if count (map ends kept) e.dep.target e.source r in cc) (rest (kept ++ e ∷ []) (All-append (IsWithin count) kept (e ∷ []) all (All-cons (IsWithin count) e [] within (All-nil (IsWithin count)))))
+      keeps (λ r. let found = found_if count (map ends kept) e.dep.target e.source r in cc) (rest (kept ++ e ∷ []) (All-append (IsWithinRows count) kept (e ∷ []) all (All-cons (IsWithinRows count) e [] within (All-nil (IsWithinRows count)))))
 
-  folded : (more kept : List Edge) → All (IsWithin count) kept → All (IsWithin count) more → Keeps count kept more (fold keep kept more)
+  folded : (more kept : List Edge) → All (IsWithinRows count) kept → All (IsWithinRows count) more → Keeps count kept more (fold keep kept more)
   folded [] kept all later = none
   folded (e ∷ more) kept all later =
-      step kept more e (graph.reach_over (map ends kept) e.dep.target e.source) refl all (All-head (IsWithin count) e more later) (λ next next_all. folded more next next_all (All-tail (IsWithin count) e more later))
+      step kept more e (graph.reach_over (map ends kept) e.dep.target e.source) refl all (All-head (IsWithinRows count) e more later) (λ next next_all. folded more next next_all (All-tail (IsWithinRows count) e more later))
 
 -- the fold keeps what the relation keeps
-pub fold_keeps : (count : ℕ) (want : List Edge) → All (IsWithin count) want → AreKept count want (kept_edges want)
+pub fold_keeps : (count : ℕ) (want : List Edge) → All (IsWithinRows count) want → AreKept count want (kept_edges want)
 unfolding kept_edges
-fold_keeps count want all = folded count want [] (All-nil (IsWithin count)) all
+fold_keeps count want all = folded count want [] (All-nil (IsWithinRows count)) all
 
 -- what the relation keeps is what the fold gives
-pub kept_are_folded : (count : ℕ) (want kept : List Edge) → All (IsWithin count) want → AreKept count want kept → kept ≡ kept_edges want
+pub kept_are_folded : (count : ℕ) (want kept : List Edge) → All (IsWithinRows count) want → AreKept count want kept → kept ≡ kept_edges want
 kept_are_folded count want kept all k = kept_once k (fold_keeps count want all)

@@ -9,7 +9,7 @@ use Rattle.graph_base.specs.Edges.{HasEdge, with_edge}
 use Rattle.graph_base.specs.Reach.{IsAcyclic}
 use Rattle.graph_base.proofs.EdgeListLemmas.{graph_of-push, length-graph_of, row-graph_of, targets_of-append}
 use Rattle.graph_base.proofs.ReachLemmas.{acyclic_with_edge, none_in, reaches_mapped}
-use Rattle.pm_lower_crates.specs.KeptEdges.{AreKept, ClosesCycle, IsWithin, Keeps, none, keeps, drops, deps_of, ends}
+use Rattle.pm_lower_crates.specs.KeptEdges.{AreKept, ClosesCycle, IsWithinRows, Keeps, none, keeps, drops, deps_of, ends}
 use Rattle.pm_lower_crates.specs.WantedEdges.{Dep, Edge}
 
 -- the graph of some edges between the rows below a count
@@ -53,14 +53,14 @@ acyclic_none count a b e r = elim (cases_lt a count) [
 ]
 
 -- kept edges close no cycle
-pub acyclic_kept : (count : ℕ) {kept more new : List Edge} → All (IsWithin count) more → IsAcyclic (edges_graph count kept) → Keeps count kept more new → IsAcyclic (edges_graph count new)
+pub acyclic_kept : (count : ℕ) {kept more new : List Edge} → All (IsWithinRows count) more → IsAcyclic (edges_graph count kept) → Keeps count kept more new → IsAcyclic (edges_graph count new)
 acyclic_kept count all acyclic none = acyclic
 acyclic_kept count {kept = kept} {more = e ∷ more} {new = new} all acyclic (keeps apart rest) =
-    let source : e.source < count = (All-head (IsWithin count) e more all).source in
+    let source : e.source < count = (All-head (IsWithinRows count) e more all).source in
     let next = subst IsAcyclic (sym (edges_graph-push count kept e source))
     (acyclic_with_edge (edges_graph count kept) e.source e.dep.target (omega (arith, source, length-graph_of count (map ends kept))) acyclic apart) in
-    acyclic_kept count (All-tail (IsWithin count) e more all) next rest
-acyclic_kept count {kept = kept} {more = e ∷ more} {new = new} all acyclic (drops closes rest) = acyclic_kept count (All-tail (IsWithin count) e more all) acyclic rest
+    acyclic_kept count (All-tail (IsWithinRows count) e more all) next rest
+acyclic_kept count {kept = kept} {more = e ∷ more} {new = new} all acyclic (drops closes rest) = acyclic_kept count (All-tail (IsWithinRows count) e more all) acyclic rest
 
 -- what was kept stays
 pub kept_grows : {count : ℕ} {kept more new : List Edge} → Keeps count kept more new → (extra : List Edge) × (new ≡ kept ++ extra)
@@ -134,10 +134,10 @@ edge_of_dep (x ∷ xs) e c =
     ]
 
 -- a wanted edge is kept just where its target does not reach its source over those kept
-pub kept_iff : (count : ℕ) (want kept : List Edge) (e : Edge) → All (IsWithin count) want → AreKept count want kept → Contains want e → Contains kept e ↔ (ClosesCycle count kept e → ⊥)
+pub kept_iff : (count : ℕ) (want kept : List Edge) (e : Edge) → All (IsWithinRows count) want → AreKept count want kept → Contains want e → Contains kept e ↔ (ClosesCycle count kept e → ⊥)
 kept_iff count want kept e all k c =
     let acyclic = acyclic_kept count all (acyclic_none count) k in
-    let within = All-contains (IsWithin count) want e all c in
+    let within = All-contains (IsWithinRows count) want e all c in
     let targets = row-graph_of count (map ends kept) e.source within.source ∙ targets_are kept e.source in (
       λ has closes. acyclic e.source e.dep.target (subst (λ z. Contains z e.dep.target) (sym targets) (contains_map (λ (d : Dep). d.target) (deps_of kept e.source) e.dep (dep_of_edge kept e has))) closes,
       λ apart. elim (kept_or_closes count e k c) [ inl has ↦ has | inr closes ↦ absurd (apart closes) ],

@@ -6,7 +6,7 @@ use Rattle.std.proofs.lemmas.List.Elements.{All-contains}
 use Rattle.base_text_paths.specs.declared.arena.Idx.{Idx}
 use Rattle.graph_base.specs.Reach.{Reaches}
 use Rattle.crate_graph.proofs.GraphLemmas.{slice_get_some}
-use Rattle.crate_graph.specs.Graph.{HasDependency, edges, row_of, target_of, with_dependency}
+use Rattle.crate_graph.specs.Graph.{HasDependency, edges, dependency_row, target_of, with_dependency}
 use Rattle.crate_graph_values.specs.declared.builder.CrateBuilder.{CrateBuilder}
 use Rattle.crate_graph_values.specs.declared.crate_data.CrateTag.{CrateTag}
 use Rattle.crate_graph_values.specs.declared.crate_data.Dependency.{Dependency}
@@ -15,8 +15,8 @@ use Rattle.pm_cargo.specs.Workspace.{Workspace}
 use Rattle.graph_base.specs.EdgeList as graph
 use Rattle.pm_lower_crates.specs.Gathering.{AreNumbered}
 use Rattle.pm_lower_crates.specs.Keeping.{AreLowered, with_deps}
-use Rattle.pm_lower_crates.specs.KeptEdges.{ClosesCycle, IsWithin, deps_of, ends}
-use Rattle.pm_lower_crates.specs.Lowering.{Crate, HasDep, LacksCyclesAlone, crate_of, crate_seen, dep_seen}
+use Rattle.pm_lower_crates.specs.KeptEdges.{ClosesCycle, IsWithinRows, deps_of, ends}
+use Rattle.pm_lower_crates.specs.Lowering.{Crate, HasDep, LacksCyclesAlone, crate_of_row, crate_seen, dep_seen}
 use Rattle.pm_lower_crates.specs.Rows.{Row}
 use Rattle.pm_lower_crates.specs.WantedEdges.{Dep, Edge}
 use Rattle.pm_lower_crates.proofs.KeptLemmas.{deps_of-push_same, deps_of-push_other, dep_of_edge, edge_of_dep, edges_graph, keeps_push, drops_push, kept_iff, targets_are}
@@ -63,7 +63,7 @@ targets_from kept n (c ∷ cs) =
 pub edges_are : (bare : List Crate) (kept : List Edge) (crates : List CrateBuilder) → map crate_seen crates ≡ with_deps kept 0 bare → edges crates ≡ edges_graph (length bare) kept
 edges_are bare kept crates are =
     let targets : Crate → List ℕ = λ c. map (λ (d : Dep). d.target) c.deps in
-    sym (map_map targets crate_seen row_of (λ krate. map_map (λ (d : Dep). d.target) dep_seen target_of (λ d. refl) krate.basic.dependencies) crates)
+    sym (map_map targets crate_seen dependency_row (λ krate. map_map (λ (d : Dep). d.target) dep_seen target_of (λ d. refl) krate.basic.dependencies) crates)
     ∙ ap (map targets) are ∙ targets_from kept 0 bare
 
 pub length_lowered : (bare : List Crate) (kept : List Edge) (crates : List CrateBuilder) → map crate_seen crates ≡ with_deps kept 0 bare → length crates ≡ length bare
@@ -166,10 +166,10 @@ has_iff bare kept crates e are within =
     )
 
 -- a wanted edge is a dependency just where its target does not reach its source
-pub lacks_cycles_alone : (bare : List Crate) (want : List Edge) (crates : List CrateBuilder) → All (IsWithin (length bare)) want → AreLowered bare want crates → LacksCyclesAlone want crates
+pub lacks_cycles_alone : (bare : List Crate) (want : List Edge) (crates : List CrateBuilder) → All (IsWithinRows (length bare)) want → AreLowered bare want crates → LacksCyclesAlone want crates
 lacks_cycles_alone bare want crates within low = λ e c.
     let iff = kept_iff (length bare) want low.kept e within low.are_kept c in
-    let has = has_iff bare low.kept crates e low.crates_are (All-contains (IsWithin (length bare)) want e within c).source in
+    let has = has_iff bare low.kept crates e low.crates_are (All-contains (IsWithinRows (length bare)) want e within c).source in
     let same = edges_are bare low.kept crates low.crates_are in (
       λ h r. iff.0 (has.0 h) (subst (λ g. Reaches g e.dep.target e.source) same r),
       λ apart. has.1 (iff.1 (λ closes. apart (subst (λ g. Reaches g e.dep.target e.source) (sym same) closes))),
@@ -178,14 +178,14 @@ lacks_cycles_alone bare want crates within low = λ e c.
 -- ---- the rows of a workspace
 
 module _ (w : Workspace) (shared : CrateWorkspaceData) where
-  deps_from : (kept : List Edge) (n : ℕ) (rows : List Row) → map (λ (r : Row). r.number) rows ≡ range_with_len n (length rows) → with_deps kept n (map (crate_of w shared []) rows) ≡ map (crate_of w shared kept) rows
+  deps_from : (kept : List Edge) (n : ℕ) (rows : List Row) → map (λ (r : Row). r.number) rows ≡ range_with_len n (length rows) → with_deps kept n (map (crate_of_row w shared []) rows) ≡ map (crate_of_row w shared kept) rows
   deps_from kept n [] numbers = refl
   deps_from kept n (r ∷ rs) numbers =
       let head : n ≡ r.number = sym (ap (λ ns. get_or ns 0 0) numbers) in
       let tail : map (λ (x : Row). x.number) rs ≡ range_with_len (n + 1) (length rs) = ap (drop 1) numbers in
-      ap (λ m. record (crate_of w shared [] r) { deps = deps_of kept m } ∷ with_deps kept (n + 1) (map (crate_of w shared []) rs)) head
-      ∙ ap (λ cs. crate_of w shared kept r ∷ cs) (deps_from kept (n + 1) rs tail)
+      ap (λ m. record (crate_of_row w shared [] r) { deps = deps_of kept m } ∷ with_deps kept (n + 1) (map (crate_of_row w shared []) rs)) head
+      ∙ ap (λ cs. crate_of_row w shared kept r ∷ cs) (deps_from kept (n + 1) rs tail)
 
   -- the crates of rows have the dependencies that edges give them by their numbers
-  pub crates_with_deps : (kept : List Edge) (rows : List Row) → AreNumbered rows → with_deps kept 0 (map (crate_of w shared []) rows) ≡ map (crate_of w shared kept) rows
+  pub crates_with_deps : (kept : List Edge) (rows : List Row) → AreNumbered rows → with_deps kept 0 (map (crate_of_row w shared []) rows) ≡ map (crate_of_row w shared kept) rows
   crates_with_deps kept rows numbers = deps_from kept 0 rows numbers

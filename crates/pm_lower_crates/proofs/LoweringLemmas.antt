@@ -10,9 +10,9 @@ use Rattle.crate_graph.specs.Graph.{Graph}
 use Rattle.pm_cargo.specs.Workspace.{Workspace}
 use Rattle.pm_lower_crates.specs.Gathering.{AddsRows, edges_between}
 use Rattle.pm_lower_crates.specs.Keeping.{AreBare, AreLowered}
-use Rattle.pm_lower_crates.specs.KeptEdges.{IsWithin, kept_edges}
+use Rattle.pm_lower_crates.specs.KeptEdges.{IsWithinRows, kept_edges}
 use Rattle.pm_lower_crates.specs.Loader.{FileNumbers}
-use Rattle.pm_lower_crates.specs.Lowering.{Crate, HasCrates, LacksCyclesAlone, crate_of, crate_seen, crates_of, lowering, named_crates}
+use Rattle.pm_lower_crates.specs.Lowering.{Crate, HasCrates, LacksCyclesAlone, crate_of_row, crate_seen, crates_of_rows, lowering, named_crates}
 use Rattle.pm_lower_crates.specs.Refusal.{IfBadName, IfTooMany, Refuses}
 use Rattle.pm_lower_crates.specs.Rows.{Owner, owners, owners_from, parts, rows_of, rows_of_parts}
 use Rattle.pm_lower_crates.specs.WantedEdges.{Edge, bad_names, bad_names_of_owners, wanted_edges}
@@ -30,11 +30,11 @@ module _ (files : FileNumbers) (w : Workspace) (shared : CrateWorkspaceData) whe
   names_are : bad_names (parts files w) ≡ bad_names_of_owners (owners files w)
   names_are = append-nil (bad_names_of_owners (owners files w))
 
-  crates_are : crates_of shared (parts files w) ≡ map (crate_of w shared (kept_edges (edges_between (owners files w)))) (rows_of (owners files w))
-  unfolding crates_of
+  crates_are : crates_of_rows shared (parts files w) ≡ map (crate_of_row w shared (kept_edges (edges_between (owners files w)))) (rows_of (owners files w))
+  unfolding crates_of_rows
   crates_are =
-      append-nil (map (crate_of w shared (kept_edges (wanted_edges (parts files w)))) (rows_of (owners files w)))
-      ∙ ap (λ es. map (crate_of w shared (kept_edges es)) (rows_of (owners files w))) (wanted_are_gathered files w)
+      append-nil (map (crate_of_row w shared (kept_edges (wanted_edges (parts files w)))) (rows_of (owners files w)))
+      ∙ ap (λ es. map (crate_of_row w shared (kept_edges es)) (rows_of (owners files w))) (wanted_are_gathered files w)
 
   lowering_past : (limit : ℕ) → limit < length (rows_of (owners files w)) → lowering files w shared limit ≡ Err (TooMany Crates)
   unfolding lowering
@@ -71,13 +71,13 @@ module _ (files : FileNumbers) (w : Workspace) (shared : CrateWorkspaceData) whe
     pub owners_made : made ≡ owners files w
     owners_made = made_are ∙ ap (λ cs. owners_from files w (length cs) w.packages) empty
 
-    pub crates_made : map crate_seen new.crates ≡ map (crate_of w shared []) (rows_of (owners files w))
-    crates_made = adds.crates ∙ ap (λ cs. map crate_seen cs ++ map (crate_of w shared []) (rows_of made)) empty ∙ ap (λ os. map (crate_of w shared []) (rows_of os)) owners_made
+    pub crates_made : map crate_seen new.crates ≡ map (crate_of_row w shared []) (rows_of (owners files w))
+    crates_made = adds.crates ∙ ap (λ cs. map crate_seen cs ++ map (crate_of_row w shared []) (rows_of made)) empty ∙ ap (λ os. map (crate_of_row w shared []) (rows_of os)) owners_made
 
     count_made : length new.crates ≡ length (rows_of (owners files w))
-    count_made = sym (length-map new.crates crate_seen) ∙ ap length crates_made ∙ length-map (rows_of (owners files w)) (crate_of w shared [])
+    count_made = sym (length-map new.crates crate_seen) ∙ ap length crates_made ∙ length-map (rows_of (owners files w)) (crate_of_row w shared [])
 
-    pub bare_made : AreBare new.crates (map (crate_of w shared []) (rows_of (owners files w)))
+    pub bare_made : AreBare new.crates (map (crate_of_row w shared []) (rows_of (owners files w)))
     bare_made = crates_made ∙ sym (crates_with_deps w shared [] (rows_of (owners files w)) (are_numbered files w))
 
     pub rows_within : length (rows_of (owners files w)) ≤ limit
@@ -85,28 +85,28 @@ module _ (files : FileNumbers) (w : Workspace) (shared : CrateWorkspaceData) whe
         let few : length start.crates ≤ start.limit = omega (arith, ap length empty) in
         omega (arith, adds.within few, start_limit, count_made)
 
-    pub edges_within : (edges : List Edge) (given : List Owner) → given ≡ made → edges ≡ edges_between given → All (IsWithin (length new.crates)) edges
+    pub edges_within : (edges : List Edge) (given : List Owner) → given ≡ made → edges ≡ edges_between given → All (IsWithinRows (length new.crates)) edges
     edges_within edges given same are =
         let all = wanted_within (owners files w) (are_numbered files w) in
-        subst (λ es. All (IsWithin (length new.crates)) es) (ap edges_between (sym owners_made ∙ sym same) ∙ sym are) (subst (λ n. All (IsWithin n) (edges_between (owners files w))) (sym count_made) all)
+        subst (λ es. All (IsWithinRows (length new.crates)) es) (ap edges_between (sym owners_made ∙ sym same) ∙ sym are) (subst (λ n. All (IsWithinRows n) (edges_between (owners files w))) (sym count_made) all)
 
   -- the graph once the edges stand in it too
   module _ (limit : ℕ) (graph : Graph) (within : length (rows_of (owners files w)) ≤ limit) (good : bad_names_of_owners (owners files w) ≡ [])
-      (limit_is : graph.limit ≡ limit) (low : AreLowered (map (crate_of w shared []) (rows_of (owners files w))) (edges_between (owners files w)) graph.crates) where
+      (limit_is : graph.limit ≡ limit) (low : AreLowered (map (crate_of_row w shared []) (rows_of (owners files w))) (edges_between (owners files w)) graph.crates) where
     abbrev bare : List Crate
-    bare = map (crate_of w shared []) (rows_of (owners files w))
+    bare = map (crate_of_row w shared []) (rows_of (owners files w))
 
-    all_within : All (IsWithin (length bare)) (edges_between (owners files w))
+    all_within : All (IsWithinRows (length bare)) (edges_between (owners files w))
     all_within =
-        subst (λ n. All (IsWithin n) (edges_between (owners files w))) (sym (length-map (rows_of (owners files w)) (crate_of w shared [])))
+        subst (λ n. All (IsWithinRows n) (edges_between (owners files w))) (sym (length-map (rows_of (owners files w)) (crate_of_row w shared [])))
         (wanted_within (owners files w) (are_numbered files w))
 
     pub has_crates : HasCrates limit graph (lowering files w shared limit)
     has_crates =
         let kept = kept_are_folded (length bare) (edges_between (owners files w)) low.kept all_within low.are_kept in
-        let crates : map crate_seen graph.crates ≡ crates_of shared (parts files w) =
+        let crates : map crate_seen graph.crates ≡ crates_of_rows shared (parts files w) =
         low.crates_are ∙ crates_with_deps w shared low.kept (rows_of (owners files w)) (are_numbered files w)
-        ∙ ap (λ es. map (crate_of w shared es) (rows_of (owners files w))) kept ∙ sym crates_are in
+        ∙ ap (λ es. map (crate_of_row w shared es) (rows_of (owners files w))) kept ∙ sym crates_are in
         record {
           crates_are = lowering_within limit within ∙ ap (λ names. named_crates shared (parts files w) (slice_get names 0)) good ∙ ap Ok (sym crates);
           limit_is = limit_is;

@@ -17,7 +17,7 @@ use Rattle.pm_cargo_packages.specs.declared.target.TargetTag.{TargetTag}
 use Rattle.pm_cargo.specs.Workspace.{Workspace}
 use Rattle.pm_lower_crates.specs.Loader.{FileNumbers}
 use Rattle.pm_lower_crates.specs.Gathering.{AddsRows, files_of, found_target, found_targets, owner_by, owners_by}
-use Rattle.pm_lower_crates.specs.Lowering.{crate_of, crate_seen}
+use Rattle.pm_lower_crates.specs.Lowering.{crate_of_row, crate_seen}
 use Rattle.pm_lower_crates.specs.Refusal.{IfTooMany}
 use Rattle.pm_lower_crates.specs.Rows.{Owner, Row, is_lib, library, live_target, live_targets, rows_from, owner, owners_from, root_file, row_at, rows_of}
 use Rattle.pm_lower_crates.specs.declared.lower_error.LowerError.{LowerError}
@@ -59,14 +59,14 @@ module _ (w : Workspace) (shared : CrateWorkspaceData) where
   adds_more old mid new xs ys a b = record {
     limit = b.limit ∙ a.limit;
     within = λ h. subst (λ n. length new.crates ≤ n) a.limit (b.within (subst (λ n. length mid.crates ≤ n) (sym a.limit) (a.within h)));
-    crates = b.crates ∙ ap (λ cs. cs ++ map (crate_of w shared []) ys) a.crates ∙ append_assoc (map crate_seen old.crates) (map (crate_of w shared []) xs) (map (crate_of w shared []) ys)
-        ∙ ap (λ cs. map crate_seen old.crates ++ cs) (sym (map-append (crate_of w shared []) xs ys));
+    crates = b.crates ∙ ap (λ cs. cs ++ map (crate_of_row w shared []) ys) a.crates ∙ append_assoc (map crate_seen old.crates) (map (crate_of_row w shared []) xs) (map (crate_of_row w shared []) ys)
+        ∙ ap (λ cs. map crate_seen old.crates ++ cs) (sym (map-append (crate_of_row w shared []) xs ys));
   }
 
   pub count_added : (old new : Graph) (rows : List Row) → AddsRows w shared old new rows → length new.crates ≡ length old.crates + length rows
   count_added old new rows a =
-      sym (length-map new.crates crate_seen) ∙ ap length a.crates ∙ length-append (map crate_seen old.crates) (map (crate_of w shared []) rows)
-      ∙ ap (λ n. n + length (map (crate_of w shared []) rows)) (length-map old.crates crate_seen) ∙ ap (λ n. length old.crates + n) (length-map rows (crate_of w shared []))
+      sym (length-map new.crates crate_seen) ∙ ap length a.crates ∙ length-append (map crate_seen old.crates) (map (crate_of_row w shared []) rows)
+      ∙ ap (λ n. n + length (map (crate_of_row w shared []) rows)) (length-map old.crates crate_seen) ∙ ap (λ n. length old.crates + n) (length-map rows (crate_of_row w shared []))
 
 -- ---- the rows of a package
 

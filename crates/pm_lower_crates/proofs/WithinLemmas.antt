@@ -10,7 +10,7 @@ use Rattle.pm_cargo_packages.specs.declared.package.PackageDependency.{PackageDe
 use Rattle.pm_cargo_packages.specs.declared.target.TargetData.{TargetData}
 use Rattle.pm_cargo.specs.Workspace.{Workspace}
 use Rattle.pm_lower_crates.specs.Gathering.{AreNumbered, found_targets, owner_by, owners_by, to_dependencies, to_dependency, to_own_library, edges_between}
-use Rattle.pm_lower_crates.specs.KeptEdges.{IsWithin}
+use Rattle.pm_lower_crates.specs.KeptEdges.{IsWithinRows}
 use Rattle.pm_lower_crates.specs.Loader.{FileNumbers}
 use Rattle.pm_lower_crates.specs.Rows.{Owner, Row, is_lib, library, live_targets, rows_from, owner, owners, owners_from, rows_of}
 use Rattle.pm_lower_crates.specs.WantedEdges.{is_delayed, is_for, agree, to_library, to_owner, to_package, uses_library}
@@ -99,43 +99,43 @@ library_below : (count : ℕ) (o : Owner) (lib : Row) → AreBelow count o → l
 library_below count o lib below is =
     last_all (λ r. r.number < count) None (filter (λ r. is_lib r.target.kind) o.rows) lib (λ y e. cc) (All-filter (λ r. is_lib r.target.kind) (λ r. r.number < count) o.rows below) is
 
-to_library_within : (count : ℕ) (l : Option Row) (rows : List Row) → ((lib : Row) → l ≡ Some lib → lib.number < count) → All (λ r. r.number < count) rows → All (IsWithin count) (flat_map (to_library l) rows)
-to_library_within count None rows lib_below all = all_flat_any (IsWithin count) (to_library None) (λ r. All-nil (IsWithin count)) rows
+to_library_within : (count : ℕ) (l : Option Row) (rows : List Row) → ((lib : Row) → l ≡ Some lib → lib.number < count) → All (λ r. r.number < count) rows → All (IsWithinRows count) (flat_map (to_library l) rows)
+to_library_within count None rows lib_below all = all_flat_any (IsWithinRows count) (to_library None) (λ r. All-nil (IsWithinRows count)) rows
 to_library_within count (Some lib) rows lib_below all =
-    all_flat (IsWithin count) (to_library (Some lib)) (λ r. r.number < count) (λ r below. all_if (IsWithin count) (uses_library lib r) _ (record { source = below; target = lib_below lib refl })) rows all
+    all_flat (IsWithinRows count) (to_library (Some lib)) (λ r. r.number < count) (λ r below. all_if (IsWithinRows count) (uses_library lib r) _ (record { source = below; target = lib_below lib refl })) rows all
 
-own_library_within : (count : ℕ) (o : Owner) → AreBelow count o → All (IsWithin count) (to_own_library o)
+own_library_within : (count : ℕ) (o : Owner) → AreBelow count o → All (IsWithinRows count) (to_own_library o)
 unfolding to_own_library
 own_library_within count o below = to_library_within count (library o.rows) o.rows (λ lib is. library_below count o lib below is) below
 
 to_package_within : (count : ℕ) (delayed : Bool) (from : Owner) (d : PackageDependency) (to : Owner) (l : Option Row) → ((lib : Row) → l ≡ Some lib → lib.number < count) → (r : Row) → r.number < count
-    → All (IsWithin count) (to_package delayed from d to l r)
-to_package_within count delayed from d to None lib_below r below = All-nil (IsWithin count)
+    → All (IsWithinRows count) (to_package delayed from d to l r)
+to_package_within count delayed from d to None lib_below r below = All-nil (IsWithinRows count)
 to_package_within count delayed from d to (Some lib) lib_below r below =
-    all_if (IsWithin count) (is_for d r && agree delayed (is_delayed from d to r)) _ (record { source = below; target = lib_below lib refl })
+    all_if (IsWithinRows count) (is_for d r && agree delayed (is_delayed from d to r)) _ (record { source = below; target = lib_below lib refl })
 
 to_owner_within : (count : ℕ) (delayed : Bool) (from : Owner) (d : PackageDependency) (to : Option Owner) → ((o : Owner) → to ≡ Some o → AreBelow count o) → (r : Row) → r.number < count
-    → All (IsWithin count) (to_owner delayed from d to r)
-to_owner_within count delayed from d None to_below r below = All-nil (IsWithin count)
+    → All (IsWithinRows count) (to_owner delayed from d to r)
+to_owner_within count delayed from d None to_below r below = All-nil (IsWithinRows count)
 to_owner_within count delayed from d (Some to) to_below r below = to_package_within count delayed from d to (library to.rows) (λ lib is. library_below count to lib (to_below to refl) is) r below
 
-dependency_within : (count : ℕ) (delayed : Bool) (owners : List Owner) (from : Owner) → All (AreBelow count) owners → AreBelow count from → (d : PackageDependency) → All (IsWithin count) (to_dependency delayed owners from d)
+dependency_within : (count : ℕ) (delayed : Bool) (owners : List Owner) (from : Owner) → All (AreBelow count) owners → AreBelow count from → (d : PackageDependency) → All (IsWithinRows count) (to_dependency delayed owners from d)
 dependency_within count delayed owners from all below d =
-    all_flat (IsWithin count) (to_owner delayed from d (slice_get owners (number_of d.pkg))) (λ r. r.number < count)
+    all_flat (IsWithinRows count) (to_owner delayed from d (slice_get owners (number_of d.pkg))) (λ r. r.number < count)
     (to_owner_within count delayed from d (slice_get owners (number_of d.pkg)) (λ o is. all_got (AreBelow count) owners (number_of d.pkg) o all is)) from.rows below
 
-dependencies_within : (count : ℕ) (delayed : Bool) (owners : List Owner) (from : Owner) → All (AreBelow count) owners → AreBelow count from → All (IsWithin count) (to_dependencies delayed owners from)
+dependencies_within : (count : ℕ) (delayed : Bool) (owners : List Owner) (from : Owner) → All (AreBelow count) owners → AreBelow count from → All (IsWithinRows count) (to_dependencies delayed owners from)
 unfolding to_dependencies
-dependencies_within count delayed owners from all below = all_flat_any (IsWithin count) (to_dependency delayed owners from) (dependency_within count delayed owners from all below) from.of.dependencies
+dependencies_within count delayed owners from all below = all_flat_any (IsWithinRows count) (to_dependency delayed owners from) (dependency_within count delayed owners from all below) from.of.dependencies
 
-wanted_below : (count : ℕ) (owners : List Owner) → All (AreBelow count) owners → All (IsWithin count) (edges_between owners)
+wanted_below : (count : ℕ) (owners : List Owner) → All (AreBelow count) owners → All (IsWithinRows count) (edges_between owners)
 wanted_below count owners all =
-    All-append (IsWithin count) (flat_map to_own_library owners ++ flat_map (to_dependencies false owners) owners) (flat_map (to_dependencies true owners) owners)
-    (All-append (IsWithin count) (flat_map to_own_library owners) (flat_map (to_dependencies false owners) owners)
-    (all_flat (IsWithin count) to_own_library (AreBelow count) (own_library_within count) owners all)
-    (all_flat (IsWithin count) (to_dependencies false owners) (AreBelow count) (λ o below. dependencies_within count false owners o all below) owners all))
-    (all_flat (IsWithin count) (to_dependencies true owners) (AreBelow count) (λ o below. dependencies_within count true owners o all below) owners all)
+    All-append (IsWithinRows count) (flat_map to_own_library owners ++ flat_map (to_dependencies false owners) owners) (flat_map (to_dependencies true owners) owners)
+    (All-append (IsWithinRows count) (flat_map to_own_library owners) (flat_map (to_dependencies false owners) owners)
+    (all_flat (IsWithinRows count) to_own_library (AreBelow count) (own_library_within count) owners all)
+    (all_flat (IsWithinRows count) (to_dependencies false owners) (AreBelow count) (λ o below. dependencies_within count false owners o all below) owners all))
+    (all_flat (IsWithinRows count) (to_dependencies true owners) (AreBelow count) (λ o below. dependencies_within count true owners o all below) owners all)
 
 -- each wanted edge is between rows
-pub wanted_within : (owners : List Owner) → AreNumbered (rows_of owners) → All (IsWithin (length (rows_of owners))) (edges_between owners)
+pub wanted_within : (owners : List Owner) → AreNumbered (rows_of owners) → All (IsWithinRows (length (rows_of owners))) (edges_between owners)
 wanted_within owners numbers = wanted_below (length (rows_of owners)) owners (owners_below (length (rows_of owners)) owners (rows_below (rows_of owners) numbers))

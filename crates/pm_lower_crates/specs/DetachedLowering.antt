@@ -12,7 +12,7 @@ use Rattle.crate_graph_values.specs.declared.target_kind.TargetKind.TheVariants.
 use Rattle.crate_graph_values.specs.declared.workspace_data.CrateWorkspaceData.{CrateWorkspaceData}
 use Rattle.base_text_paths.specs.ManifestPath.{directory_of}
 use Rattle.pm_cargo.specs.Workspace.{Workspace}
-use Rattle.pm_lower_crates.specs.Loader.{FileNumbers, file_of}
+use Rattle.pm_lower_crates.specs.Loader.{FileNumbers, file_number}
 use Rattle.pm_lower_crates.specs.Columns.{Columns}
 use Rattle.pm_lower_crates.specs.Lowering as cargo
 use Rattle.pm_lower_crates.specs.Rows.{parts}
@@ -27,8 +27,8 @@ abbrev pub name_of : List ℕ → Option (List ℕ)
 name_of file = option_map stem_of (file_name file)
 
 -- the columns of the crate, which knows the machine and the toolchain
-unfoldable pub columns_of : List ℕ → CrateWorkspaceData → Columns
-columns_of file shared = record {
+unfoldable pub file_columns : List ℕ → CrateWorkspaceData → Columns
+file_columns file shared = record {
   edition = Edition2024;
   target_kind = Lib false;
   display_name = option_map shown_as (name_of file);
@@ -43,12 +43,12 @@ columns_of file shared = record {
 }
 
 -- the crate of a file that is live under a number: it depends on nothing
-abbrev pub crate_of : List ℕ → CrateWorkspaceData → ℕ → cargo.Crate
-crate_of file shared number = record { root = number; columns = columns_of file shared; deps = [] }
+abbrev pub crate_of_file : List ℕ → CrateWorkspaceData → ℕ → cargo.Crate
+crate_of_file file shared number = record { root = number; columns = file_columns file shared; deps = [] }
 
 -- the crates of a file: the one of the file itself, where it is live under a number
-unfoldable pub crates_of : List ℕ → CrateWorkspaceData → Option ℕ → List cargo.Crate
-crates_of file shared number = map (crate_of file shared) (option_to_list number)
+unfoldable pub crates_of_file : List ℕ → CrateWorkspaceData → Option ℕ → List cargo.Crate
+crates_of_file file shared number = map (crate_of_file file shared) (option_to_list number)
 
 -- crates, unless there are more than the limit
 unfoldable pub within_limit : ℕ → List cargo.Crate → Result (List cargo.Crate) LowerError
@@ -57,11 +57,11 @@ within_limit limit crates = if nat_lt limit (length crates) then Err (TooMany Cr
 -- ---- with the project that Cargo reads it as
 
 -- the lowering of a file: that of its Cargo project alone, where it has one
-abbrev pub lowering : FileNumbers → List ℕ → Option Workspace → CrateWorkspaceData → ℕ → Result (List cargo.Crate) LowerError
-lowering files file None shared limit = within_limit limit (crates_of file shared (file_of files file))
-lowering files file (Some w) shared limit = cargo.lowering files w shared limit
+abbrev pub detached_lowering : FileNumbers → List ℕ → Option Workspace → CrateWorkspaceData → ℕ → Result (List cargo.Crate) LowerError
+detached_lowering files file None shared limit = within_limit limit (crates_of_file file shared (file_number files file))
+detached_lowering files file (Some w) shared limit = cargo.lowering files w shared limit
 
 -- the edges that its rows want: a file alone wants none
-abbrev pub wanted_edges : FileNumbers → Option Workspace → List cargo_edges.Edge
-wanted_edges files None = []
-wanted_edges files (Some w) = cargo_edges.wanted_edges (parts files w)
+abbrev pub detached_wanted_edges : FileNumbers → Option Workspace → List cargo_edges.Edge
+detached_wanted_edges files None = []
+detached_wanted_edges files (Some w) = cargo_edges.wanted_edges (parts files w)

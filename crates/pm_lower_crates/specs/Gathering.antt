@@ -13,7 +13,7 @@ use Rattle.pm_cargo_packages.specs.declared.target.TargetData.{TargetData}
 use Rattle.pm_cargo_packages.specs.declared.target.TargetTag.{TargetTag}
 use Rattle.pm_cargo.specs.Workspace.{Workspace}
 use Rattle.pm_lower_crates.specs.Loader.{FileNumbers}
-use Rattle.pm_lower_crates.specs.Lowering.{crate_of, crate_seen}
+use Rattle.pm_lower_crates.specs.Lowering.{crate_of_row, crate_seen}
 use Rattle.pm_lower_crates.specs.Rows.{Owner, Row, library, live_target, rows_from}
 use Rattle.pm_lower_crates.specs.WantedEdges.{Edge, to_library, to_owner}
 
@@ -51,7 +51,7 @@ owners_by w n (p ∷ ps) (f ∷ fs) = owner_by w n p f ∷ owners_by w (n + leng
 pub record AddsRows (w : Workspace) (shared : CrateWorkspaceData) (old new : Graph) (rows : List Row) : Type 0 where
   pub limit : new.limit ≡ old.limit
   pub within : length old.crates ≤ old.limit → length new.crates ≤ old.limit
-  pub crates : map crate_seen new.crates ≡ map crate_seen old.crates ++ map (crate_of w shared []) rows
+  pub crates : map crate_seen new.crates ≡ map crate_seen old.crates ++ map (crate_of_row w shared []) rows
 
 -- ---- edges
 

@@ -9,20 +9,20 @@ use Rattle.pm_lower_crates.specs.Lowering.{Crate}
 use Rattle.pm_lower_crates.specs.WantedEdges.{Edge}
 use Rattle.pm_lower_crates.specs.declared.lower_error.LowerError.{LowerError}
 use Rattle.pm_lower_crates.specs.declared.lower_error.LowerError.TheVariants.{TooMany}
-use Rattle.pm_lower_crates.specs.JsonColumns.{columns_of}
-use Rattle.pm_lower_crates.specs.JsonRows.{Row, rows_among, rows_by_place}
-use Rattle.pm_lower_crates.specs.JsonWantedEdges.{wanted_edges}
+use Rattle.pm_lower_crates.specs.JsonColumns.{json_columns}
+use Rattle.pm_lower_crates.specs.JsonRows.{JsonRow, rows_among, rows_by_place}
+use Rattle.pm_lower_crates.specs.JsonWantedEdges.{json_wanted_edges}
 
 -- the crate of a row, which depends on others by the kept edges
-abbrev pub crate_of : ProjectJson → CrateWorkspaceData → List Edge → Row → Crate
-crate_of project shared kept row = record { root = row.file; columns = columns_of project shared row.of; deps = deps_of kept row.number }
+abbrev pub json_crate_of_row : ProjectJson → CrateWorkspaceData → List Edge → JsonRow → Crate
+json_crate_of_row project shared kept row = record { root = row.file; columns = json_columns project shared row.of; deps = deps_of kept row.number }
 
 -- the crates of a project: one for each row, in order, with the edges that are kept of those wanted
-unfoldable pub crates_of : FileNumbers → ProjectJson → CrateWorkspaceData → List Crate
-crates_of files project shared =
-    map (crate_of project shared (kept_edges (wanted_edges (rows_by_place files project)))) (rows_among (rows_by_place files project))
+unfoldable pub json_crates_of_rows : FileNumbers → ProjectJson → CrateWorkspaceData → List Crate
+json_crates_of_rows files project shared =
+    map (json_crate_of_row project shared (kept_edges (json_wanted_edges (rows_by_place files project)))) (rows_among (rows_by_place files project))
 
 -- the crates of a project, unless it has more rows than the limit
-unfoldable pub lowering : FileNumbers → ProjectJson → CrateWorkspaceData → ℕ → Result (List Crate) LowerError
-lowering files project shared limit =
-    if nat_lt limit (length (rows_among (rows_by_place files project))) then Err (TooMany Crates) else Ok (crates_of files project shared)
+unfoldable pub json_lowering : FileNumbers → ProjectJson → CrateWorkspaceData → ℕ → Result (List Crate) LowerError
+json_lowering files project shared limit =
+    if nat_lt limit (length (rows_among (rows_by_place files project))) then Err (TooMany Crates) else Ok (json_crates_of_rows files project shared)

@@ -38,5 +38,5 @@ abbrev pub AreKept : ℕ → List Edge → List Edge → Type 0
 AreKept count wanted kept = Keeps count [] wanted kept
 
 -- both ends of the edge are rows below a count
-abbrev pub IsWithin : ℕ → Edge → Type 0
-IsWithin count e = graph.IsWithin count (ends e)
+abbrev pub IsWithinRows : ℕ → Edge → Type 0
+IsWithinRows count e = graph.IsEdgeWithin count (ends e)

@@ -14,9 +14,9 @@ abbrev pub path_key : List ℕ → List ℕ
 path_key path = path_text (normal path)
 
 -- the number of the file at a path, which is looked up once it is normalized
-abbrev pub file_of : FileNumbers → List ℕ → Option ℕ
-file_of files path = lookup (path_eq (path_key path)) files
+abbrev pub file_number : FileNumbers → List ℕ → Option ℕ
+file_number files path = lookup (path_eq (path_key path)) files
 
 -- the files with one more, in place of an earlier one of the same path
-abbrev pub with_file : FileNumbers → List ℕ → ℕ → FileNumbers
-with_file files path file = insert_entry path_eq files (path_key path) file
+abbrev pub with_numbered_file : FileNumbers → List ℕ → ℕ → FileNumbers
+with_numbered_file files path file = insert_entry path_eq files (path_key path) file

@@ -4,7 +4,7 @@ use Rattle.std.specs.List.{Contains, flat_map}
 use Rattle.base_text_outside.specs.declared.limits.Limit.TheVariants.{Crates}
 use Rattle.base_text_paths.specs.declared.arena.Idx.{Idx}
 use Rattle.graph_base.specs.Reach.{Reaches}
-use Rattle.crate_graph_values.specs.CrateData.{prelude_of, sysroot_of}
+use Rattle.crate_graph_values.specs.CrateData.{prelude_of, is_of_sysroot}
 use Rattle.crate_graph_values.specs.declared.builder.CrateBuilder.{CrateBuilder}
 use Rattle.crate_graph_values.specs.declared.crate_data.CrateTag.{CrateTag}
 use Rattle.crate_graph_values.specs.declared.crate_data.Dependency.{Dependency}
@@ -15,7 +15,7 @@ use Rattle.pm_lower_crates.specs.Columns.{Columns, columns_of, columns_seen}
 use Rattle.pm_lower_crates.specs.KeptEdges.{deps_of, kept_edges}
 use Rattle.pm_lower_crates.specs.Loader.{FileNumbers}
 use Rattle.pm_lower_crates.specs.Refusal.{Refuses}
-use Rattle.pm_lower_crates.specs.Rows.{Part, Row, cargo, parts, rows_of, rows_of_parts}
+use Rattle.pm_lower_crates.specs.Rows.{ProjectPart, Row, cargo, parts, rows_of, rows_of_parts}
 use Rattle.pm_lower_crates.specs.WantedEdges.{Dep, Edge, bad_names, wanted_edges}
 use Rattle.pm_lower_crates.specs.declared.lower_error.LowerError.{LowerError}
 use Rattle.pm_lower_crates.specs.declared.lower_error.LowerError.TheVariants.{BadCrateName, TooMany}
@@ -29,26 +29,26 @@ pub record Crate : Type 0 where
   pub deps : List Dep
 
 -- the crate of a row, which depends on others by the kept edges
-abbrev pub crate_of : Workspace → CrateWorkspaceData → List Edge → Row → Crate
-crate_of w shared kept row = record { root = row.file; columns = columns_of w shared row; deps = deps_of kept row.number }
+abbrev pub crate_of_row : Workspace → CrateWorkspaceData → List Edge → Row → Crate
+crate_of_row w shared kept row = record { root = row.file; columns = columns_of w shared row; deps = deps_of kept row.number }
 
 -- the crates of a part's rows
-abbrev pub crates_of_part : CrateWorkspaceData → List Edge → Part → List Crate
-crates_of_part shared kept (cargo q w owners) = map (crate_of w shared kept) (rows_of owners)
+abbrev pub crates_of_part : CrateWorkspaceData → List Edge → ProjectPart → List Crate
+crates_of_part shared kept (cargo q w owners) = map (crate_of_row w shared kept) (rows_of owners)
 
 -- the crates of a project: one for each row, in order, with the kept edges
-unfoldable pub crates_of : CrateWorkspaceData → List Part → List Crate
-crates_of shared parts = flat_map (crates_of_part shared (kept_edges (wanted_edges parts))) parts
+unfoldable pub crates_of_rows : CrateWorkspaceData → List ProjectPart → List Crate
+crates_of_rows shared parts = flat_map (crates_of_part shared (kept_edges (wanted_edges parts))) parts
 
 -- ---- lowering
 
 -- the first bad name refuses a project, and else it has its crates
-abbrev pub named_crates : CrateWorkspaceData → List Part → Option (List ℕ) → Result (List Crate) LowerError
+abbrev pub named_crates : CrateWorkspaceData → List ProjectPart → Option (List ℕ) → Result (List Crate) LowerError
 named_crates shared parts (Some name) = Err (BadCrateName name)
-named_crates shared parts None = Ok (crates_of shared parts)
+named_crates shared parts None = Ok (crates_of_rows shared parts)
 
 -- the crates of a project, unless it has more rows than the limit, or else a bad name
-abbrev pub lowered_parts : CrateWorkspaceData → ℕ → List Part → Result (List Crate) LowerError
+abbrev pub lowered_parts : CrateWorkspaceData → ℕ → List ProjectPart → Result (List Crate) LowerError
 lowered_parts shared limit parts =
     if nat_lt limit (length (rows_of_parts parts)) then Err (TooMany Crates) else named_crates shared parts (slice_get (bad_names parts) 0)
 
@@ -60,7 +60,7 @@ lowering files w shared limit = lowered_parts shared limit (parts files w)
 
 -- the dependency that a crate of a graph has
 abbrev pub dep_seen : Dependency (Idx CrateTag) → Dep
-dep_seen d = record { name = d.name; target = target_of d; prelude = prelude_of d; sysroot = sysroot_of d }
+dep_seen d = record { name = d.name; target = target_of d; prelude = prelude_of d; sysroot = is_of_sysroot d }
 
 -- the crate that a graph has
 abbrev pub crate_seen : CrateBuilder → Crate

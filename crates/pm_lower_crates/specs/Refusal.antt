@@ -7,10 +7,10 @@ use Rattle.pm_lower_crates.specs.declared.lower_error.LowerError.{LowerError}
 use Rattle.pm_lower_crates.specs.declared.lower_error.LowerError.TheVariants.{BadCrateName, TooMany, OutOfMemory}
 
 -- the name of the variant, which is what is printed
-abbrev pub variant_name : LowerError → List ℕ
-variant_name (BadCrateName name) = codes "BadCrateName"
-variant_name (TooMany limit) = codes "TooMany"
-variant_name OutOfMemory = codes "OutOfMemory"
+abbrev pub lower_error_name : LowerError → List ℕ
+lower_error_name (BadCrateName name) = codes "BadCrateName"
+lower_error_name (TooMany limit) = codes "TooMany"
+lower_error_name OutOfMemory = codes "OutOfMemory"
 
 -- the error for one of a graph
 abbrev pub lower_error : GraphError → LowerError

@@ -12,7 +12,7 @@ use Rattle.pm_cargo_packages.specs.declared.package.PackageData.{PackageData}
 use Rattle.pm_cargo_packages.specs.declared.target.TargetData.{TargetData}
 use Rattle.pm_cargo_packages.specs.declared.target.TargetTag.{TargetTag}
 use Rattle.pm_cargo.specs.Workspace.{Workspace}
-use Rattle.pm_lower_crates.specs.Loader.{FileNumbers, file_of}
+use Rattle.pm_lower_crates.specs.Loader.{FileNumbers, file_number}
 
 -- ---- kinds of targets
 
@@ -61,7 +61,7 @@ may_be_row w of target = is_lib target.kind || (of.is_member && not w.is_sysroot
 
 -- the file that a target's crate begins in: the target has a row where the file of its root is live
 unfoldable pub root_file : FileNumbers → Workspace → PackageData → TargetData → Option ℕ
-root_file files w of target = if may_be_row w of target then file_of files target.root else None
+root_file files w of target = if may_be_row w of target then file_number files target.root else None
 
 -- a target with the file that its crate begins in
 unfoldable pub live_target : FileNumbers → Workspace → PackageData → Idx TargetTag → Option (TargetData × ℕ)
@@ -104,15 +104,15 @@ library_at owners place = option_and_then (λ o. library o.rows) (slice_get owne
 -- ---- parts
 
 -- a part of a project, by its number: 0 for a sysroot, 1 for the project itself. A Cargo workspace is one, with its packages and their rows
-pub data Part : Type 0 where
-  cargo : ℕ → Workspace → List Owner → Part
+pub data ProjectPart : Type 0 where
+  cargo : ℕ → Workspace → List Owner → ProjectPart
 
 -- the rows of a part, in order
-abbrev pub rows_of_part : Part → List Row
+abbrev pub rows_of_part : ProjectPart → List Row
 rows_of_part (cargo q w owners) = rows_of owners
 
 -- the rows of a project, in order
-abbrev pub rows_of_parts : List Part → List Row
+abbrev pub rows_of_parts : List ProjectPart → List Row
 rows_of_parts parts = flat_map rows_of_part parts
 
 -- the packages of a Cargo workspace with their rows, the first part with rows
@@ -120,5 +120,5 @@ abbrev pub owners : FileNumbers → Workspace → List Owner
 owners files w = owners_from files w 0 w.packages
 
 -- the parts of a project that has no sysroot: its workspace alone
-abbrev pub parts : FileNumbers → Workspace → List Part
+abbrev pub parts : FileNumbers → Workspace → List ProjectPart
 parts files w = cargo 1 w (owners files w) ∷ []

@@ -7,7 +7,7 @@ use Rattle.crate_graph_values.specs.Names.{has_dash, with_underscores}
 use Rattle.pm_cargo_packages.specs.declared.package.DepKind.{DepKind}
 use Rattle.pm_cargo_packages.specs.declared.package.DepKind.TheVariants.{Normal, Dev, Build}
 use Rattle.pm_cargo_packages.specs.declared.package.PackageDependency.{PackageDependency}
-use Rattle.pm_lower_crates.specs.Rows.{Owner, Part, Row, cargo, is_build_script, is_lib, library, library_at}
+use Rattle.pm_lower_crates.specs.Rows.{Owner, ProjectPart, Row, cargo, is_build_script, is_lib, library, library_at}
 
 -- ---- edges
 
@@ -113,18 +113,18 @@ later_edges q step delayed owners p o =
     by_place (λ d dep. flat_map (λ row. with_rank (q ∷ step ∷ p ∷ d ∷ row.place ∷ []) (to_owner delayed o dep (slice_get owners (number_of dep.pkg)) row)) o.rows) 0 o.of.dependencies
 
 -- all that the rows of a part want
-abbrev pub wanted_of_part : Part → List RankedEdge
+abbrev pub wanted_of_part : ProjectPart → List RankedEdge
 wanted_of_part (cargo q w owners) =
     by_place (first_edges q) 0 owners  -- (q, 1, ..)
     ++ by_place (later_edges q 2 false owners) 0 owners  -- (q, 2, ..), which are not delayed
     ++ by_place (later_edges q 3 true owners) 0 owners  -- (q, 3, ..), the delayed ones
 
 -- all that the rows of a project want
-abbrev pub ranked_edges : List Part → List RankedEdge
+abbrev pub ranked_edges : List ProjectPart → List RankedEdge
 ranked_edges parts = flat_map wanted_of_part parts
 
 -- the same without the ranks, in their order
-abbrev pub wanted_edges : List Part → List Edge
+abbrev pub wanted_edges : List ProjectPart → List Edge
 wanted_edges parts = map (λ r. r.edge) (ranked_edges parts)
 
 -- ---- names
@@ -146,9 +146,9 @@ abbrev pub bad_names_of_owners : List Owner → List (List ℕ)
 bad_names_of_owners owners = flat_map (bad_names_of owners) owners
 
 -- such names of a part
-abbrev pub bad_names_of_part : Part → List (List ℕ)
+abbrev pub bad_names_of_part : ProjectPart → List (List ℕ)
 bad_names_of_part (cargo q w owners) = bad_names_of_owners owners
 
 -- such names of a project
-abbrev pub bad_names : List Part → List (List ℕ)
+abbrev pub bad_names : List ProjectPart → List (List ℕ)
 bad_names parts = flat_map bad_names_of_part parts

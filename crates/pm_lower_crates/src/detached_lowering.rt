@@ -3,7 +3,7 @@
 ghost use Rattle.std.specs.Prelude.{◌≡◌, IfErr, IfOk, OnOk, length, map, ◌++◌, ◌∷◌, []};
 ghost use Rattle.std.specs.Option.{option_copied, option_map};
 ghost use Rattle.crate_graph_values.specs.Names.{shown_as};
-ghost use Rattle.pm_lower_crates.specs.DetachedLowering.{crate_of, crates_of, within_limit, lowering, name_of, wanted_edges};
+ghost use Rattle.pm_lower_crates.specs.DetachedLowering.{crate_of_file, crates_of_file, within_limit, detached_lowering, name_of, detached_wanted_edges};
 ghost use Rattle.pm_lower_crates.specs.Lowering.{IsLowered, LacksCyclesAlone, crate_seen};
 ghost use Rattle.pm_lower_crates.specs.Refusal.{IfTooMany};
 
@@ -28,10 +28,10 @@ pub fn lower_detached<L: Loader>(
     loader: &mut L,
     limits: &Limits,
 ) -> Result<CrateGraphBuilder, LowerError>
-    ensures lowers { IsLowered limits.now.crates result (lowering (L.files loader.old) file.now
+    ensures lowers { IsLowered limits.now.crates result (detached_lowering (L.files loader.old) file.now
         (option_copied cargo.entry) shared.now.value limits.now.crates) }
     ensures missing { IfOk result (λ graph. LacksCyclesAlone
-        (wanted_edges (L.files loader.old) (option_copied cargo.entry)) graph.crates) }
+        (detached_wanted_edges (L.files loader.old) (option_copied cargo.entry)) graph.crates) }
     ensures loader { L.files loader.new ≡ L.files loader.old }
 {
     match cargo {
@@ -52,7 +52,7 @@ fn graph_of(
     limits: &Limits,
 ) -> Result<CrateGraphBuilder, LowerError>
     ensures lowers { IsLowered limits.now.crates result (within_limit limits.now.crates
-        (crates_of file.now shared.now.value number)) }
+        (crates_of_file file.now shared.now.value number)) }
     ensures missing { IfOk result (λ graph. LacksCyclesAlone [] graph.crates) }
 {
     let mut graph = CrateGraphBuilder::new(alloc, limits.crates);
@@ -73,7 +73,7 @@ fn name_of(alloc: Global, file: &ManifestPath) -> Result<Option<Symbol>, AllocEr
 }
 
 // Puts the crate of a file into the graph.
-#[tactic(auto, unfolding(crate::specs::DetachedLowering::columns_of))]
+#[tactic(auto, unfolding(crate::specs::DetachedLowering::file_columns))]
 fn add_crate(
     alloc: Global,
     graph: &mut CrateGraphBuilder,
@@ -83,7 +83,7 @@ fn add_crate(
 ) -> Result<(), LowerError>
     ensures limit { OnOk result (graph.new.limit ≡ graph.old.limit) }
     ensures added { OnOk result (map crate_seen graph.new.crates ≡ map crate_seen graph.old.crates
-        ++ crate_of file.now shared.now.value number ∷ []) }
+        ++ crate_of_file file.now shared.now.value number ∷ []) }
     ensures room { OnOk result (length graph.old.crates ≡ graph.old.limit → ⊥) }
     ensures full { IfErr result (λ e. IfTooMany e
         (length graph.old.crates ≡ graph.old.limit)) }

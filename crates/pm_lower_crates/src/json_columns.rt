@@ -2,7 +2,7 @@
 
 ghost use Rattle.std.specs.Prelude.{◌≡◌, map, option_map, string_bytes, IfOk};
 ghost use Rattle.crate_graph.specs.Graph.{attribute};
-ghost use Rattle.pm_lower_crates.specs.JsonColumns.{directory_of, origin_of};
+ghost use Rattle.pm_lower_crates.specs.JsonColumns.{crate_directory, json_origin};
 
 use base_text_paths::{AbsPathBuf, Text, TryClone};
 use crate_graph_values::CrateOrigin;
@@ -31,7 +31,7 @@ pub(crate) fn attributes_of(alloc: Global, krate: &Crate) -> Result<Vec<String>,
 /// Where a crate comes from.
 pub(crate) fn origin_of(alloc: Global, krate: &Crate) -> Result<CrateOrigin, AllocError>
     ensures { IfOk result (λ origin.
-        origin ≡ origin_of krate.now.repository krate.now.display_name) }
+        origin ≡ json_origin krate.now.repository krate.now.display_name) }
 {
     let Some(name) = &krate.display_name else {
         return Ok(CrateOrigin::Local {
@@ -50,7 +50,7 @@ pub(crate) fn directory_of(
     project: &ProjectJson,
     krate: &Crate,
 ) -> Result<AbsPathBuf, AllocError>
-    ensures { IfOk result (λ path. path ≡ directory_of project.now krate.now) }
+    ensures { IfOk result (λ path. path ≡ crate_directory project.now krate.now) }
 {
     match &krate.proc_macro_cwd {
         Some(directory) => directory.try_clone(alloc),

@@ -1,7 +1,7 @@
 //! The edges that a project wants between its rows, in the order of their ranks.
 
 ghost use Rattle.std.specs.Prelude.{◌≡◌, ◌++◌, IfOk, OnOk};
-ghost use Rattle.pm_lower_crates.specs.JsonGathering.{edges_among, edges_from};
+ghost use Rattle.pm_lower_crates.specs.JsonGathering.{edges_among, dependency_edges};
 
 use crate::json_rows::{Row, row_at};
 use crate::wanted_edge::WantedEdge;
@@ -15,7 +15,7 @@ fn add_edges(
     from: &Row,
     edges: &mut Vec<WantedEdge>,
 ) -> Result<(), AllocError>
-    ensures { OnOk result (edges.new.items ≡ edges.old.items ++ edges_from rows.now from.now) }
+    ensures { OnOk result (edges.new.items ≡ edges.old.items ++ dependency_edges rows.now from.now) }
 {
     for dep in from.of().deps.as_slice() {
         if let Some(to) = row_at(rows, dep.krate) {

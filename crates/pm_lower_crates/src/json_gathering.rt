@@ -4,8 +4,8 @@ ghost use Rattle.std.specs.Prelude.{◌≡◌, ◌≤◌, ◌+◌, ◌<◌, [], 
 ghost use Rattle.std.specs.Option.{option_to_list};
 ghost use Rattle.pm_json.specs.Queries.{crates_in};
 ghost use Rattle.pm_lower_crates.specs.Refusal.{IfTooMany};
-ghost use Rattle.pm_lower_crates.specs.JsonGathering.{AddsRows};
-ghost use Rattle.pm_lower_crates.specs.JsonRows.{row_in, rows_among, rows_from};
+ghost use Rattle.pm_lower_crates.specs.JsonGathering.{AddsJsonRows};
+ghost use Rattle.pm_lower_crates.specs.JsonRows.{row_in, rows_among, json_rows_from};
 
 use crate::json_columns::{attributes_of, directory_of, origin_of, version_text};
 use crate::json_rows::Row;
@@ -26,14 +26,14 @@ pub(crate) struct Project<'a> {
 }
 
 // Puts the crate of a row into the graph, under the next number.
-#[tactic(auto, unfolding(crate::specs::JsonColumns::columns_of))]
+#[tactic(auto, unfolding(crate::specs::JsonColumns::json_columns))]
 fn add_crate(
     alloc: Global,
     graph: &mut CrateGraphBuilder,
     project: &Project,
     row: &Row,
 ) -> Result<(), LowerError>
-    ensures added { OnOk result (AddsRows project.now.json.now project.now.shared.now.value
+    ensures added { OnOk result (AddsJsonRows project.now.json.now project.now.shared.now.value
         graph.old graph.new (row.now ∷ [])) }
     ensures full { IfErr result (λ e. IfTooMany e
         (length graph.old.crates ≡ graph.old.limit)) }
@@ -74,7 +74,7 @@ fn add_row<'a>(
 ) -> Result<Option<Row<'a>>, LowerError>
     ensures row { IfOk result (λ row. row
         ≡ option_map (row_in (length graph.old.crates) krate.now) file) }
-    ensures added { IfOk result (λ row. AddsRows project.now.json.now
+    ensures added { IfOk result (λ row. AddsJsonRows project.now.json.now
         project.now.shared.now.value graph.old graph.new (option_to_list row)) }
     ensures full { IfErr result (λ e. IfTooMany e (graph.old.limit
         < length graph.old.crates + length (option_to_list file))) }
@@ -95,12 +95,12 @@ pub(crate) fn add_rows<'a, L: Loader>(
     loader: &mut L,
 ) -> Result<Vec<Option<Row<'a>>>, LowerError>
     requires { length graph.old.crates ≤ graph.old.limit }
-    ensures rows { IfOk result (λ rows. rows.items ≡ rows_from (L.files loader.old)
+    ensures rows { IfOk result (λ rows. rows.items ≡ json_rows_from (L.files loader.old)
         (length graph.old.crates) (crates_in project.now.json.now)) }
-    ensures added { IfOk result (λ rows. AddsRows project.now.json.now
+    ensures added { IfOk result (λ rows. AddsJsonRows project.now.json.now
         project.now.shared.now.value graph.old graph.new (rows_among rows.items)) }
     ensures full { IfErr result (λ e. IfTooMany e (graph.old.limit < length graph.old.crates
-        + length (rows_among (rows_from (L.files loader.old)
+        + length (rows_among (json_rows_from (L.files loader.old)
         (length graph.old.crates) (crates_in project.now.json.now))))) }
     ensures loader { L.files loader.new ≡ L.files loader.old }
 {

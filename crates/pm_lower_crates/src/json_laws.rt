@@ -2,10 +2,10 @@
 
 ghost use Rattle.std.specs.Prelude.{ℕ, List, Option};
 ghost use Rattle.pm_lower_crates.specs.Ranks.{AreInOrder};
-ghost use Rattle.pm_lower_crates.specs.JsonRows.{Row};
-ghost use Rattle.pm_lower_crates.specs.JsonWantedEdges.{ranked_edges};
+ghost use Rattle.pm_lower_crates.specs.JsonRows.{JsonRow};
+ghost use Rattle.pm_lower_crates.specs.JsonWantedEdges.{json_ranked_edges};
 
 /// The wanted edges of a part stand in the order of their ranks, and no two have one rank.
 pub fn wanted_edges_are_ranked()
-    ensures { (part : ℕ) (rows : List (Option Row)) → AreInOrder (ranked_edges part rows) }
+    ensures { (part : ℕ) (rows : List (Option JsonRow)) → AreInOrder (json_ranked_edges part rows) }
 {}

@@ -2,9 +2,9 @@
 
 ghost use Rattle.std.specs.Prelude.{◌≡◌, IfOk};
 ghost use Rattle.pm_lower_crates.specs.Lowering.{IsLowered, LacksCyclesAlone};
-ghost use Rattle.pm_lower_crates.specs.JsonLowering.{lowering};
+ghost use Rattle.pm_lower_crates.specs.JsonLowering.{json_lowering};
 ghost use Rattle.pm_lower_crates.specs.JsonRows.{rows_by_place};
-ghost use Rattle.pm_lower_crates.specs.JsonWantedEdges.{wanted_edges};
+ghost use Rattle.pm_lower_crates.specs.JsonWantedEdges.{json_wanted_edges};
 
 use crate::json_edges::wanted_edges;
 use crate::json_gathering::{Project, add_rows};
@@ -28,10 +28,10 @@ pub fn lower_json<L: Loader>(
     loader: &mut L,
     limits: &Limits,
 ) -> Result<CrateGraphBuilder, LowerError>
-    ensures lowers { IsLowered limits.now.crates result (lowering
+    ensures lowers { IsLowered limits.now.crates result (json_lowering
         (L.files loader.old) project.now shared.now.value limits.now.crates) }
     ensures missing { IfOk result (λ graph. LacksCyclesAlone
-        (wanted_edges (rows_by_place (L.files loader.old) project.now)) graph.crates) }
+        (json_wanted_edges (rows_by_place (L.files loader.old) project.now)) graph.crates) }
     ensures loader { L.files loader.new ≡ L.files loader.old }
 {
     let mut graph = CrateGraphBuilder::new(alloc, limits.crates);

@@ -2,7 +2,7 @@
 
 ghost use Rattle.std.specs.Prelude.{◌≡◌};
 ghost use Rattle.std.specs.Option.{option_copied};
-ghost use Rattle.pm_lower_crates.specs.JsonRows.{row_at};
+ghost use Rattle.pm_lower_crates.specs.JsonRows.{json_row_at};
 
 use base_text_paths::FileId;
 use pm_json::{Crate, CrateArrayIdx};
@@ -19,7 +19,7 @@ pub(crate) struct Row<'a> {
 impl<'a> Model for Row<'a> {
     ghost use Rattle.pm_lower_crates.specs.JsonRows as seen;
 
-    ghost Value = { seen.Row };
+    ghost Value = { seen.JsonRow };
 
     ghost view = { λ a. record { number = a.number; of = a.of.now; file = a.file } };
 }
@@ -56,7 +56,7 @@ pub(crate) fn row_at<'b, 'a>(
     rows: &'b [Option<Row<'a>>],
     place: CrateArrayIdx,
 ) -> Option<&'b Row<'a>>
-    ensures { option_copied result ≡ row_at rows.now place.0 }
+    ensures { option_copied result ≡ json_row_at rows.now place.0 }
 {
     rows.get(place.0)?.as_ref()
 }

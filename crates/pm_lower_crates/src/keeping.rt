@@ -2,7 +2,7 @@
 
 ghost use Rattle.std.specs.Prelude.{◌≡◌, ◌<◌, List, ◌∷◌, [], ◌++◌, length, OnOk};
 ghost use Rattle.std.specs.List.{All};
-ghost use Rattle.pm_lower_crates.specs.KeptEdges.{IsWithin};
+ghost use Rattle.pm_lower_crates.specs.KeptEdges.{IsWithinRows};
 ghost use Rattle.pm_lower_crates.specs.Keeping.{AreBare, AreLowered};
 ghost use Rattle.pm_lower_crates.specs.Lowering.{Crate};
 ghost use Rattle.pm_lower_crates.specs.WantedEdges.{Edge};
@@ -13,7 +13,7 @@ use std::alloc::AllocError;
 
 // Lets a crate depend on another unless that would close a cycle.
 fn keep_edge(graph: &mut CrateGraphBuilder, edge: WantedEdge) -> Result<(), AllocError>
-    requires { IsWithin (length graph.old.crates) edge }
+    requires { IsWithinRows (length graph.old.crates) edge }
     ensures limit { OnOk result (graph.new.limit ≡ graph.old.limit) }
     ensures count { OnOk result (length graph.new.crates ≡ length graph.old.crates) }
     ensures keeps { OnOk result ((bare : List Crate) (want : List Edge)
@@ -31,7 +31,7 @@ fn keep_edge(graph: &mut CrateGraphBuilder, edge: WantedEdge) -> Result<(), Allo
 /// Gives the crates of a graph, which have no dependencies yet, the wanted edges between them, in their
 /// order, except those that would close a cycle. Out of memory leaves some of them in the graph.
 pub fn keep_edges(graph: &mut CrateGraphBuilder, edges: Vec<WantedEdge>) -> Result<(), AllocError>
-    requires { All (IsWithin (length graph.old.crates)) edges.items }
+    requires { All (IsWithinRows (length graph.old.crates)) edges.items }
     ensures limit { OnOk result (graph.new.limit ≡ graph.old.limit) }
     ensures keeps { OnOk result ((bare : List Crate) → AreBare graph.old.crates bare
         → AreLowered bare edges.items graph.new.crates) }

@@ -3,7 +3,7 @@
 ghost use Rattle.std.specs.Prelude.{◌≡◌, ℕ, List};
 ghost use Rattle.std.specs.List.{All};
 ghost use Rattle.pm_cargo.specs.Workspace.{Workspace};
-ghost use Rattle.pm_lower_crates.specs.KeptEdges.{AreKept, IsWithin, kept_edges};
+ghost use Rattle.pm_lower_crates.specs.KeptEdges.{AreKept, IsWithinRows, kept_edges};
 ghost use Rattle.pm_lower_crates.specs.Loader.{FileNumbers};
 ghost use Rattle.pm_lower_crates.specs.Ranks.{AreInOrder};
 ghost use Rattle.pm_lower_crates.specs.Rows.{parts};
@@ -12,7 +12,7 @@ ghost use Rattle.pm_lower_crates.specs.WantedEdges.{Edge, ranked_edges};
 /// The kept edges are those of which each in turn closes no cycle over the edges kept before it, and
 /// there are no others.
 pub fn kept_edges_close_no_cycle()
-    ensures kept { (count : ℕ) (wanted : List Edge) → All (IsWithin count) wanted
+    ensures kept { (count : ℕ) (wanted : List Edge) → All (IsWithinRows count) wanted
         → AreKept count wanted (kept_edges wanted) }
     ensures unique { (count : ℕ) (wanted a b : List Edge) → AreKept count wanted a
         → AreKept count wanted b → a ≡ b }

@@ -3,7 +3,7 @@
 ghost use Rattle.std.specs.Prelude.{◌≡◌, ℕ, List, [], IfOk, OnErr, OnOk, Some, if◌then◌else◌};
 ghost use Rattle.base_text_paths.specs.AbsPath.{abs_text};
 ghost use Rattle.base_text_paths.specs.PathOrder.{path_eq};
-ghost use Rattle.pm_lower_crates.specs.Loader.{FileNumbers, file_of, path_key, with_file};
+ghost use Rattle.pm_lower_crates.specs.Loader.{FileNumbers, file_number, path_key, with_numbered_file};
 
 use base_text_paths::{AbsPath, AbsPathBuf, FileId, TryClone, copy_entries};
 use indexmap::IndexMap;
@@ -19,7 +19,7 @@ pub trait Loader {
     /// files stay as they are.
     fn load(&mut self, alloc: Global, path: AbsPath<'_>) -> Result<Option<FileId>, AllocError>
         ensures found { IfOk result
-            (λ file. file ≡ file_of (files self.old) (abs_text path.entry)) }
+            (λ file. file ≡ file_number (files self.old) (abs_text path.entry)) }
         ensures same { files self.new ≡ files self.old };
 }
 
@@ -49,9 +49,9 @@ impl MapLoader {
 
     /// Puts a file in under a path, in place of an earlier file of the same normalized path.
     pub fn insert(&mut self, path: AbsPathBuf, id: FileId) -> Result<(), AllocError>
-        ensures ok { OnOk result (self.new ≡ with_file self.old path id) }
-        ensures last_counts { OnOk result ((asked : List ℕ) → file_of self.new asked
-            ≡ (if path_eq (path_key path) (path_key asked) then Some id else file_of self.old asked)) }
+        ensures ok { OnOk result (self.new ≡ with_numbered_file self.old path id) }
+        ensures last_counts { OnOk result ((asked : List ℕ) → file_number self.new asked
+            ≡ (if path_eq (path_key path) (path_key asked) then Some id else file_number self.old asked)) }
         ensures err { OnErr result (self.new ≡ self.old) }
     {
         let alloc = *self.files.allocator();
@@ -72,7 +72,7 @@ impl Loader for MapLoader {
     ghost files = { λ a. a };
 
     fn load(&mut self, alloc: Global, path: AbsPath<'_>) -> Result<Option<FileId>, AllocError>
-        ensures found { IfOk result (λ file. file ≡ file_of self.old (abs_text path.entry)) }
+        ensures found { IfOk result (λ file. file ≡ file_number self.old (abs_text path.entry)) }
         ensures same { self.new ≡ self.old }
     {
         let path = path.normalize(alloc)?;

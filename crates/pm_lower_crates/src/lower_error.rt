@@ -64,9 +64,9 @@ impl TryClone for LowerError {
 /// The variant's name.
 impl fmt::Display for LowerError {
     ghost use Rattle.std.specs.Prelude.{Some};
-    ghost use Rattle.pm_lower_crates.specs.Refusal.{variant_name};
+    ghost use Rattle.pm_lower_crates.specs.Refusal.{lower_error_name};
 
-    ghost output = { λ error. Some (variant_name error) };
+    ghost output = { λ error. Some (lower_error_name error) };
 
     fn fmt<W: fmt::Write>(&self, f: &mut fmt::Formatter<W>) -> fmt::Result {
         f.write_str(match self {

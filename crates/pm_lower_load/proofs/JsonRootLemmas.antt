@@ -7,19 +7,19 @@ use Rattle.std.proofs.lemmas.List.{map-append, take_more}
 use Rattle.std.specs.Map.Iter.{TakesFirst}
 use Rattle.pm_json.specs.declared.krate.Crate.{Crate}
 use Rattle.pm_lower_load.specs.declared.package_root.PackageRoot.{PackageRoot}
-use Rattle.pm_lower_load.specs.JsonRoots.{distinct_roots, root_of, with_root}
+use Rattle.pm_lower_load.specs.JsonRoots.{distinct_roots, json_crate_root, with_distinct_root}
 
 -- one root more
-distinct_push : (roots : List PackageRoot) (root : PackageRoot) → distinct_roots (roots ++ root ∷ []) ≡ with_root (distinct_roots roots) root
-distinct_push roots root = fold-append with_root [] roots (root ∷ [])
+distinct_push : (roots : List PackageRoot) (root : PackageRoot) → distinct_roots (roots ++ root ∷ []) ≡ with_distinct_root (distinct_roots roots) root
+distinct_push roots root = fold-append with_distinct_root [] roots (root ∷ [])
 
 -- the root of one crate more
 pub distinct_more : (extra : List (List ℕ)) (crates : List Crate) (i : ℕ) (c : Crate) → i < length crates → c ≡ get_or crates i c
-    → with_root (distinct_roots (map (root_of extra) (take i crates))) (root_of extra c) ≡ distinct_roots (map (root_of extra) (take (i + 1) crates))
+    → with_distinct_root (distinct_roots (map (json_crate_root extra) (take i crates))) (json_crate_root extra c) ≡ distinct_roots (map (json_crate_root extra) (take (i + 1) crates))
 distinct_more extra crates i c within is =
-    sym (distinct_push (map (root_of extra) (take i crates)) (root_of extra c))
-    ∙ ap distinct_roots (ap (λ x. map (root_of extra) (take i crates) ++ root_of extra x ∷ []) is ∙ sym (map-append (root_of extra) (take i crates) (get_or crates i c ∷ []))
-    ∙ ap (map (root_of extra)) (sym (take_more crates i c within)))
+    sym (distinct_push (map (json_crate_root extra) (take i crates)) (json_crate_root extra c))
+    ∙ ap distinct_roots (ap (λ x. map (json_crate_root extra) (take i crates) ++ json_crate_root extra x ∷ []) is ∙ sym (map-append (json_crate_root extra) (take i crates) (get_or crates i c ∷ []))
+    ∙ ap (map (json_crate_root extra)) (sym (take_more crates i c within)))
 
 -- the keys of a set, taken one after the other, are its keys
 pub gives_all : {X : Type 0} (left keys : List X) → left ≡ keys → YieldsList (TakesFirst (λ (x : X). x)) (λ x. x) left keys

@@ -3,7 +3,7 @@ use Rattle.std.proofs.Common.{◌≡◌, Result, Ok, Err, refl, sym, ap, subst}
 use Rattle.std.specs.Prelude.{IsErrOf}
 use Rattle.cargo_meta_values.specs.declared.errors.Error as metadata
 use Rattle.cargo_meta_values.specs.declared.errors.Error.TheVariants as unread
-use Rattle.pm_cargo_fetch.specs.Fetch.{Answers, FetchAnswer}
+use Rattle.pm_cargo_fetch.specs.Fetch.{AnswersFetch, FetchAnswer}
 use Rattle.json_fields.specs.Outcome as fields
 use Rattle.json_fields.specs.declared.place.ReadError.{ReadError}
 use Rattle.json_fields.specs.declared.place.ReadError.TheVariants as missed
@@ -57,7 +57,7 @@ refuses_reading (refused.TooMany limit) part h = ap of_reading h
 refuses_reading refused.OutOfMemory part h = record {}
 
 -- what was not fetched, as a part of a load
-pub refuses_fetch : (e : metadata.Error) (wanted : FetchAnswer) → Answers (Err e) wanted → Refuses (of_metadata_error e) (of_fetch wanted)
+pub refuses_fetch : (e : metadata.Error) (wanted : FetchAnswer) → AnswersFetch (Err e) wanted → Refuses (of_metadata_error e) (of_fetch wanted)
 refuses_fetch (unread.CargoMetadata stderr) wanted h = ap of_fetch h
 refuses_fetch (unread.Io line) wanted h = ap of_fetch h
 refuses_fetch (unread.Json field) wanted h = ap of_fetch h

@@ -16,7 +16,7 @@ use Rattle.pm_lower_load.specs.declared.tool_answers.PlatformAsked.{PlatformAske
 use Rattle.pm_lower_load.specs.declared.tool_answers.ToolAnswers.{ToolAnswers}
 use Rattle.pm_tools_ask.specs.Ask.{Means}
 use Rattle.pm_tools_ask.specs.Toolchain.{Toolchain}
-use Rattle.pm_tools_ask.specs.ConfigQuestion.{config_of}
+use Rattle.pm_tools_ask.specs.ConfigQuestion.{printed_config}
 use Rattle.pm_tools_info.specs.BuildTarget.{build_targets}
 use Rattle.pm_tools_info.specs.Queries.{cfg_answer, data_answer, host_answer, one_target, target_answer, unless_given, unless_stated, version_answer}
 use Rattle.pm_tools_info.specs.Questions.{cfg_questions, host_questions, spec_questions, version_questions}
@@ -60,7 +60,7 @@ module _ (sysroot : Bor Toolchain) (manifest : Bor (List ℕ)) (file : Option (B
   -- ---- the answers together
 
   pub answers_are : (platform : PlatformAsked) (config : CargoConfig) (query : QueryConfig) (path printed : Option (List ℕ)) (targets : List (List ℕ)) (version copy : Option Parts) (first : Option (List ℕ))
-      (atoms : List CfgAtom) (machine : Result TargetData TargetLoadError) → path ≡ config.config_path → printed ≡ config_of manifest.now sysroot.now path means
+      (atoms : List CfgAtom) (machine : Result TargetData TargetLoadError) → path ≡ config.config_path → printed ≡ printed_config manifest.now sysroot.now path means
       → option_copied file ≡ printed → query ≡ given → targets ≡ targets_or_none (target_answer query config.target means)
       → version ≡ version_or_none (version_answer query means) → copy ≡ version → first ≡ platform_asked platform targets → atoms ≡ cfg_answer query first means
       → machine ≡ target_result (data_answer query first copy means)
@@ -89,7 +89,7 @@ module _ (sysroot : Bor Toolchain) (manifest : Bor (List ℕ)) (file : Option (B
       (λ i. record { config_file = printed; targets = targets; toolchain = version; rustc_cfg = cfgs i; target = machines i })
       ∙ ap (λ (text : Option (List ℕ)). answered text first) is_file ∙ ap (answered printed) is_first
       ∙ (λ i. with_targets platform (by printed) printed (all_targets i) (toolchain i) means)
-      ∙ ap (answers_with sysroot.now manifest.now platform config means) (is_printed ∙ ap (λ (p : Option (List ℕ)). config_of manifest.now sysroot.now p means) is_path)
+      ∙ ap (answers_with sysroot.now manifest.now platform config means) (is_printed ∙ ap (λ (p : Option (List ℕ)). printed_config manifest.now sysroot.now p means) is_path)
 
 -- ---- the answers of a compiler
 

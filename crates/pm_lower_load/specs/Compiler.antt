@@ -11,10 +11,10 @@ use Rattle.pm_tools_ask.specs.Ask.{Means}
 use Rattle.pm_tools_ask.specs.Questions.{question}
 use Rattle.pm_tools_ask.specs.Toolchain.{Toolchain}
 use Rattle.pm_tools_info.specs.Host.{host_of}
-use Rattle.pm_tools_info.specs.TargetSpec.{data_of, spec_of}
+use Rattle.pm_tools_info.specs.TargetSpec.{machine_of, spec_of}
 use Rattle.pm_tools_info.specs.Version.{version_behind}
 use Rattle.pm_tools_info.specs.Asked.{answer_to, reading_of_answer}
-use Rattle.pm_tools_info.specs.Queries.{atoms_in, one_target, unless_given}
+use Rattle.pm_tools_info.specs.Queries.{atoms_of_answer, one_target, unless_given}
 use Rattle.pm_tools_info.specs.Questions.{one_question, rustc_cfg_words, rustc_spec_words, with_bootstrap}
 use Rattle.pm_tools_info.specs.declared.query_error.QueryError.{QueryError}
 use Rattle.pm_tools_info.specs.declared.query_error.QueryError.TheVariants.{BadSpec, NoHost}
@@ -38,12 +38,12 @@ compiler_version sysroot dir means =
 
 -- the atoms that hold for a platform
 abbrev pub compiler_cfgs : Toolchain → List ℕ → Option (List ℕ) → Means → List CfgAtom
-compiler_cfgs sysroot dir target means = atoms_in (compiler_answer sysroot dir (rustc_cfg_words target) means)
+compiler_cfgs sysroot dir target means = atoms_of_answer (compiler_answer sysroot dir (rustc_cfg_words target) means)
 
 -- the machine of a platform, by a question that a stable compiler answers too
 abbrev pub compiler_machine : Toolchain → List ℕ → Option (List ℕ) → Means → Result TargetData QueryError
 compiler_machine sysroot dir target means =
-    reading_of_answer (λ text. ok_or (option_map data_of (spec_of text)) BadSpec)
+    reading_of_answer (λ text. ok_or (option_map machine_of (spec_of text)) BadSpec)
     (answer_to means.answers (one_question (with_bootstrap (question sysroot Rustc dir (rustc_spec_words target) means))))
 
 -- what it says of a platform, with the platforms that are built for; no configuration is printed

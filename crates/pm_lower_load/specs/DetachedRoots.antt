@@ -6,8 +6,8 @@ use Rattle.pm_lower_load.specs.Roots as cargo
 use Rattle.pm_lower_load.specs.declared.package_root.PackageRoot.{PackageRoot}
 
 -- the root of the file itself
-abbrev pub root_of : List ℕ → PackageRoot
-root_of file = record { is_local = true; include = file ∷ []; exclude = [] }
+abbrev pub detached_root : List ℕ → PackageRoot
+detached_root file = record { is_local = true; include = file ∷ []; exclude = [] }
 
 -- the roots of a Cargo project, if there is one; what a package's build wrote into is known by the package's number
 abbrev pub cargo_roots : Option Workspace → (ℕ → Option (List ℕ)) → List (List ℕ) → List PackageRoot
@@ -15,5 +15,5 @@ cargo_roots None out_dir extra = []
 cargo_roots (Some w) out_dir extra = cargo.roots_of w out_dir extra
 
 -- the roots of a file
-abbrev pub roots_of : List ℕ → Option Workspace → (ℕ → Option (List ℕ)) → List (List ℕ) → List PackageRoot
-roots_of file w out_dir extra = root_of file ∷ cargo_roots w out_dir extra
+abbrev pub detached_roots : List ℕ → Option Workspace → (ℕ → Option (List ℕ)) → List (List ℕ) → List PackageRoot
+detached_roots file w out_dir extra = detached_root file ∷ cargo_roots w out_dir extra

@@ -12,21 +12,21 @@ use Rattle.pm_json.specs.declared.project_json.ProjectJson.{ProjectJson}
 use Rattle.pm_lower_load.specs.declared.package_root.PackageRoot.{PackageRoot}
 
 -- the root of a crate: it is local where the crate is a member, and the extra directories are read with each
-abbrev pub root_of : List (List ℕ) → Crate → PackageRoot
-root_of extra krate = record { is_local = krate.is_workspace_member; include = krate.include ++ extra; exclude = krate.exclude }
+abbrev pub json_crate_root : List (List ℕ) → Crate → PackageRoot
+json_crate_root extra krate = record { is_local = krate.is_workspace_member; include = krate.include ++ extra; exclude = krate.exclude }
 
 -- two roots are equal where all their fields are, their paths by components
 abbrev pub root_eq : PackageRoot → PackageRoot → Bool
 root_eq a b = beq a.is_local b.is_local && (pointwise path_eq a.include b.include && pointwise path_eq a.exclude b.exclude)
 
 -- one more root, unless an equal one is there
-abbrev pub with_root : List PackageRoot → PackageRoot → List PackageRoot
-with_root roots root = if list_any (root_eq root) roots then roots else roots ++ root ∷ []
+abbrev pub with_distinct_root : List PackageRoot → PackageRoot → List PackageRoot
+with_distinct_root roots root = if list_any (root_eq root) roots then roots else roots ++ root ∷ []
 
 -- of equal roots the first alone, in their order
 abbrev pub distinct_roots : List PackageRoot → List PackageRoot
-distinct_roots roots = fold with_root [] roots
+distinct_roots roots = fold with_distinct_root [] roots
 
 -- the roots of the crates of a project, with the extra directories
-unfoldable pub roots_of : ProjectJson → List (List ℕ) → List PackageRoot
-roots_of project extra = distinct_roots (map (root_of extra) (crates_in project))
+unfoldable pub json_roots : ProjectJson → List (List ℕ) → List PackageRoot
+json_roots project extra = distinct_roots (map (json_crate_root extra) (crates_in project))

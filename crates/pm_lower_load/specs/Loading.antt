@@ -91,14 +91,14 @@ Gives (Ok x) loading = loading ≡ Ok x
 Gives (Err e) loading = Refuses e loading
 
 -- the name of the variant, which is what is printed of a refusal
-abbrev pub variant_name : LoadError → List ℕ
-variant_name (NoSuchFile path) = codes "NoSuchFile"
-variant_name (CargoMetadata stderr) = codes "CargoMetadata"
-variant_name (Io line) = codes "Io"
-variant_name (Json field) = codes "Json"
-variant_name NoJson = codes "NoJson"
-variant_name (NotAbsolute text) = codes "NotAbsolute"
-variant_name (NoParent text) = codes "NoParent"
-variant_name (UnknownPackage id) = codes "UnknownPackage"
-variant_name (TooMany limit) = codes "TooMany"
-variant_name OutOfMemory = codes "OutOfMemory"
+abbrev pub load_error_name : LoadError → List ℕ
+load_error_name (NoSuchFile path) = codes "NoSuchFile"
+load_error_name (CargoMetadata stderr) = codes "CargoMetadata"
+load_error_name (Io line) = codes "Io"
+load_error_name (Json field) = codes "Json"
+load_error_name NoJson = codes "NoJson"
+load_error_name (NotAbsolute text) = codes "NotAbsolute"
+load_error_name (NoParent text) = codes "NoParent"
+load_error_name (UnknownPackage id) = codes "UnknownPackage"
+load_error_name (TooMany limit) = codes "TooMany"
+load_error_name OutOfMemory = codes "OutOfMemory"

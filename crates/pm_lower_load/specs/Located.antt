@@ -9,7 +9,7 @@ use Rattle.base_text_outside.specs.declared.command.CommandLine.{CommandLine}
 use Rattle.base_text.specs.declared.tool.Tool.TheVariants.{Cargo}
 use Rattle.pm_lower_load.specs.Loading.{Loading, of_reading}
 use Rattle.pm_lower_load.specs.declared.located.LocatedRoot.{LocatedRoot}
-use Rattle.pm_cargo_reading.specs.Packages.{manifest_path}
+use Rattle.pm_cargo_reading.specs.Packages.{absolute_manifest}
 use Rattle.base_text_paths.specs.ManifestPath.{directory_of}
 use Rattle.pm_tools_ask.specs.Answers.{serving_answer}
 use Rattle.pm_tools_ask.specs.Ask.{Means}
@@ -48,7 +48,7 @@ located_root sysroot manifest means = option_and_then root_named (serving_answer
 -- the manifest in place of the one that a load begins with: the root that was located, which must be absolute and lie in a directory
 abbrev pub manifest_or_located : List ℕ → Option (List ℕ) → Loading (List ℕ)
 manifest_or_located manifest None = Ok manifest
-manifest_or_located manifest (Some root) = of_reading (manifest_path root)
+manifest_or_located manifest (Some root) = of_reading (absolute_manifest root)
 
 -- the manifest that all later questions are asked by
 abbrev pub located_manifest : Toolchain → List ℕ → Means → Loading (List ℕ)

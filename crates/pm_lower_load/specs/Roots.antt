@@ -16,8 +16,8 @@ use Rattle.pm_lower_load.specs.declared.package_root.PackageRoot.{PackageRoot}
 -- ---- directories
 
 -- the directory of a name below a directory
-abbrev pub below : List ℕ → List ℕ → List ℕ
-below dir name = path_text (components_with_tail dir name)
+abbrev pub directory_below : List ℕ → List ℕ → List ℕ
+directory_below dir name = path_text (components_with_tail dir name)
 
 -- whether a path is outside of a directory
 abbrev pub is_outside : List ℕ → List ℕ → Bool
@@ -62,13 +62,13 @@ excluded_names p =
 -- ---- roots
 
 -- the root of a package, by the directory that its build wrote into and the extra directories
-abbrev pub root_of : Workspace → Option (List ℕ) → List (List ℕ) → PackageData → PackageRoot
-root_of w out_dir extra p = record {
+abbrev pub package_root : Workspace → Option (List ℕ) → List (List ℕ) → PackageData → PackageRoot
+package_root w out_dir extra p = record {
   is_local = p.is_local;
   include = ascending_paths (read_directories w out_dir extra p);
-  exclude = map (below (directory_of p.manifest)) (excluded_names p);
+  exclude = map (directory_below (directory_of p.manifest)) (excluded_names p);
 }
 
 -- the roots of the packages in their order; what a package's build wrote into is known by the package's number
 abbrev pub roots_of : Workspace → (ℕ → Option (List ℕ)) → List (List ℕ) → List PackageRoot
-roots_of w out_dir extra = map (λ p. root_of w (out_dir p.0) extra p.1) (enumerate_from 0 w.packages)
+roots_of w out_dir extra = map (λ p. package_root w (out_dir p.0) extra p.1) (enumerate_from 0 w.packages)

@@ -11,7 +11,7 @@ use Rattle.pm_lower_load.specs.declared.tool_answers.PlatformAsked.TheVariants.{
 use Rattle.pm_lower_load.specs.declared.tool_answers.ToolAnswers.{ToolAnswers}
 use Rattle.pm_tools_ask.specs.Ask.{Means}
 use Rattle.pm_tools_ask.specs.Toolchain.{Toolchain}
-use Rattle.pm_tools_ask.specs.ConfigQuestion.{config_of}
+use Rattle.pm_tools_ask.specs.ConfigQuestion.{printed_config}
 use Rattle.pm_tools_info.specs.Queries.{cfg_answer, data_answer, target_answer, version_answer}
 use Rattle.pm_tools_info.specs.declared.query_config.QueryConfig.{QueryConfig}
 use Rattle.pm_tools_info.specs.declared.query_config.QueryConfig.TheVariants.{Cargo}
@@ -74,4 +74,4 @@ answers_with sysroot manifest platform config means file =
 -- what the tools say of the project of a manifest
 unfoldable pub tool_answers : Toolchain → List ℕ → PlatformAsked → CargoConfig → Means → ToolAnswers
 tool_answers sysroot manifest platform config means =
-    answers_with sysroot manifest platform config means (config_of manifest sysroot config.config_path means)
+    answers_with sysroot manifest platform config means (printed_config manifest sysroot config.config_path means)

@@ -2,7 +2,7 @@
 
 ghost use Rattle.std.specs.Prelude.{◌≡◌, IfOk};
 ghost use Rattle.std.specs.Option.{option_copied};
-ghost use Rattle.pm_lower_load.specs.DetachedRoots.{root_of, roots_of};
+ghost use Rattle.pm_lower_load.specs.DetachedRoots.{detached_root, detached_roots};
 
 use crate::out_dirs::OutDirs;
 use crate::package_root::PackageRoot;
@@ -13,7 +13,7 @@ use std::alloc::{AllocError, Global};
 
 // The root of the file itself.
 fn root_of(alloc: Global, file: &ManifestPath) -> Result<PackageRoot, AllocError>
-    ensures { IfOk result (λ root. root ≡ root_of file.now) }
+    ensures { IfOk result (λ root. root ≡ detached_root file.now) }
 {
     let mut include = Vec::with_capacity(alloc, 1)?;
     include.push(file.as_path().to_path_buf(alloc)?)?;
@@ -33,7 +33,7 @@ pub fn detached_roots<O: OutDirs>(
     out_dirs: &O,
     extra_includes: &[AbsPathBuf],
 ) -> Result<Items<PackageRoot>, AllocError>
-    ensures { IfOk result (λ roots. roots ≡ roots_of file.now (option_copied cargo.entry)
+    ensures { IfOk result (λ roots. roots ≡ detached_roots file.now (option_copied cargo.entry)
         (O.out_dir_at out_dirs.now) extra_includes.now) }
 {
     let mut roots = Vec::new(alloc);

@@ -3,7 +3,7 @@
 ghost use Rattle.std.specs.Prelude.{◌≡◌, ◌∷◌, [], ◌++◌, IfOk, OnOk, map};
 ghost use Rattle.base_text_paths.specs.AbsPath.{abs_text};
 ghost use Rattle.base_text_paths.specs.ManifestPath.{directory_of};
-ghost use Rattle.pm_lower_load.specs.Roots.{below, excluded_names};
+ghost use Rattle.pm_lower_load.specs.Roots.{directory_below, excluded_names};
 
 use base_text::{AbsPath, AbsPathBuf, Items};
 use pm_cargo_packages::PackageData;
@@ -17,7 +17,7 @@ fn push_below(
     name: &str,
 ) -> Result<(), AllocError>
     ensures { OnOk result (found.new.items
-        ≡ found.old.items ++ below (abs_text dir.entry) name.now ∷ []) }
+        ≡ found.old.items ++ directory_below (abs_text dir.entry) name.now ∷ []) }
 {
     found.push(dir.join(alloc, name)?)?;
     Ok(())
@@ -29,7 +29,7 @@ pub(crate) fn excluded_directories(
     package: &PackageData,
 ) -> Result<Items<AbsPathBuf>, AllocError>
     ensures { IfOk result (λ found. found
-        ≡ map (below (directory_of «package».now.manifest)) (excluded_names «package».now)) }
+        ≡ map (directory_below (directory_of «package».now.manifest)) (excluded_names «package».now)) }
 {
     let dir = package.manifest.parent();
     let mut found = Vec::new(alloc);

@@ -1,7 +1,7 @@
 //! The roots of a JSON project, of equal ones the first alone.
 
 ghost use Rattle.std.specs.Prelude.{◌≡◌, ◌++◌, IfOk};
-ghost use Rattle.pm_lower_load.specs.JsonRoots.{root_of, roots_of};
+ghost use Rattle.pm_lower_load.specs.JsonRoots.{json_crate_root, json_roots};
 
 use crate::package_root::PackageRoot;
 use base_text::{AbsPathBuf, Items, TryClone};
@@ -30,7 +30,7 @@ pub fn root_of_crate(
     krate: &Crate,
     extra_includes: &[AbsPathBuf],
 ) -> Result<PackageRoot, AllocError>
-    ensures { IfOk result (λ root. root ≡ root_of extra_includes.now krate.now) }
+    ensures { IfOk result (λ root. root ≡ json_crate_root extra_includes.now krate.now) }
 {
     Ok(PackageRoot {
         is_local: krate.is_workspace_member,
@@ -45,7 +45,7 @@ pub fn json_roots(
     project: &ProjectJson,
     extra_includes: &[AbsPathBuf],
 ) -> Result<Items<PackageRoot>, AllocError>
-    ensures { IfOk result (λ roots. roots ≡ roots_of project.now extra_includes.now) }
+    ensures { IfOk result (λ roots. roots ≡ json_roots project.now extra_includes.now) }
 {
     let mut roots = IndexSet::new(alloc);
     for krate in project.crates.as_slice() {

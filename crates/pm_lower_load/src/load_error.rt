@@ -144,9 +144,9 @@ impl TryClone for LoadError {
 /// The variant's name.
 impl fmt::Display for LoadError {
     ghost use Rattle.std.specs.Prelude.{Some};
-    ghost use Rattle.pm_lower_load.specs.Loading.{variant_name};
+    ghost use Rattle.pm_lower_load.specs.Loading.{load_error_name};
 
-    ghost output = { λ error. Some (variant_name error) };
+    ghost output = { λ error. Some (load_error_name error) };
 
     fn fmt<W: fmt::Write>(&self, f: &mut fmt::Formatter<W>) -> fmt::Result {
         f.write_str(match self {

@@ -4,7 +4,7 @@ ghost use Rattle.std.specs.Prelude.{◌≡◌, IfOk};
 ghost use Rattle.pm_lower_load.specs.Loading.{Gives, of_reading};
 ghost use Rattle.pm_lower_load.specs.Located as spec;
 ghost use Rattle.pm_lower_load.specs.Located.{locate_words, located_root_at, root_named};
-ghost use Rattle.pm_cargo_reading.specs.Packages.{manifest_path};
+ghost use Rattle.pm_cargo_reading.specs.Packages.{absolute_manifest};
 ghost use Rattle.pm_tools_ask.specs.Ask.{means_of};
 
 use crate::load_error::LoadError;
@@ -80,7 +80,7 @@ fn located_root<R: Runner, T: Tree>(
 
 // The manifest of a root that was located.
 fn manifest_of(alloc: Global, root: &str) -> Result<ManifestPath, LoadError>
-    ensures { Gives result (of_reading (manifest_path root.now)) }
+    ensures { Gives result (of_reading (absolute_manifest root.now)) }
 {
     let path = absolute_path(alloc, root)?;
     match ManifestPath::new(path) {

@@ -2,7 +2,7 @@
 
 ghost use Rattle.std.specs.Prelude.{◌≡◌, IfOk, IsErrOf, codes, option_copied};
 ghost use Rattle.std.specs.Option.{option_map};
-ghost use Rattle.cargo_meta_values.specs.Errors.{error_text};
+ghost use Rattle.cargo_meta_values.specs.Errors.{metadata_error_text};
 ghost use Rattle.pm_cargo_fetch.specs.Lines.{TakesLines};
 ghost use Rattle.pm_lower_load.specs.Loading.{Gives, of_fetch};
 ghost use Rattle.pm_lower_load.specs.Metadata as spec;
@@ -112,7 +112,7 @@ fn environment<R: Runner, T: Tree>(
 
 /// The printed error, if there is one.
 pub fn error_text(alloc: Global, error: Option<MetadataError>) -> Result<Option<Text>, AllocError>
-    ensures { IfOk result (λ text. text ≡ option_map error_text error) }
+    ensures { IfOk result (λ text. text ≡ option_map metadata_error_text error) }
 {
     match error {
         Some(error) => Ok(Some(Text::new(error.to_string(alloc)?))),
@@ -130,7 +130,7 @@ pub fn beside_metadata<R: Runner, T: Tree>(
 ) -> Result<(Env, Option<Text>), AllocError>
     ensures env { IfOk result (λ made. made.0 ≡ spec.environment (option_copied file.entry)
         config.now (means_of R.answers T.files ask.now)) }
-    ensures error { IfOk result (λ made. made.1 ≡ option_map error_text error) }
+    ensures error { IfOk result (λ made. made.1 ≡ option_map metadata_error_text error) }
 {
     let error = error_text(alloc, error)?;
     Ok((environment(alloc, file, config, ask)?, error))

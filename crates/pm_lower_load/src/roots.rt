@@ -3,7 +3,7 @@
 ghost use Rattle.std.specs.Prelude.{◌≡◌, IfOk};
 ghost use Rattle.std.specs.Option.{option_map};
 ghost use Rattle.base_text_paths.specs.AbsPath.{abs_text};
-ghost use Rattle.pm_lower_load.specs.Roots.{root_of, roots_of};
+ghost use Rattle.pm_lower_load.specs.Roots.{package_root, roots_of};
 
 use crate::exclude::excluded_directories;
 use crate::include::{ascending_paths, read_directories};
@@ -23,7 +23,7 @@ pub fn root_of_package(
     out_dir: Option<AbsPath<'_>>,
     extra_includes: &[AbsPathBuf],
 ) -> Result<PackageRoot, AllocError>
-    ensures { IfOk result (λ root. root ≡ root_of workspace.now
+    ensures { IfOk result (λ root. root ≡ package_root workspace.now
         (option_map abs_text out_dir.entry) extra_includes.now «package».now) }
 {
     let include = read_directories(alloc, workspace, package, out_dir, extra_includes)?;

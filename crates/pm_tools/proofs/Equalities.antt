@@ -16,7 +16,7 @@ use Rattle.base_text_outside.specs.declared.cfg.CfgAtom.{CfgAtom}
 use Rattle.base_text_paths.proofs.Equalities.{paths}
 use Rattle.crate_graph_values.specs.Laws.{IsContentEqualityOn}
 use Rattle.crate_graph_values.proofs.ContentsOn.{lists_on, options, options_on}
-use Rattle.pm_tools.specs.Laws.{HasCleanLibrary, HasCleanPaths, HaveCleanPaths}
+use Rattle.pm_tools.specs.Laws.{HasCleanLibrary, HasCleanOutput, HasCleanBuild}
 use Rattle.pm_tools.specs.Outputs.{BuildScripts, Outputs}
 use Rattle.pm_tools.specs.declared.output.BuildScriptOutput.{BuildScriptOutput}
 use Rattle.pm_tools.specs.declared.output.ProcMacroDylibPath.{ProcMacroDylibPath}
@@ -58,7 +58,7 @@ module _ (atom_eq : CfgAtom → CfgAtom → Bool) (env_eq : Variables → Variab
   output_eq x y = pointwise atom_eq x.cfgs y.cfgs && (env_eq x.envs y.envs && (option_eq path_eq x.out_dir y.out_dir && library_eq x.proc_macro_dylib_path y.proc_macro_dylib_path))
 
   module _ (atoms : IsContentEquality atom_eq) (environments : IsContentEquality env_eq) (known : IsContentEqualityOn HasCleanLibrary library_eq) where
-    pub outputs_are_equal : (x y : BuildScriptOutput) → HasCleanPaths x → HasCleanPaths y → (output_eq x y ≡ true) ↔ (x ≡ y)
+    pub outputs_are_equal : (x y : BuildScriptOutput) → HasCleanOutput x → HasCleanOutput y → (output_eq x y ≡ true) ↔ (x ≡ y)
     outputs_are_equal x y p q =
         let all =
         Decides-and _ _ (lists atom_eq atoms x.cfgs y.cfgs)
@@ -86,13 +86,13 @@ module _ {V : Type 0} (P : V → Type 0) (eq : V → V → Bool) (content : IsCo
 always : (true ≡ true) ↔ Unit {0}
 always = (λ e. tt, λ u. refl)
 
-module _ (output_eq : BuildScriptOutput → BuildScriptOutput → Bool) (known : IsContentEqualityOn HasCleanPaths output_eq) where
+module _ (output_eq : BuildScriptOutput → BuildScriptOutput → Bool) (known : IsContentEqualityOn HasCleanOutput output_eq) where
   abbrev scripts_eq : BuildScripts → BuildScripts → Bool
   scripts_eq x y = (same_map output_eq x.outputs y.outputs && true) && option_eq (pointwise nat_eq) x.error y.error
 
-  pub scripts_are_equal : (x y : BuildScripts) → HaveCleanPaths x → HaveCleanPaths y → (scripts_eq x y ≡ true) ↔ (x ≡ y)
+  pub scripts_are_equal : (x y : BuildScripts) → HasCleanBuild x → HasCleanBuild y → (scripts_eq x y ≡ true) ↔ (x ≡ y)
   scripts_are_equal x y p q =
-      let maps = maps_on HasCleanPaths output_eq known x.outputs y.outputs p q in
+      let maps = maps_on HasCleanOutput output_eq known x.outputs y.outputs p q in
       let all = Decides-and _ _ (Decides-and _ true maps always) (options (pointwise nat_eq) texts x.error y.error) in (
         λ e. let r = all.0 e in λ i. record { outputs = r.0.0 i; error = r.1 i },
         λ e. all.1 ((ap (λ s. s.outputs) e, tt), ap (λ s. s.error) e),

@@ -10,7 +10,7 @@ use Rattle.std.specs.Prelude.{bytes_eq, codes}
 use Rattle.base_text_paths.specs.FileName.{extension_of}
 use Rattle.base_text_paths.specs.Paths.{components, file_name, is_absolute, is_component, last_component, path_text}
 use Rattle.base_text_paths.proofs.Parents.{file_name-last, file_name-up}
-use Rattle.pm_tools.specs.Artifact.{absolute_path}
+use Rattle.pm_tools.specs.Artifact.{absolute_output_path}
 use Rattle.pm_tools.specs.Library.{extension_in}
 use Rattle.pm_tools.specs.declared.build_error.BuildError.TheVariants.{NotAbsolute}
 
@@ -48,11 +48,11 @@ extension-last text name is other = ap (option_and_then extension_of) (file_name
 -- ---- absolute paths
 
 -- an absolute text gives its clean path
-pub absolute_is : (text path : List ℕ) → is_absolute text ≡ true → path ≡ path_text (components text) → absolute_path text ≡ Ok path
-unfolding absolute_path
+pub absolute_is : (text path : List ℕ) → is_absolute text ≡ true → path ≡ path_text (components text) → absolute_output_path text ≡ Ok path
+unfolding absolute_output_path
 absolute_is text path absolute is = cond-true _ _ _ absolute ∙ ap Ok (sym is)
 
 -- any other is refused with the text
-pub relative_is : (text copy : List ℕ) → is_absolute text ≡ false → copy ≡ text → absolute_path text ≡ Err (NotAbsolute copy)
-unfolding absolute_path
+pub relative_is : (text copy : List ℕ) → is_absolute text ≡ false → copy ≡ text → absolute_output_path text ≡ Err (NotAbsolute copy)
+unfolding absolute_output_path
 relative_is text copy relative is = cond-false _ _ _ relative ∙ ap (λ t. Err (NotAbsolute t)) (sym is)

@@ -11,7 +11,7 @@ use Rattle.pm_cargo_fetch.proofs.Lines.{TakesLines-after, TakesLines-same, Takes
 use Rattle.pm_cargo_packages.specs.declared.package.PackageData.{PackageData}
 use Rattle.std.specs.Str.Lines.{lines}
 use Rattle.pm_tools.specs.Lines.{artifact_lines, gains_library, library_line, lines_among, lines_from, message_lines, name_at}
-use Rattle.pm_tools.specs.Outputs.{BuildState, Outputs, start_state, take_line}
+use Rattle.pm_tools.specs.Outputs.{BuildState, Outputs, start_state, take_output_line}
 use Rattle.pm_tools.specs.Reading.{Reading, Refuses, ◌>>=◌, take_each}
 use Rattle.pm_tools.specs.declared.build_error.BuildError.{BuildError}
 use Rattle.pm_tools.specs.declared.build_error.BuildError.TheVariants.{Io, NotAbsolute, OutOfMemory}
@@ -49,26 +49,26 @@ module _ (packages : List PackageData) where
   refused_lines e (x ∷ rest) = refl
 
   -- the lines of what is read first, and then of what follows
-  lines_from-append : (first s : BuildState) (xs ys : List (List ℕ)) → take_each (take_line packages) first xs ≡ Ok s
+  lines_from-append : (first s : BuildState) (xs ys : List (List ℕ)) → take_each (take_output_line packages) first xs ≡ Ok s
       → lines_from packages (Ok first) (xs ++ ys) ≡ lines_from packages (Ok first) xs ++ lines_from packages (Ok s) ys
   unfolding lines_from take_each
   lines_from-append first s [] ys is = ap (λ (r : Reading BuildState). lines_from packages r ys) is
-  lines_from-append first s (x ∷ xs) ys is = by (message_lines packages first.outputs (message_of x)) (take_line packages first x) is (λ next. lines_from-append next s xs ys)
+  lines_from-append first s (x ∷ xs) ys is = by (message_lines packages first.outputs (message_of x)) (take_output_line packages first x) is (λ next. lines_from-append next s xs ys)
     where
-      by : (here : List (List ℕ)) (r : Reading BuildState) → (r >>= λ next. take_each (take_line packages) next xs) ≡ Ok s
-          → ((next : BuildState) → take_each (take_line packages) next xs ≡ Ok s → lines_from packages (Ok next) (xs ++ ys) ≡ lines_from packages (Ok next) xs ++ lines_from packages (Ok s) ys)
+      by : (here : List (List ℕ)) (r : Reading BuildState) → (r >>= λ next. take_each (take_output_line packages) next xs) ≡ Ok s
+          → ((next : BuildState) → take_each (take_output_line packages) next xs ≡ Ok s → lines_from packages (Ok next) (xs ++ ys) ≡ lines_from packages (Ok next) xs ++ lines_from packages (Ok s) ys)
           → here ++ lines_from packages r (xs ++ ys) ≡ (here ++ lines_from packages r xs) ++ lines_from packages (Ok s) ys
       by here (Ok next) e rest = ap (λ (l : List (List ℕ)). here ++ l) (rest next e) ∙ sym (append_assoc here (lines_from packages (Ok next) xs) (lines_from packages (Ok s) ys))
       by here (Err e) h rest = cc
 
   -- the lines of one message more
-  lines_from-more : (first s : BuildState) (xs : List (List ℕ)) (x : List ℕ) → take_each (take_line packages) first xs ≡ Ok s
+  lines_from-more : (first s : BuildState) (xs : List (List ℕ)) (x : List ℕ) → take_each (take_output_line packages) first xs ≡ Ok s
       → lines_from packages (Ok first) (xs ++ x ∷ []) ≡ lines_from packages (Ok first) xs ++ message_lines packages s.outputs (message_of x)
   unfolding lines_from
   lines_from-more first s xs x is =
       let here : List (List ℕ) = message_lines packages s.outputs (message_of x) in
       lines_from-append first s xs (x ∷ []) is
-      ∙ ap (λ (l : List (List ℕ)). lines_from packages (Ok first) xs ++ (here ++ l)) (none_left (take_line packages s x))
+      ∙ ap (λ (l : List (List ℕ)). lines_from packages (Ok first) xs ++ (here ++ l)) (none_left (take_output_line packages s x))
       ∙ ap (λ (l : List (List ℕ)). lines_from packages (Ok first) xs ++ l) (append-nil here)
 
   -- no message has been read
@@ -76,7 +76,7 @@ module _ (packages : List PackageData) where
   lines_begun first old = sym (with_lines-none old) ∙ ap (λ (ls : List (List ℕ)). with_lines ls old) (sym (none_left (Ok first)))
 
   -- the lines of one message more came
-  pub lines_came : (first s : BuildState) (xs : List (List ℕ)) (x : List ℕ) (m : Message) (old between new : Option (List (List ℕ))) → take_each (take_line packages) first xs ≡ Ok s
+  pub lines_came : (first s : BuildState) (xs : List (List ℕ)) (x : List ℕ) (m : Message) (old between new : Option (List (List ℕ))) → take_each (take_output_line packages) first xs ≡ Ok s
       → m ≡ message_of x → between ≡ with_lines (lines_from packages (Ok first) xs) old → new ≡ with_lines (message_lines packages s.outputs m) between
       → new ≡ with_lines (lines_from packages (Ok first) (xs ++ x ∷ [])) old
   lines_came first s xs x m old between new is reads so_far here =
@@ -87,7 +87,7 @@ module _ (packages : List PackageData) where
       ∙ ap (λ (ls : List (List ℕ)). with_lines ls old) (sym (lines_from-more first s xs x is))
 
   -- the next line was not made a message: the call gave up
-  pub lines_cut : {gave_up : Type 0} (first s : BuildState) (all xs rest : List (List ℕ)) (old new : Option (List (List ℕ))) → take_each (take_line packages) first xs ≡ Ok s → xs ++ rest ≡ all
+  pub lines_cut : {gave_up : Type 0} (first s : BuildState) (all xs rest : List (List ℕ)) (old new : Option (List (List ℕ))) → take_each (take_output_line packages) first xs ≡ Ok s → xs ++ rest ≡ all
       → new ≡ with_lines (lines_from packages (Ok first) xs) old → gave_up → TakesLines gave_up old new (lines_from packages (Ok first) all)
   lines_cut first s all xs rest old new is split so_far stopped =
       let before : List (List ℕ) = lines_from packages (Ok first) xs in
@@ -97,18 +97,18 @@ module _ (packages : List PackageData) where
 
   -- a message was refused, or the call gave up while it took it
   pub lines_stopped : {T : Type 0} (e : BuildError) (first s : BuildState) (all xs rest : List (List ℕ)) (x : List ℕ) (m : Message) (old between new : Option (List (List ℕ)))
-      → take_each (take_line packages) first xs ≡ Ok s → m ≡ message_of x → xs ++ x ∷ rest ≡ all → between ≡ with_lines (lines_from packages (Ok first) xs) old
-      → Refuses e (take_line packages s x) → TakesLines (IsErrOf {T = T} (Err e) OutOfMemory) between new (message_lines packages s.outputs m)
+      → take_each (take_output_line packages) first xs ≡ Ok s → m ≡ message_of x → xs ++ x ∷ rest ≡ all → between ≡ with_lines (lines_from packages (Ok first) xs) old
+      → Refuses e (take_output_line packages s x) → TakesLines (IsErrOf {T = T} (Err e) OutOfMemory) between new (message_lines packages s.outputs m)
       → TakesLines (IsErrOf {T = T} (Err e) OutOfMemory) old new (lines_from packages (Ok first) all)
   unfolding lines_from
   lines_stopped {T} e first s all xs rest x m old between new is reads split so_far refused taken =
       let here : List (List ℕ) = message_lines packages s.outputs (message_of x) in
-      let behind : List (List ℕ) = lines_from packages (take_line packages s x) rest in
+      let behind : List (List ℕ) = lines_from packages (take_output_line packages s x) rest in
       let now : TakesLines (IsErrOf {T = T} (Err e) OutOfMemory) between new here = TakesLines-same taken (ap (λ (n : Message). message_lines packages s.outputs n) reads) in
       let next : TakesLines (IsErrOf {T = T} (Err e) OutOfMemory) between new (here ++ behind) = record {
         all = λ no. now.all no ∙ ap (λ (ls : List (List ℕ)). with_lines ls between)
             (sym (append-nil here) ∙ ap (λ (l : List (List ℕ)). here ++ l)
-            (sym (ap (λ (r : Reading BuildState). lines_from packages r rest) (refused_is {T = T} e (take_line packages s x) no refused) ∙ refused_lines e rest)));
+            (sym (ap (λ (r : Reading BuildState). lines_from packages r rest) (refused_is {T = T} e (take_output_line packages s x) no refused) ∙ refused_lines e rest)));
         front = TakesFront-more between new here behind now.front;
       } in
       TakesLines-same (TakesLines-after (lines_from packages (Ok first) xs) so_far next)

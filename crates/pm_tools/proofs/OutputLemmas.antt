@@ -4,7 +4,7 @@ use Rattle.std.specs.FinMap.{get, insert}
 use Rattle.std.specs.Str.Lines.{lines}
 use Rattle.base_text_outside.specs.declared.command.Output.{Output}
 use Rattle.pm_cargo_packages.specs.declared.package.PackageData.{PackageData}
-use Rattle.pm_tools.specs.Outputs.{BuildScripts, BuildState, Outputs, change_output, changed_at, error_of, outputs_after, outputs_among, scripts_of, start_state, take_line, with_line}
+use Rattle.pm_tools.specs.Outputs.{BuildScripts, BuildState, Outputs, change_output, changed_at, error_of, outputs_after, outputs_among, scripts_of, start_state, take_output_line, with_line}
 use Rattle.pm_tools.specs.Reading.{Leaves, Reading, Refuses, ◌>>=◌, take_each}
 use Rattle.pm_tools.specs.declared.build_error.BuildError.{BuildError}
 use Rattle.pm_tools.specs.declared.output.BuildScriptOutput.{BuildScriptOutput}
@@ -41,21 +41,21 @@ leaves_same (Err e) new part whole same h = refuses_same e part whole same h
 
 -- the same lines are read from the start
 same_lines : (packages : List PackageData) (s : BuildState) (out text : List ℕ) → s ≡ start_state packages → text ≡ out
-    → take_each (take_line packages) s (lines text) ≡ take_each (take_line packages) (start_state packages) (lines out)
-same_lines packages s out text start is = (λ i. take_each (take_line packages) (start i) (lines (is i)))
+    → take_each (take_output_line packages) s (lines text) ≡ take_each (take_output_line packages) (start_state packages) (lines out)
+same_lines packages s out text start is = (λ i. take_each (take_output_line packages) (start i) (lines (is i)))
 
 -- what refuses the lines refuses the output
 pub output_refused : (e : BuildError) (packages : List PackageData) (s : BuildState) (output : Output) (text : List ℕ) → s ≡ start_state packages → text ≡ output.out
-    → Refuses e (take_each (take_line packages) s (lines text)) → Refuses e (outputs_among packages output)
+    → Refuses e (take_each (take_output_line packages) s (lines text)) → Refuses e (outputs_among packages output)
 unfolding outputs_among
 output_refused e packages s output text start is h =
     let lines_are = same_lines packages s output.out text start is in
-    let read = take_each (take_line packages) (start_state packages) (lines output.out) in
-    refuses_bind e read (λ t. Ok (scripts_of output t)) (refuses_same e (take_each (take_line packages) s (lines text)) read lines_are h)
+    let read = take_each (take_output_line packages) (start_state packages) (lines output.out) in
+    refuses_bind e read (λ t. Ok (scripts_of output t)) (refuses_same e (take_each (take_output_line packages) s (lines text)) read lines_are h)
 
 -- what is known behind the lines of both streams is what the output gives
 pub output_is : (packages : List PackageData) (s t p : BuildState) (output : Output) (text err : List ℕ) (outputs : Outputs) (error : Option (List ℕ)) → s ≡ start_state packages → text ≡ output.out
-    → take_each (take_line packages) s (lines text) ≡ Ok t → p ≡ record t { errors = fold with_line t.errors (lines err) } → err ≡ output.err
+    → take_each (take_output_line packages) s (lines text) ≡ Ok t → p ≡ record t { errors = fold with_line t.errors (lines err) } → err ≡ output.err
     → ◌≡◌ {A = Outputs × Option (List ℕ)} (outputs, error) (p.outputs, error_of output.ok p.errors) → outputs_among packages output ≡ Ok (the_scripts outputs error)
 unfolding outputs_among
 output_is packages s t p output text err outputs error start is read pushed err_is given =

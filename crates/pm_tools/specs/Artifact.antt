@@ -13,8 +13,8 @@ use Rattle.pm_tools.specs.declared.output.ProcMacroDylibPath.{ProcMacroDylibPath
 use Rattle.pm_tools.specs.declared.output.ProcMacroDylibPath.TheVariants.{Path, DylibNotFound, NotProcMacro, NotBuilt}
 
 -- the path of a text, which must be absolute; it is kept clean
-unfoldable pub absolute_path : List ℕ → Reading (List ℕ)
-absolute_path text = if is_absolute text then Ok (path_text (components text)) else Err (NotAbsolute text)
+unfoldable pub absolute_output_path : List ℕ → Reading (List ℕ)
+absolute_output_path text = if is_absolute text then Ok (path_text (components text)) else Err (NotAbsolute text)
 
 -- whether a kind is that of a procedural macro
 abbrev pub is_macro_kind : TargetKind → Bool
@@ -40,13 +40,13 @@ after_build NotProcMacro = NotProcMacro
 after_build NotBuilt = NotProcMacro
 
 -- the library at a path, which must be absolute, if a file was found
-abbrev pub library_at : Option (List ℕ) → Reading ProcMacroDylibPath
-library_at None = Ok DylibNotFound
-library_at (Some file) = absolute_path file >>= λ path. Ok (Path path)
+abbrev pub dylib_at : Option (List ℕ) → Reading ProcMacroDylibPath
+dylib_at None = Ok DylibNotFound
+dylib_at (Some file) = absolute_output_path file >>= λ path. Ok (Path path)
 
 -- the library of a macro: the first of its files that is one
 abbrev pub library_among : List (List ℕ) → Reading ProcMacroDylibPath
-library_among files = library_at (find is_library files)
+library_among files = dylib_at (find is_library files)
 
 -- the artifact gives a library: it is that of a macro, and no path is known yet
 abbrev pub gives_library : Artifact → ProcMacroDylibPath → Bool

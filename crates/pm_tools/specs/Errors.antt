@@ -4,7 +4,7 @@ use Rattle.pm_tools.specs.declared.build_error.BuildError.{BuildError}
 use Rattle.pm_tools.specs.declared.build_error.BuildError.TheVariants.{Io, NotAbsolute, OutOfMemory}
 
 -- the name of an error's variant
-abbrev pub variant_name : BuildError → List ℕ
-variant_name (Io line) = codes "Io"
-variant_name (NotAbsolute text) = codes "NotAbsolute"
-variant_name OutOfMemory = codes "OutOfMemory"
+abbrev pub build_error_name : BuildError → List ℕ
+build_error_name (Io line) = codes "Io"
+build_error_name (NotAbsolute text) = codes "NotAbsolute"
+build_error_name OutOfMemory = codes "OutOfMemory"

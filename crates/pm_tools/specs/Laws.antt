@@ -16,10 +16,10 @@ HasCleanLibrary NotProcMacro = Unit {0}
 HasCleanLibrary NotBuilt = Unit {0}
 
 -- both paths of an output are clean
-pub record HasCleanPaths (output : BuildScriptOutput) : Type 0 where
+pub record HasCleanOutput (output : BuildScriptOutput) : Type 0 where
   pub out_dir : IfSome output.out_dir IsClean
   pub library : HasCleanLibrary output.proc_macro_dylib_path
 
 -- every path that a build gives is clean
-abbrev pub HaveCleanPaths : BuildScripts → Type 0
-HaveCleanPaths scripts = All (λ entry. HasCleanPaths entry.1) (entries scripts.outputs)
+abbrev pub HasCleanBuild : BuildScripts → Type 0
+HasCleanBuild scripts = All (λ entry. HasCleanOutput entry.1) (entries scripts.outputs)

@@ -20,7 +20,7 @@ use Rattle.pm_tools_ask.specs.Ask.{Means}
 use Rattle.pm_tools_ask.specs.Toolchain.{Toolchain}
 use Rattle.pm_tools.specs.Question.{build_question}
 use Rattle.pm_tools.specs.Artifact.{gives_library}
-use Rattle.pm_tools.specs.Outputs.{BuildState, Outputs, start_state, take_line}
+use Rattle.pm_tools.specs.Outputs.{BuildState, Outputs, start_state, take_output_line}
 use Rattle.pm_tools.specs.Packages.{packages_of_all}
 use Rattle.pm_tools.specs.Reading.{Reading}
 
@@ -70,7 +70,7 @@ message_lines packages outputs (message.TextLine line) = []
 unfoldable pub lines_from : List PackageData → Reading BuildState → List (List ℕ) → List (List ℕ)
 lines_from packages (Err e) output = []
 lines_from packages (Ok s) [] = []
-lines_from packages (Ok s) (line ∷ output) = message_lines packages s.outputs (message_of line) ++ lines_from packages (take_line packages s line) output
+lines_from packages (Ok s) (line ∷ output) = message_lines packages s.outputs (message_of line) ++ lines_from packages (take_output_line packages s line) output
 
 -- the lines that reading the output of a build among some packages gives
 abbrev pub lines_among : List PackageData → Output → List (List ℕ)

@@ -19,7 +19,7 @@ use Rattle.pm_cargo_reading.specs.Nodes.{place_of_package}
 use Rattle.pm_tools.specs.Artifact.{output_after_artifact}
 use Rattle.pm_tools.specs.Output.{default_output}
 use Rattle.pm_tools.specs.Reading.{Reading, ◌>>=◌, take_each}
-use Rattle.pm_tools.specs.Script.{atoms_of, invalid_cfg_line, output_after_script}
+use Rattle.pm_tools.specs.Script.{named_atoms, invalid_cfg_line, output_after_script}
 use Rattle.pm_tools.specs.contracts.output.BuildScriptOutput as stored
 use Rattle.pm_tools.specs.declared.output.BuildScriptOutput.{BuildScriptOutput}
 
@@ -90,7 +90,7 @@ take_atoms s script place (Ok atoms) = change_output s (output_after_script scri
 -- a script of the package at a place; that of an unknown package is skipped
 abbrev pub take_script : BuildState → BuildScript → Option ℕ → Reading BuildState
 take_script s script None = Ok s
-take_script s script (Some place) = take_atoms s script place (atoms_of script.cfgs)
+take_script s script (Some place) = take_atoms s script place (named_atoms script.cfgs)
 
 -- what the compiler said, as it rendered it, if it did
 abbrev pub take_rendered : BuildState → Option (List ℕ) → BuildState
@@ -106,8 +106,8 @@ take_message packages s (message.BuildFinished end) = Ok s
 take_message packages s (message.TextLine line) = Ok s
 
 -- the lines of the standard output, each of which is a message or a text
-abbrev pub take_line : List PackageData → BuildState → List ℕ → Reading BuildState
-take_line packages s line = take_message packages s (message_of line)
+abbrev pub take_output_line : List PackageData → BuildState → List ℕ → Reading BuildState
+take_output_line packages s line = take_message packages s (message_of line)
 
 -- why a build failed: nothing where it did not, else the lines, or a text that stands for none
 abbrev pub error_of : Bool → List ℕ → Option (List ℕ)
@@ -123,7 +123,7 @@ start_state packages = record { outputs = default_outputs (length packages); err
 
 -- what a build gives some packages, by what its command wrote
 unfoldable pub outputs_among : List PackageData → Output → Reading BuildScripts
-outputs_among packages output = take_each (take_line packages) (start_state packages) (lines output.out) >>= λ s. Ok (scripts_of output s)
+outputs_among packages output = take_each (take_output_line packages) (start_state packages) (lines output.out) >>= λ s. Ok (scripts_of output s)
 
 -- what a build of a workspace gives, by what its command wrote
 abbrev pub outputs_of : Workspace → Output → Reading BuildScripts

@@ -5,7 +5,7 @@ use Rattle.base_text_outside.specs.declared.cfg.CfgAtom.{CfgAtom}
 use Rattle.base_values.specs.ByText.{with_value}
 use Rattle.crate_graph_values.specs.Env.{with_pairs}
 use Rattle.cargo_msgs.specs.declared.build.BuildScript.{BuildScript}
-use Rattle.pm_tools.specs.Artifact.{absolute_path}
+use Rattle.pm_tools.specs.Artifact.{absolute_output_path}
 use Rattle.pm_tools.specs.Reading.{Reading, ◌>>=◌}
 use Rattle.pm_tools.specs.declared.output.BuildScriptOutput.{BuildScriptOutput}
 use Rattle.pm_tools.specs.declared.script.AtomsError.{AtomsError}
@@ -18,9 +18,9 @@ with_first text (Some atom) (Ok atoms) = Ok (atom ∷ atoms)
 with_first text (Some atom) (Err invalid) = Err invalid
 
 -- the atoms that some texts name, or the first text that names none
-unfoldable pub atoms_of : List (List ℕ) → Result (List CfgAtom) (List ℕ)
-atoms_of [] = Ok []
-atoms_of (text ∷ texts) = with_first text (atom_of text) (atoms_of texts)
+unfoldable pub named_atoms : List (List ℕ) → Result (List CfgAtom) (List ℕ)
+named_atoms [] = Ok []
+named_atoms (text ∷ texts) = with_first text (atom_of text) (named_atoms texts)
 
 -- a call returns the atom of a text, or the text where it names none, unless it runs out of memory
 abbrev pub GivesAtom : Result CfgAtom AtomsError → List ℕ → Type 0
@@ -52,4 +52,4 @@ unfoldable pub output_after_script : BuildScript → List CfgAtom → BuildScrip
 output_after_script script atoms output =
     let with_envs = record output { envs = with_pairs output.envs script.env } in
     if bytes_eq script.out_dir [] then Ok with_envs
-    else absolute_path script.out_dir >>= λ dir. Ok (output_with_dir atoms with_envs dir)
+    else absolute_output_path script.out_dir >>= λ dir. Ok (output_with_dir atoms with_envs dir)

@@ -43,9 +43,9 @@ selected_words w [] = []
 selected_words w (first ∷ others) = codes "--features" ∷ joined_text (codes ",") (filter (is_feature w) (first ∷ others)) ∷ []
 
 -- the features that are enabled: all of them, or the selected ones beside the default, unless that is left out
-abbrev pub feature_words : Workspace → CargoFeatures → List (List ℕ)
-feature_words w All = codes "--all-features" ∷ []
-feature_words w (Selected features no_default) = flag_word no_default (codes "--no-default-features") ++ selected_words w features
+abbrev pub build_feature_words : Workspace → CargoFeatures → List (List ℕ)
+build_feature_words w All = codes "--all-features" ∷ []
+build_feature_words w (Selected features no_default) = flag_word no_default (codes "--no-default-features") ++ selected_words w features
 
 -- which kinds of targets are built
 abbrev pub coverage_words : Bool → Option Parts → List (List ℕ)
@@ -60,7 +60,7 @@ build_words config w version =
     ++ config.extra_args
     ++ place_words config w
     ++ platform_words version config.target
-    ++ feature_words w config.features
+    ++ build_feature_words w config.features
     ++ flag_word (is_rust_manifest w.manifest_path) (codes "-Zscript")
     ++ (codes "--keep-going" ∷ [])
     ++ coverage_words config.all_targets version

@@ -50,9 +50,9 @@ impl TryClone for BuildError {
 /// The variant's name.
 impl fmt::Display for BuildError {
     ghost use Rattle.std.specs.Prelude.{Some};
-    ghost use Rattle.pm_tools.specs.Errors.{variant_name};
+    ghost use Rattle.pm_tools.specs.Errors.{build_error_name};
 
-    ghost output = { λ error. Some (variant_name error) };
+    ghost output = { λ error. Some (build_error_name error) };
 
     fn fmt<W: fmt::Write>(&self, f: &mut fmt::Formatter<W>) -> fmt::Result {
         f.write_str(match self {

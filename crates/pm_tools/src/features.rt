@@ -3,7 +3,7 @@
 ghost use Rattle.std.specs.Prelude.{◌≡◌, ◌++◌, IfOk, OnOk, codes, filter, string_bytes};
 ghost use Rattle.cargo_meta.specs.Command.{joined_text};
 ghost use Rattle.pm_cargo.specs.Queries.{is_feature};
-ghost use Rattle.pm_tools.specs.Words.{feature_words, selected_words};
+ghost use Rattle.pm_tools.specs.Words.{build_feature_words, selected_words};
 
 use base_text::Text;
 use base_text_outside::command_words::{push_flag, push_word};
@@ -56,7 +56,7 @@ pub(crate) fn push_features(
     workspace: &CargoWorkspace,
 ) -> Result<(), AllocError>
     ensures { OnOk result (words.new.items
-        ≡ words.old.items ++ feature_words workspace.now features.now) }
+        ≡ words.old.items ++ build_feature_words workspace.now features.now) }
 {
     match features {
         CargoFeatures::All => push_word(alloc, words, "--all-features"),

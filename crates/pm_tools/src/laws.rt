@@ -2,7 +2,7 @@
 
 ghost use Rattle.std.specs.Prelude.{◌≡◌};
 ghost use Rattle.crate_graph_values.specs.Laws.{IsContentEqualityOn};
-ghost use Rattle.pm_tools.specs.Laws.{HasCleanLibrary, HasCleanPaths, HaveCleanPaths};
+ghost use Rattle.pm_tools.specs.Laws.{HasCleanLibrary, HasCleanOutput, HasCleanBuild};
 ghost use Rattle.pm_tools.specs.declared.output.ProcMacroDylibPath.{ProcMacroDylibPath};
 ghost use Rattle.pm_tools.specs.declared.output.ProcMacroDylibPath.TheVariants.{NotBuilt};
 
@@ -23,7 +23,7 @@ pub fn equality_of_libraries_is_content()
 
 /// Two outputs are equal exactly where all that they hold is. Each path's text is clean.
 pub fn equality_of_outputs_is_content()
-    ensures { IsContentEqualityOn HasCleanPaths ⟦<BuildScriptOutput as PartialEq>⟧.eq }
+    ensures { IsContentEqualityOn HasCleanOutput ⟦<BuildScriptOutput as PartialEq>⟧.eq }
 {
     equality_of_libraries_is_content();
     base_text_paths::laws::equality_is_content();
@@ -33,7 +33,7 @@ pub fn equality_of_outputs_is_content()
 /// What two builds give is equal exactly where the same packages have the same outputs, and the errors are the
 /// same. Each path's text is clean.
 pub fn equality_of_build_scripts_is_content()
-    ensures { IsContentEqualityOn HaveCleanPaths ⟦<WorkspaceBuildScripts as PartialEq>⟧.eq }
+    ensures { IsContentEqualityOn HasCleanBuild ⟦<WorkspaceBuildScripts as PartialEq>⟧.eq }
 {
     equality_of_outputs_is_content();
 }

@@ -2,7 +2,7 @@
 
 ghost use Rattle.std.specs.Prelude.{◌≡◌, option_copied};
 ghost use Rattle.base_text_paths.specs.Paths.{components, last_component};
-ghost use Rattle.pm_tools.specs.Artifact.{absolute_path};
+ghost use Rattle.pm_tools.specs.Artifact.{absolute_output_path};
 ghost use Rattle.pm_tools.specs.Library.{extension_in, is_library, is_library_extension};
 ghost use Rattle.pm_tools.specs.Reading.{Gives};
 
@@ -13,7 +13,7 @@ use std::alloc::Global;
 
 /// The path of a text, which must be absolute.
 pub(crate) fn absolute_path(alloc: Global, text: &str) -> Result<AbsPathBuf, BuildError>
-    ensures { Gives result (absolute_path text.now) }
+    ensures { Gives result (absolute_output_path text.now) }
 {
     match AbsPathBuf::new(alloc, text) {
         Ok(path) => Ok(path),

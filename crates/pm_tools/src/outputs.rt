@@ -8,7 +8,7 @@ ghost use Rattle.cargo_msgs.specs.declared.diagnostic.Diagnostic.{out-Diagnostic
 ghost use Rattle.pm_cargo_fetch.specs.Lines.{TakesLines};
 ghost use Rattle.pm_tools.specs.Artifact.{output_after_artifact};
 ghost use Rattle.pm_tools.specs.Lines.{artifact_lines, compiler_line, gains_library, lines_from, message_lines, script_lines};
-ghost use Rattle.pm_tools.specs.Outputs.{default_outputs, error_of, outputs_after, start_state, take_artifact, take_line, take_message, take_rendered, take_script, with_error, with_line};
+ghost use Rattle.pm_tools.specs.Outputs.{default_outputs, error_of, outputs_after, start_state, take_artifact, take_output_line, take_message, take_rendered, take_script, with_error, with_line};
 ghost use Rattle.pm_tools.specs.Packages.{lent_packages};
 ghost use Rattle.pm_tools.specs.Reading.{Leaves, take_each};
 ghost use Rattle.pm_tools.specs.Script.{invalid_cfg_line, output_after_script};
@@ -260,7 +260,7 @@ impl OutputsBuilder {
         progress: &mut P,
     ) -> Result<(), BuildError>
         ensures leaves { Leaves result self.new
-            (take_each (take_line (lent_packages packages.now.packages)) self.old (lines out.now)) }
+            (take_each (take_output_line (lent_packages packages.now.packages)) self.old (lines out.now)) }
         ensures lines { TakesLines (IsErrOf result BuildError.OutOfMemory)
             (P.lines progress.old) (P.lines progress.new)
             (lines_from (lent_packages packages.now.packages) (Ok self.old) (lines out.now)) }

@@ -3,7 +3,7 @@
 ghost use Rattle.std.specs.Prelude.{◌≡◌, OnOk};
 ghost use Rattle.crate_graph_values.specs.Env.{with_pairs};
 ghost use Rattle.pm_tools.specs.Reading.{Leaves};
-ghost use Rattle.pm_tools.specs.Script.{GivesAtom, GivesAtoms, atoms_of, output_after_script, output_with_dir};
+ghost use Rattle.pm_tools.specs.Script.{GivesAtom, GivesAtoms, named_atoms, output_after_script, output_with_dir};
 
 use crate::build_error::BuildError;
 use crate::library::absolute_path;
@@ -57,7 +57,7 @@ fn atom_of(alloc: Global, text: &Text) -> Result<CfgAtom, AtomsError>
 
 /// The atoms that some texts name, or the first text that names none.
 pub(crate) fn atoms_of(alloc: Global, texts: &[Text]) -> Result<Items<CfgAtom>, AtomsError>
-    ensures { GivesAtoms result (atoms_of texts.now) }
+    ensures { GivesAtoms result (named_atoms texts.now) }
 {
     let mut atoms = Vec::new(alloc);
     for text in texts {

@@ -7,7 +7,7 @@ use Rattle.std.specs.Prelude.{IfSome}
 use Rattle.base_text_paths.proofs.Equalities.{paths}
 use Rattle.base_text_paths.specs.PathOrder.{path_eq}
 use Rattle.base_text_paths.specs.Paths.{IsClean}
-use Rattle.pm_tools_ask.specs.Laws.{HasCleanPaths}
+use Rattle.pm_tools_ask.specs.Laws.{HasCleanToolchain}
 use Rattle.pm_tools_ask.specs.Toolchain.{Toolchain}
 use Rattle.pm_tools_ask.specs.declared.rust_lib_src.RustLibSrcWorkspace.{RustLibSrcWorkspace}
 use Rattle.pm_tools_ask.specs.declared.rust_lib_src.RustLibSrcWorkspace.TheVariants.{Empty}
@@ -29,7 +29,7 @@ optional_paths (Some p) (Some q) a b =
 pub toolchains : (eq : Toolchain → Toolchain → Bool) (same : RustLibSrcWorkspace → RustLibSrcWorkspace → Bool)
     → ((x y : RustLibSrcWorkspace) → same x y ≡ true)
     → ((x y : Toolchain) → eq x y ≡ (option_eq path_eq x.root y.root && (option_eq path_eq x.src y.src && same x.workspace y.workspace)))
-    → (x y : Toolchain) → HasCleanPaths x → HasCleanPaths y → (eq x y ≡ true) ↔ (x ≡ y)
+    → (x y : Toolchain) → HasCleanToolchain x → HasCleanToolchain y → (eq x y ≡ true) ↔ (x ≡ y)
 toolchains eq same always by x y a b =
     let root = optional_paths x.root y.root a.root b.root in
     let src = optional_paths x.src y.src a.src b.src in

@@ -6,7 +6,7 @@ use Rattle.pm_tools_ask.specs.declared.form.ItemForm.TheVariants.{Item, Closes, 
 use Rattle.pm_tools_ask.specs.declared.statement.OpenList.{OpenList}
 use Rattle.pm_tools_ask.specs.declared.statement.Statement.{Statement}
 use Rattle.pm_tools_ask.specs.Reader.{statements_left}
-use Rattle.pm_tools_ask.specs.Statements.{item_form, items_in, line_form, root_in, statements}
+use Rattle.pm_tools_ask.specs.Statements.{item_form, items_in, line_form, root_of_list, statements}
 
 -- a statement put behind those that are whole
 pub pushed : (whole more : List Statement) (one same : Statement) (rest : List Statement) → more ≡ whole ++ one ∷ [] → one ≡ same → whole ++ same ∷ rest ≡ more ++ rest
@@ -14,16 +14,16 @@ pushed whole more one same rest is e =
     ap (λ s. whole ++ s ∷ rest) (sym e) ∙ sym (append_assoc whole (one ∷ []) rest) ∙ ap (λ m. m ++ rest) (sym is)
 
 pub closes : (list : OpenList) (line : List ℕ) (lines : List (List ℕ)) (root : Option (List ℕ)) → item_form line ≡ Closes root → statements_left (Some list) (line ∷ lines) ≡ record { keys = list.keys; root = root; items = list.items.items } ∷ statements lines
-unfolding items_in root_in statements
+unfolding items_in root_of_list statements
 closes list line lines root is = rw (is, append-nil) refl
 
 pub takes_item : (list more : OpenList) (line : List ℕ) (lines : List (List ℕ)) (root : Option (List ℕ)) → item_form line ≡ Item root → more.keys ≡ list.keys → more.items.items ≡ list.items.items ++ root ∷ [] → statements_left (Some list) (line ∷ lines) ≡ statements_left (Some more) lines
-unfolding items_in root_in statements
+unfolding items_in root_of_list statements
 takes_item list more line lines root is keys items =
     rw (is, keys, items, append_assoc) refl
 
 pub passes_over : (list : OpenList) (line : List ℕ) (lines : List (List ℕ)) → item_form line ≡ Neither → statements_left (Some list) (line ∷ lines) ≡ statements_left (Some list) lines
-unfolding items_in root_in statements
+unfolding items_in root_of_list statements
 passes_over list line lines is = rw is refl
 
 pub states : (line : List ℕ) (lines : List (List ℕ)) (keys : List (List ℕ)) (root : Option (List ℕ)) → line_form line ≡ Value keys root → statements (line ∷ lines) ≡ record { keys = keys; root = root; items = [] } ∷ statements lines
@@ -40,7 +40,7 @@ states_nothing line lines is = rw is refl
 
 -- a list that no line closes
 pub left_open : (whole more : List Statement) (one : Statement) (list : OpenList) → more ≡ whole ++ one ∷ [] → one ≡ record { keys = list.keys; root = None; items = list.items.items } → more ≡ whole ++ statements_left (Some list) []
-unfolding items_in root_in statements
+unfolding items_in root_of_list statements
 left_open whole more one list is same = is ∙ ap (λ s. whole ++ s ∷ []) same ∙ (rw append-nil refl)
 
 -- one line further

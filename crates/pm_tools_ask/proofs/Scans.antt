@@ -7,7 +7,7 @@ use Rattle.std.specs.List.{onto_first}
 use Rattle.std.specs.Option.{option_map_or}
 use Rattle.std.specs.Str.{chars, encode_utf8_all, IsUtf8}
 use Rattle.pm_tools_ask.specs.Line.{after_run, all_of, behind_byte, drop_run, ends_run, key_of}
-use Rattle.pm_tools_ask.specs.Quotes.{after_byte, after_quotes, cut_outside, is_outside, parts_outside}
+use Rattle.pm_tools_ask.specs.Quotes.{after_byte, after_quotes, cut_outside, is_unquoted, parts_outside}
 use Rattle.pm_tools_ask.specs.Reader.{keys_left, parts_left, with_keys}
 use Rattle.pm_tools_ask.specs.declared.quotes.Quotes.{Quotes}
 use Rattle.pm_tools_ask.specs.declared.quotes.Quotes.TheVariants.{Outside, Basic, Escape, Literal}
@@ -34,7 +34,7 @@ after_run-more bs rest c u is go =
     rw (front, go) refl
 
 -- only a quote closes quotes
-pub closes_ascii : (quotes : Quotes) (b : ℕ) → is_outside quotes ≡ false → is_outside (after_byte quotes b) ≡ true → b < 128
+pub closes_ascii : (quotes : Quotes) (b : ℕ) → is_unquoted quotes ≡ false → is_unquoted (after_byte quotes b) ≡ true → b < 128
 unfolding after_byte
 closes_ascii Outside b inside closes = absurd (grind (arith, inside))
 closes_ascii Basic b inside closes = elim (cases_Bool (b == 34)) [
@@ -51,11 +51,11 @@ closes_ascii Literal b inside closes = elim (cases_Bool (b == 39)) [
 ]
 
 -- one byte further in quotes
-pub after_quotes-closes : (quotes : Quotes) (bs : List ℕ) (i : ℕ) → i < length bs → is_outside (after_byte quotes (get_or bs i 0)) ≡ true → after_quotes quotes (drop i bs) ≡ Some (drop (i + 1) bs)
+pub after_quotes-closes : (quotes : Quotes) (bs : List ℕ) (i : ℕ) → i < length bs → is_unquoted (after_byte quotes (get_or bs i 0)) ≡ true → after_quotes quotes (drop i bs) ≡ Some (drop (i + 1) bs)
 unfolding after_quotes
 after_quotes-closes quotes bs i l closes = at_drop_more (after_quotes quotes) bs i 0 l ∙ (rw closes refl)
 
-pub after_quotes-more : (quotes : Quotes) (bs : List ℕ) (i : ℕ) → i < length bs → is_outside (after_byte quotes (get_or bs i 0)) ≡ false → after_quotes quotes (drop i bs) ≡ after_quotes (after_byte quotes (get_or bs i 0)) (drop (i + 1) bs)
+pub after_quotes-more : (quotes : Quotes) (bs : List ℕ) (i : ℕ) → i < length bs → is_unquoted (after_byte quotes (get_or bs i 0)) ≡ false → after_quotes quotes (drop i bs) ≡ after_quotes (after_byte quotes (get_or bs i 0)) (drop (i + 1) bs)
 unfolding after_quotes
 after_quotes-more quotes bs i l inside = at_drop_more (after_quotes quotes) bs i 0 l ∙ (rw inside refl)
 
@@ -72,13 +72,13 @@ with_front-more front b None = refl
 with_front-more front b (Some sides) = ap (λ x. Some (x, sides.1)) (sym (append_assoc front (b ∷ []) sides.0))
 
 -- one byte further outside of quotes and in them
-pub cut-here : (at : ℕ) (quotes : Quotes) (bs : List ℕ) (i : ℕ) → i < length bs → (is_outside quotes && (get_or bs i 0 == at)) ≡ true → with_front (take i bs) (cut_outside at quotes (drop i bs)) ≡ Some (take i bs, drop (i + 1) bs)
+pub cut-here : (at : ℕ) (quotes : Quotes) (bs : List ℕ) (i : ℕ) → i < length bs → (is_unquoted quotes && (get_or bs i 0 == at)) ≡ true → with_front (take i bs) (cut_outside at quotes (drop i bs)) ≡ Some (take i bs, drop (i + 1) bs)
 unfolding cut_outside
 cut-here at quotes bs i l here =
     let step : cut_outside at quotes (drop i bs) ≡ Some ([], drop (i + 1) bs) = at_drop_more (cut_outside at quotes) bs i 0 l ∙ (rw here refl) in
     ap (with_front (take i bs)) step ∙ ap (λ x. Some (x, drop (i + 1) bs)) (append-nil (take i bs))
 
-pub cut-later : (at : ℕ) (quotes : Quotes) (bs : List ℕ) (i : ℕ) → i < length bs → (is_outside quotes && (get_or bs i 0 == at)) ≡ false → with_front (take i bs) (cut_outside at quotes (drop i bs)) ≡ with_front (take (i + 1) bs) (cut_outside at (after_byte quotes (get_or bs i 0)) (drop (i + 1) bs))
+pub cut-later : (at : ℕ) (quotes : Quotes) (bs : List ℕ) (i : ℕ) → i < length bs → (is_unquoted quotes && (get_or bs i 0 == at)) ≡ false → with_front (take i bs) (cut_outside at quotes (drop i bs)) ≡ with_front (take (i + 1) bs) (cut_outside at (after_byte quotes (get_or bs i 0)) (drop (i + 1) bs))
 unfolding cut_outside
 cut-later at quotes bs i l later =
     ap (with_front (take i bs)) (at_drop_more (cut_outside at quotes) bs i 0 l ∙ (rw later refl))
@@ -105,7 +105,7 @@ parts_by-more at b bs (Some sides) = refl
 pub parts-cut : (at : ℕ) (quotes : Quotes) (bs : List ℕ) → parts_outside at quotes bs ≡ parts_by at bs (cut_outside at quotes bs)
 unfolding parts_outside cut_outside
 parts-cut at quotes [] = refl
-parts-cut at quotes (b ∷ bs) = elim (cases_Bool (is_outside quotes && (b == at))) [
+parts-cut at quotes (b ∷ bs) = elim (cases_Bool (is_unquoted quotes && (b == at))) [
   | inl here ↦ rw here refl
   | inr later ↦ rw later (ap (onto_first b) (parts-cut at (after_byte quotes b) bs) ∙ parts_by-more at b bs (cut_outside at (after_byte quotes b) bs))
 ]
@@ -121,7 +121,7 @@ IsShorter-more b bs (Some sides) h = omega (arith, h)
 pub cut-shorter : (at : ℕ) (quotes : Quotes) (bs : List ℕ) → IfSome (cut_outside at quotes bs) (λ sides. length sides.1 < length bs)
 unfolding cut_outside
 cut-shorter at quotes [] = tt
-cut-shorter at quotes (b ∷ bs) = elim (cases_Bool (is_outside quotes && (b == at))) [
+cut-shorter at quotes (b ∷ bs) = elim (cases_Bool (is_unquoted quotes && (b == at))) [
   | inl here ↦ rw here (omega arith)
   | inr later ↦ rw later (IsShorter-more b bs (cut_outside at (after_byte quotes b) bs) (cut-shorter at (after_byte quotes b) bs))
 ]

@@ -23,5 +23,5 @@ config_question manifest sysroot config_path means =
     with_last_variable (codes "RUSTC_BOOTSTRAP") (codes "1") (question sysroot Cargo (directory_of manifest) (config_words manifest config_path) means)
 
 -- the configuration that is printed, where an answer serves
-abbrev pub config_of : List ℕ → Toolchain → Option (List ℕ) → Means → Option (List ℕ)
-config_of manifest sysroot config_path means = serving_answer means.answers (config_question manifest sysroot config_path means)
+abbrev pub printed_config : List ℕ → Toolchain → Option (List ℕ) → Means → Option (List ℕ)
+printed_config manifest sysroot config_path means = serving_answer means.answers (config_question manifest sysroot config_path means)

@@ -80,13 +80,13 @@ unfoldable pub behind_comma : List ℕ → List ℕ
 behind_comma rest = trim_start (unwrap_or (behind_byte 44 rest) rest)
 
 -- the directory two levels above a path, where the text is an absolute one
-unfoldable pub root_of : List ℕ → Option (List ℕ)
-root_of path = if is_absolute path then option_and_then parent_text (parent_text (path_text (components path))) else None
+unfoldable pub root_above : List ℕ → Option (List ℕ)
+root_above path = if is_absolute path then option_and_then parent_text (parent_text (path_text (components path))) else None
 
 -- what relative values are relative to by the comment in REST: the directory two levels above the file that it names. The comments for a
 -- variable of the environment and for a word of the command line name no absolute path
-unfoldable pub root_after : List ℕ → Option (List ℕ)
-root_after rest = option_and_then (λ comment. root_of (trim comment)) (behind_byte 35 (behind_comma rest))
+unfoldable pub root_by_comment : List ℕ → Option (List ℕ)
+root_by_comment rest = option_and_then (λ comment. root_above (trim comment)) (behind_byte 35 (behind_comma rest))
 
 -- what stands before and behind the first `=` of a line outside of quotes, without white space
 abbrev pub sides_of : List ℕ → Option (List ℕ × List ℕ)

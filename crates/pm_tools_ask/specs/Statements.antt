@@ -9,12 +9,12 @@ use Rattle.pm_tools_ask.specs.declared.form.Form.TheVariants.{Value, Opens, Othe
 use Rattle.pm_tools_ask.specs.declared.form.ItemForm.{ItemForm}
 use Rattle.pm_tools_ask.specs.declared.form.ItemForm.TheVariants.{Item, Closes, Neither}
 use Rattle.pm_tools_ask.specs.declared.statement.Statement.{Statement}
-use Rattle.pm_tools_ask.specs.Line.{after_value, behind_byte, keys_of, opens_list, root_after, sides_of}
+use Rattle.pm_tools_ask.specs.Line.{after_value, behind_byte, keys_of, opens_list, root_by_comment, sides_of}
 
 -- KEYS before a VALUE with its REST, or before no VALUE
 abbrev pub value_form : List (List ℕ) → Option (List ℕ) → Form
 value_form keys None = Other
-value_form keys (Some rest) = Value keys (root_after rest)
+value_form keys (Some rest) = Value keys (root_by_comment rest)
 
 -- KEYS before what is written behind `=`
 abbrev pub keyed_form : List ℕ → Option (List (List ℕ)) → Form
@@ -33,12 +33,12 @@ line_form line = sided_form (sides_of line)
 -- an item by its REST, where the line has a VALUE
 abbrev pub value_item : Option (List ℕ) → ItemForm
 value_item None = Neither
-value_item (Some rest) = Item (root_after rest)
+value_item (Some rest) = Item (root_by_comment rest)
 
 -- the end of the list by its REST, or else what the text is
 abbrev pub bracket_item : List ℕ → Option (List ℕ) → ItemForm
 bracket_item text None = value_item (after_value text)
-bracket_item text (Some rest) = Closes (root_after rest)
+bracket_item text (Some rest) = Closes (root_by_comment rest)
 
 -- what a line is where a list is open
 unfoldable pub item_form : List ℕ → ItemForm
@@ -56,20 +56,20 @@ items_in [] = []
 items_in (line ∷ lines) = items_by (item_form line) (items_in lines)
 
 -- the root that a line gives its list, or else the one that a later line gives it
-abbrev pub root_by : ItemForm → Option (List ℕ) → Option (List ℕ)
-root_by (Item root) later = later
-root_by (Closes root) later = root
-root_by Neither later = later
+abbrev pub root_by_line : ItemForm → Option (List ℕ) → Option (List ℕ)
+root_by_line (Item root) later = later
+root_by_line (Closes root) later = root
+root_by_line Neither later = later
 
 -- the root of the list that is open before some lines, which stands on the line that closes it
-unfoldable pub root_in : List (List ℕ) → Option (List ℕ)
-root_in [] = None
-root_in (line ∷ lines) = root_by (item_form line) (root_in lines)
+unfoldable pub root_of_list : List (List ℕ) → Option (List ℕ)
+root_of_list [] = None
+root_of_list (line ∷ lines) = root_by_line (item_form line) (root_of_list lines)
 
 -- what a line states, before the statements of the lines behind it: `next` where it opens no list, and `behind` where it opens one
 abbrev pub statements_of_form : Form → List (List ℕ) → List Statement → List Statement → List Statement
 statements_of_form (Value keys root) lines next behind = record { keys = keys; root = root; items = [] } ∷ next
-statements_of_form (Opens keys) lines next behind = record { keys = keys; root = root_in lines; items = items_in lines } ∷ behind
+statements_of_form (Opens keys) lines next behind = record { keys = keys; root = root_of_list lines; items = items_in lines } ∷ behind
 statements_of_form Other lines next behind = next
 
 -- the statements behind a list: `next` from the line that closes it on

@@ -38,5 +38,5 @@ tool_root sysroot means = record {
 }
 
 -- the command that starts a tool in a directory, with no words and the variables that are given beside those of the process
-abbrev pub command_of : Toolchain → Tool → List ℕ → Means → CommandLine
-command_of sysroot tool dir means = tool_command (tool_root sysroot means) tool dir means.extra_env
+abbrev pub start_command : Toolchain → Tool → List ℕ → Means → CommandLine
+start_command sysroot tool dir means = tool_command (tool_root sysroot means) tool dir means.extra_env

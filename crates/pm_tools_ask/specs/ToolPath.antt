@@ -33,11 +33,11 @@ answered_path name None = name
 answered_path name (Some output) = trim_end output.out
 
 -- the path of a tool by the answer to that question, where there is a toolchain to ask of
-abbrev pub path_in : Option (List ℕ) → List ℕ → Option Output → List ℕ
-path_in None name answer = name
-path_in (Some root) name answer = answered_path name answer
+abbrev pub path_by_answer : Option (List ℕ) → List ℕ → Option Output → List ℕ
+path_by_answer None name answer = name
+path_by_answer (Some root) name answer = answered_path name answer
 
 -- the path of a tool
 abbrev pub tool_path : Toolchain → Tool → List ℕ → List (List ℕ × List ℕ) → Means → List ℕ
 tool_path sysroot tool dir env means =
-    path_in sysroot.root (tool_name means.tools tool) (answer_of means.answers (path_question sysroot tool dir env means))
+    path_by_answer sysroot.root (tool_name means.tools tool) (answer_of means.answers (path_question sysroot tool dir env means))

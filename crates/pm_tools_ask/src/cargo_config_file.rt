@@ -8,7 +8,7 @@ ghost use Rattle.toml.specs.View.{table_view, view};
 ghost use Rattle.pm_tools_ask.specs.Statements.{origin_root};
 ghost use Rattle.pm_tools_ask.specs.Ask.{means_of};
 ghost use Rattle.pm_tools_ask.specs.Config.{below_keys, value_at_keys};
-ghost use Rattle.pm_tools_ask.specs.ConfigQuestion.{config_of};
+ghost use Rattle.pm_tools_ask.specs.ConfigQuestion.{printed_config};
 
 use crate::answers::serving_answer;
 use crate::ask::Ask;
@@ -57,7 +57,7 @@ impl CargoConfigFile {
         config_path: Option<AbsPath<'_>>,
         ask: &Ask<'_, R, T>,
     ) -> Result<Option<CargoConfigFile>, AllocError>
-        ensures { IfOk result (λ file. file ≡ config_of manifest.now sysroot.now
+        ensures { IfOk result (λ file. file ≡ printed_config manifest.now sysroot.now
             (option_map abs_text config_path.entry) (means_of R.answers T.files ask.now)) }
     {
         let question = config_question(alloc, manifest, sysroot, config_path, ask)?;

@@ -4,7 +4,7 @@ ghost use Rattle.std.specs.Prelude.{◌≡◌, IfOk};
 ghost use Rattle.std.specs.Option.{option_and_then, option_map};
 ghost use Rattle.base_text_paths.specs.AbsPath.{abs_text};
 ghost use Rattle.base_text_paths.specs.Paths.{parent_text};
-ghost use Rattle.pm_tools_ask.specs.Line.{behind_comma, root_after, root_of};
+ghost use Rattle.pm_tools_ask.specs.Line.{behind_comma, root_by_comment, root_above};
 
 use crate::quotes::behind;
 use base_text::{AbsPath, AbsPathBuf, PathError};
@@ -27,9 +27,9 @@ fn grandparent(path: AbsPath<'_>) -> Option<AbsPath<'_>>
 }
 
 // The directory two levels above the file of a path.
-#[tactic(auto, unfolding(crate::specs::Line::root_of))]
+#[tactic(auto, unfolding(crate::specs::Line::root_above))]
 fn root_of(alloc: Global, path: &str) -> Result<Option<AbsPathBuf>, AllocError>
-    ensures { IfOk result (λ root. root ≡ root_of path.now) }
+    ensures { IfOk result (λ root. root ≡ root_above path.now) }
 {
     let file = match AbsPathBuf::new(alloc, path) {
         Ok(file) => file,
@@ -43,9 +43,9 @@ fn root_of(alloc: Global, path: &str) -> Result<Option<AbsPathBuf>, AllocError>
 }
 
 /// What relative values are relative to, by the comment behind a value.
-#[tactic(auto, unfolding(crate::specs::Line::root_after))]
+#[tactic(auto, unfolding(crate::specs::Line::root_by_comment))]
 pub(crate) fn root_after(alloc: Global, rest: &str) -> Result<Option<AbsPathBuf>, AllocError>
-    ensures { IfOk result (λ root. root ≡ root_after rest.now) }
+    ensures { IfOk result (λ root. root ≡ root_by_comment rest.now) }
 {
     match behind(behind_comma(rest), '#') {
         Some(comment) => root_of(alloc, comment.trim()),

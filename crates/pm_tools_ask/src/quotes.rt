@@ -2,7 +2,7 @@
 
 ghost use Rattle.std.specs.Prelude.{◌≡◌, ◌<◌, false, option_map};
 ghost use Rattle.pm_tools_ask.specs.Line.{behind_byte};
-ghost use Rattle.pm_tools_ask.specs.Quotes.{after_byte, after_quotes, cut_outside, is_outside};
+ghost use Rattle.pm_tools_ask.specs.Quotes.{after_byte, after_quotes, cut_outside, is_unquoted};
 ghost use Rattle.pm_tools_ask.specs.declared.quotes.Quotes.TheVariants.{Outside};
 
 /// Which quotes are open at a place of a text.
@@ -37,14 +37,14 @@ impl Quotes {
     }
 
     pub(crate) fn is_outside(self) -> bool
-        ensures { result ≡ is_outside self }
+        ensures { result ≡ is_unquoted self }
     {
         matches!(self, Quotes::Outside)
     }
 
     /// What follows the quote that closes those that are open before a text.
     pub(crate) fn after_text(self, text: &str) -> Option<&str>
-        requires { is_outside self ≡ false }
+        requires { is_unquoted self ≡ false }
         ensures { option_map (λ rest. rest.now) result ≡ after_quotes self text.now }
     {
         let mut quotes = self;

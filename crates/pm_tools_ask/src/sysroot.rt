@@ -4,7 +4,7 @@ ghost use Rattle.std.specs.Prelude.{◌≡◌, IfOk, None};
 ghost use Rattle.std.specs.Option.{option_map};
 ghost use Rattle.base_text_paths.specs.AbsPath.{abs_text};
 ghost use Rattle.pm_tools_ask.specs.Ask.{means_of};
-ghost use Rattle.pm_tools_ask.specs.Sysroot.{command_of, empty_sysroot, rustc_below, sysroot_of, tool_root};
+ghost use Rattle.pm_tools_ask.specs.Sysroot.{start_command, empty_sysroot, rustc_below, sysroot_of, tool_root};
 
 use crate::ask::Ask;
 use crate::rust_lib_src::RustLibSrcWorkspace;
@@ -117,7 +117,7 @@ impl Sysroot {
         ask: &Ask<'_, R, T>,
     ) -> Result<CommandLine, AllocError>
         ensures { IfOk result (λ line.
-            line ≡ command_of self.now tool dir.now (means_of R.answers T.files ask.now)) }
+            line ≡ start_command self.now tool dir.now (means_of R.answers T.files ask.now)) }
     {
         self.tool_root(alloc, ask)?
             .command(alloc, tool, dir, ask.extra_env)

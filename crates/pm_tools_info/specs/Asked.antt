@@ -22,16 +22,16 @@ reading_of_answer reads (Ok text) = reads text
 reading_of_answer reads (Err error) = Err error
 
 -- a call answers exactly that, unless memory ran out
-abbrev pub Answers : {T : Type 0} → Result T QueryError → Result T QueryError → Type 0
-Answers (Ok value) wanted = wanted ≡ Ok value
-Answers (Err (Failed line)) wanted = wanted ≡ Err (Failed line)
-Answers (Err NoHost) wanted = wanted ≡ Err NoHost
-Answers (Err BadSpec) wanted = wanted ≡ Err BadSpec
-Answers (Err OutOfMemory) wanted = Unit {0}
+abbrev pub AnswersQuery : {T : Type 0} → Result T QueryError → Result T QueryError → Type 0
+AnswersQuery (Ok value) wanted = wanted ≡ Ok value
+AnswersQuery (Err (Failed line)) wanted = wanted ≡ Err (Failed line)
+AnswersQuery (Err NoHost) wanted = wanted ≡ Err NoHost
+AnswersQuery (Err BadSpec) wanted = wanted ≡ Err BadSpec
+AnswersQuery (Err OutOfMemory) wanted = Unit {0}
 
 -- an error prints its name
-abbrev pub error_text : QueryError → List ℕ
-error_text (Failed line) = codes "Failed"
-error_text NoHost = codes "NoHost"
-error_text BadSpec = codes "BadSpec"
-error_text OutOfMemory = codes "OutOfMemory"
+abbrev pub query_error_text : QueryError → List ℕ
+query_error_text (Failed line) = codes "Failed"
+query_error_text NoHost = codes "NoHost"
+query_error_text BadSpec = codes "BadSpec"
+query_error_text OutOfMemory = codes "OutOfMemory"

@@ -5,7 +5,7 @@ use Rattle.std.specs.Str.Lines.{lines}
 use Rattle.pm_tools_ask.specs.Statements.{statement_of, statements}
 use Rattle.pm_tools_ask.specs.declared.statement.Statement.{Statement}
 use Rattle.pm_tools_ask.specs.Config.{value_at_keys}
-use Rattle.pm_tools_info.specs.StatedTargets.{root_in, targets_at}
+use Rattle.pm_tools_info.specs.StatedTargets.{statement_root, targets_at}
 
 -- the keys of that value
 abbrev pub build_target_keys : List (List ℕ)
@@ -17,4 +17,4 @@ build_target_statement config = statement_of build_target_keys (statements (line
 
 -- the platforms that a configuration states, each JSON file below the directory that its text is relative to
 abbrev pub build_targets : List ℕ → Option (List (List ℕ))
-build_targets config = option_and_then (targets_at (root_in (build_target_statement config))) (value_at_keys config build_target_keys)
+build_targets config = option_and_then (targets_at (statement_root (build_target_statement config))) (value_at_keys config build_target_keys)

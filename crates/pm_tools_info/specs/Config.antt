@@ -10,9 +10,9 @@ use Rattle.pm_tools_info.specs.declared.query_config.QueryConfig.TheVariants.{Ru
 use Rattle.base_text_paths.specs.ManifestPath.{directory_of}
 
 -- the toolchain whose tools are asked
-abbrev pub sysroot_of : QueryConfig → Toolchain
-sysroot_of (Rustc sysroot dir) = sysroot.now
-sysroot_of (Cargo sysroot manifest config) = sysroot.now
+abbrev pub toolchain_of : QueryConfig → Toolchain
+toolchain_of (Rustc sysroot dir) = sysroot.now
+toolchain_of (Cargo sysroot manifest config) = sysroot.now
 
 -- the directory in which they are asked: the given one, or that of the manifest
 abbrev pub dir_of : QueryConfig → List ℕ

@@ -7,7 +7,7 @@ use Rattle.crate_graph_values.specs.declared.target.TargetData.{TargetData}
 use Rattle.pm_tools_ask.specs.Ask.{Means}
 use Rattle.pm_tools_info.specs.Cfgs.{atoms_of}
 use Rattle.pm_tools_info.specs.Host.{host_of}
-use Rattle.pm_tools_info.specs.TargetSpec.{data_of, spec_of}
+use Rattle.pm_tools_info.specs.TargetSpec.{machine_of, spec_of}
 use Rattle.pm_tools_info.specs.Version.{version_behind}
 use Rattle.pm_tools_info.specs.Asked.{answer_to, reading_of_answer}
 use Rattle.pm_tools_info.specs.BuildTarget.{build_targets}
@@ -50,13 +50,13 @@ target_answer config target means =
 -- the machine of a platform
 abbrev pub data_answer : QueryConfig → Option (List ℕ) → Option Parts → Means → Result TargetData QueryError
 data_answer config target version means =
-    reading_of_answer (λ text. ok_or (option_map data_of (spec_of text)) BadSpec) (answer_to means.answers (spec_questions config target version means))
+    reading_of_answer (λ text. ok_or (option_map machine_of (spec_of text)) BadSpec) (answer_to means.answers (spec_questions config target version means))
 
 -- the atoms of an answer, which are none where there is no answer
-abbrev pub atoms_in : Result (List ℕ) QueryError → List CfgAtom
-atoms_in (Ok text) = atoms_of text
-atoms_in (Err error) = []
+abbrev pub atoms_of_answer : Result (List ℕ) QueryError → List CfgAtom
+atoms_of_answer (Ok text) = atoms_of text
+atoms_of_answer (Err error) = []
 
 -- the atoms that hold for a platform
 abbrev pub cfg_answer : QueryConfig → Option (List ℕ) → Means → List CfgAtom
-cfg_answer config target means = atoms_in (answer_to means.answers (cfg_questions config target means))
+cfg_answer config target means = atoms_of_answer (answer_to means.answers (cfg_questions config target means))

@@ -9,7 +9,7 @@ use Rattle.pm_cargo_config.specs.Versions.{needs_json_flag}
 use Rattle.base_text.specs.declared.tool.Tool.TheVariants.{Cargo as cargo, Rustc as rustc}
 use Rattle.pm_tools_ask.specs.Ask.{Means}
 use Rattle.pm_tools_ask.specs.Questions.{question}
-use Rattle.pm_tools_info.specs.Config.{dir_of, sysroot_of, tool_of}
+use Rattle.pm_tools_info.specs.Config.{dir_of, toolchain_of, tool_of}
 use Rattle.pm_tools_info.specs.declared.query_config.QueryConfig.{QueryConfig}
 use Rattle.pm_tools_info.specs.declared.query_config.QueryConfig.TheVariants.{Rustc, Cargo}
 use Rattle.pm_tools_info.specs.declared.questions.Questions.{Questions}
@@ -33,12 +33,12 @@ target_words target = option_words (codes "--target") target
 
 -- which platform the compiler runs on
 unfoldable pub host_questions : QueryConfig → Means → Questions
-host_questions config means = one_question (question (sysroot_of config) rustc (dir_of config) (codes "-vV" ∷ []) means)
+host_questions config means = one_question (question (toolchain_of config) rustc (dir_of config) (codes "-vV" ∷ []) means)
 
 -- which version a tool is of
 unfoldable pub version_questions : QueryConfig → Means → Questions
 version_questions config means =
-    one_question (question (sysroot_of config) (tool_of config) (dir_of config) (codes "--version" ∷ []) means)
+    one_question (question (toolchain_of config) (tool_of config) (dir_of config) (codes "--version" ∷ []) means)
 
 -- the words that ask cargo for the atoms of a platform
 abbrev pub cargo_cfg_words : Option (List ℕ) → List (List ℕ)
@@ -55,8 +55,8 @@ rustc_cfg_words target = (codes "--print" ∷ codes "cfg" ∷ codes "-O" ∷ [])
 unfoldable pub cfg_questions : QueryConfig → Option (List ℕ) → Means → Questions
 cfg_questions config target means =
     in_turn config
-    (with_channel true (question (sysroot_of config) cargo (dir_of config) (cargo_cfg_words target) means))
-    (question (sysroot_of config) rustc (dir_of config) (rustc_cfg_words target) means)
+    (with_channel true (question (toolchain_of config) cargo (dir_of config) (cargo_cfg_words target) means))
+    (question (toolchain_of config) rustc (dir_of config) (rustc_cfg_words target) means)
 
 -- the words that ask cargo for the specification of a platform; the version is that of the toolchain
 abbrev pub cargo_spec_words : Option (List ℕ) → Option Parts → List (List ℕ)
@@ -79,5 +79,5 @@ with_bootstrap line = with_last_variable (codes "RUSTC_BOOTSTRAP") (codes "1") l
 unfoldable pub spec_questions : QueryConfig → Option (List ℕ) → Option Parts → Means → Questions
 spec_questions config target version means =
     in_turn config
-    (with_bootstrap (question (sysroot_of config) cargo (dir_of config) (cargo_spec_words target version) means))
-    (with_bootstrap (question (sysroot_of config) rustc (dir_of config) (rustc_spec_words target) means))
+    (with_bootstrap (question (toolchain_of config) cargo (dir_of config) (cargo_spec_words target version) means))
+    (with_bootstrap (question (toolchain_of config) rustc (dir_of config) (rustc_spec_words target) means))

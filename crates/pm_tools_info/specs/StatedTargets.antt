@@ -8,8 +8,8 @@ use Rattle.pm_tools_ask.specs.Statements.{root_at}
 use Rattle.pm_cargo_config.specs.Versions.{is_json_target}
 
 -- the directory that the value of a statement is relative to, or an item of its list, where there is a statement
-abbrev pub root_in : Option Statement → Option ℕ → Option (List ℕ)
-root_in statement place = option_and_then (root_at place) statement
+abbrev pub statement_root : Option Statement → Option ℕ → Option (List ℕ)
+statement_root statement place = option_and_then (root_at place) statement
 
 -- a platform by the directory that its text is relative to: the path of a JSON file is joined to it
 abbrev pub joined_target : Option (List ℕ) → List ℕ → List ℕ

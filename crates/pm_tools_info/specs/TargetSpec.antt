@@ -30,5 +30,5 @@ abbrev pub spec_of : List ℕ → Option TargetSpec
 spec_of text = result_ok (document target_spec_at text)
 
 -- the machine of a specification
-abbrev pub data_of : TargetSpec → TargetData
-data_of spec = record { data_layout = spec.data_layout; arch = spec.arch }
+abbrev pub machine_of : TargetSpec → TargetData
+machine_of spec = record { data_layout = spec.data_layout; arch = spec.arch }

@@ -18,9 +18,9 @@ unfoldable pub first_word : List ℕ → List ℕ
 first_word text = encode_utf8_all (before_whitespace (skip_leading_whitespace (chars text)))
 
 -- the version that a word is, where `semver` reads it as one
-abbrev pub version_of : List ℕ → Option Parts
-version_of word = result_ok (version_parts word)
+abbrev pub version_of_word : List ℕ → Option Parts
+version_of_word word = result_ok (version_parts word)
 
 -- the version whose word stands first behind a front of the text
 abbrev pub version_behind : List ℕ → List ℕ → Option Parts
-version_behind front text = option_and_then (λ rest. version_of (first_word rest)) (behind front text)
+version_behind front text = option_and_then (λ rest. version_of_word (first_word rest)) (behind front text)

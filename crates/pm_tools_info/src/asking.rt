@@ -4,7 +4,7 @@ ghost use Rattle.std.specs.Prelude.{◌≡◌, IfOk};
 ghost use Rattle.std.specs.Option.{option_and_then};
 ghost use Rattle.pm_tools_ask.specs.Answers as answers;
 ghost use Rattle.pm_tools_info.specs.Asked as asked;
-ghost use Rattle.pm_tools_info.specs.Asked.{Answers};
+ghost use Rattle.pm_tools_info.specs.Asked.{AnswersQuery};
 
 use crate::query_error::QueryError;
 use crate::questions::Questions;
@@ -19,7 +19,7 @@ pub(crate) fn answer_to<R: Runner>(
     questions: &Questions,
     runner: &R,
 ) -> Result<Text, QueryError>
-    ensures { Answers result (asked.answer_to (R.answers runner.now) questions.now) }
+    ensures { AnswersQuery result (asked.answer_to (R.answers runner.now) questions.now) }
 {
     if let Some(text) = first_answer(alloc, questions, runner)? {
         return Ok(text);

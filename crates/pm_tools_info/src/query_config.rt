@@ -1,7 +1,7 @@
 //! What is asked of: which toolchain, and where.
 
 ghost use Rattle.std.specs.Prelude.{◌≡◌};
-ghost use Rattle.pm_tools_info.specs.Config.{dir_of, front_of, sysroot_of, tool_of};
+ghost use Rattle.pm_tools_info.specs.Config.{dir_of, front_of, toolchain_of, tool_of};
 
 use base_text::{AbsPath, ManifestPath, Tool};
 use pm_tools_ask::{CargoConfigFile, Sysroot};
@@ -18,7 +18,7 @@ pub enum QueryConfig<'a> {
 
 impl<'a> QueryConfig<'a> {
     pub(crate) fn sysroot(self) -> &'a Sysroot
-        ensures { result.now ≡ sysroot_of self.entry }
+        ensures { result.now ≡ toolchain_of self.entry }
     {
         match self {
             QueryConfig::Rustc(sysroot, _) | QueryConfig::Cargo(sysroot, _, _) => sysroot,

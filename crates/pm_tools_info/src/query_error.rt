@@ -41,9 +41,9 @@ impl TryClone for QueryError {
 /// Prints the name of the variant.
 impl fmt::Display for QueryError {
     ghost use Rattle.std.specs.Prelude.{Some};
-    ghost use Rattle.pm_tools_info.specs.Asked.{error_text};
+    ghost use Rattle.pm_tools_info.specs.Asked.{query_error_text};
 
-    ghost output = { λ e. Some (error_text e) };
+    ghost output = { λ e. Some (query_error_text e) };
 
     fn fmt<W: fmt::Write>(&self, f: &mut fmt::Formatter<W>) -> fmt::Result {
         match self {

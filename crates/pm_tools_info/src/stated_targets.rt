@@ -2,7 +2,7 @@
 
 ghost use Rattle.std.specs.Prelude.{◌≡◌, IfOk, option_copied};
 ghost use Rattle.toml.specs.View.{items_view, view};
-ghost use Rattle.pm_tools_info.specs.StatedTargets.{joined_target, root_in, targets_at, targets_from};
+ghost use Rattle.pm_tools_info.specs.StatedTargets.{joined_target, statement_root, targets_at, targets_from};
 
 use base_text::{Items, Text};
 use pm_tools_ask::Statement;
@@ -18,7 +18,7 @@ pub fn targets_at(
     value: &Value,
 ) -> Result<Option<Items<Text>>, AllocError>
     ensures { IfOk result (λ targets. targets
-        ≡ targets_at (root_in (option_copied statement.entry)) (view value.now)) }
+        ≡ targets_at (statement_root (option_copied statement.entry)) (view value.now)) }
 {
     match value {
         Value::String(target) => {
@@ -37,7 +37,7 @@ fn targets_of_items(
     items: &[Value],
 ) -> Result<Option<Items<Text>>, AllocError>
     ensures { IfOk result (λ targets. targets
-        ≡ targets_from (root_in (option_copied statement.entry)) 0 (items_view items.now)) }
+        ≡ targets_from (statement_root (option_copied statement.entry)) 0 (items_view items.now)) }
 {
     let mut targets = Vec::new(alloc);
     for (place, item) in items.iter().enumerate() {
@@ -57,7 +57,7 @@ fn joined_target(
     target: &str,
 ) -> Result<Text, AllocError>
     ensures { IfOk result (λ text. text
-        ≡ joined_target (root_in (option_copied statement.entry) place) target.now) }
+        ≡ joined_target (statement_root (option_copied statement.entry) place) target.now) }
 {
     match statement.and_then(|statement| statement.root_at(place)) {
         Some(root) if target.ends_with(".json") => {

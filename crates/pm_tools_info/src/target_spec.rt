@@ -1,7 +1,7 @@
 //! What a compiler's specification of a platform says of it.
 
 ghost use Rattle.std.specs.Prelude.{◌≡◌, IfOk};
-ghost use Rattle.pm_tools_info.specs.TargetSpec.{arch_of, data_of, spec_of, target_spec_at};
+ghost use Rattle.pm_tools_info.specs.TargetSpec.{arch_of, machine_of, spec_of, target_spec_at};
 
 use base_text::{Text, TryClone};
 pub use crate_graph_values::target::Arch;
@@ -71,9 +71,9 @@ impl TryClone for TargetSpec {
 
 impl From<TargetSpec> for TargetData {
     ghost use Rattle.std.specs.Prelude.{◌≡◌};
-    ghost use Rattle.pm_tools_info.specs.TargetSpec.{data_of};
+    ghost use Rattle.pm_tools_info.specs.TargetSpec.{machine_of};
 
-    ghost from_gives = { λ spec machine. machine ≡ data_of spec };
+    ghost from_gives = { λ spec machine. machine ≡ machine_of spec };
 
     fn from(spec: TargetSpec) -> TargetData {
         TargetData {

@@ -3,7 +3,7 @@
 ghost use Rattle.std.specs.Prelude.{◌≡◌, ◌∷◌, [], IfOk, option_copied};
 ghost use Rattle.std.specs.Option.{option_and_then};
 ghost use Rattle.pm_tools_ask.specs.Ask.{means_of};
-ghost use Rattle.pm_tools_info.specs.Asked.{Answers};
+ghost use Rattle.pm_tools_info.specs.Asked.{AnswersQuery};
 ghost use Rattle.pm_tools_info.specs.BuildTarget as stated;
 ghost use Rattle.pm_tools_info.specs.Config.{configuration_of};
 ghost use Rattle.pm_tools_info.specs.Queries.{host_answer, target_answer};
@@ -26,7 +26,7 @@ pub fn get<R: Runner, T: Tree>(
     target: Option<&str>,
     ask: &Ask<'_, R, T>,
 ) -> Result<Items<Text>, QueryError>
-    ensures { Answers result (target_answer config.entry (option_copied target.entry)
+    ensures { AnswersQuery result (target_answer config.entry (option_copied target.entry)
         (means_of R.answers T.files ask.now)) }
 {
     if let Some(target) = target {
@@ -64,7 +64,7 @@ fn host<R: Runner, T: Tree>(
     config: QueryConfig<'_>,
     ask: &Ask<'_, R, T>,
 ) -> Result<Text, QueryError>
-    ensures { Answers result (host_answer config.entry (means_of R.answers T.files ask.now)) }
+    ensures { AnswersQuery result (host_answer config.entry (means_of R.answers T.files ask.now)) }
 {
     let answer = answer_to(alloc, &host_questions(alloc, config, ask)?, ask.runner);
     let text = answer?;

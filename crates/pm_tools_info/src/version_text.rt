@@ -1,7 +1,7 @@
 //! The version that a tool prints of itself.
 
 ghost use Rattle.std.specs.Prelude.{◌≡◌, IfOk};
-ghost use Rattle.pm_tools_info.specs.Version.{first_word, version_behind, version_of};
+ghost use Rattle.pm_tools_info.specs.Version.{first_word, version_behind, version_of_word};
 
 use base_text::Version;
 use std::alloc::{AllocError, Global};
@@ -25,7 +25,7 @@ fn first_word(text: &str) -> &str
 
 // The version that a word is.
 fn version_of(alloc: Global, word: &str) -> Result<Option<Version>, AllocError>
-    ensures { IfOk result (λ version. version ≡ version_of word.now) }
+    ensures { IfOk result (λ version. version ≡ version_of_word word.now) }
 {
     match semver::Version::parse(alloc, word) {
         Ok(version) => Ok(Some(Version::new(version))),

@@ -18,7 +18,7 @@ use Rattle.vfs_core.specs.declared.marks.Mark.{Mark}
 use Rattle.vfs_core.specs.declared.marks.MarkKind.TheVariants.{Out}
 use Rattle.vfs_core.specs.Batch.{changed_file, kind_in, merged_change, with_change, with_changed_file}
 use Rattle.vfs_core.specs.FileState.{change_made, state_of}
-use Rattle.vfs_core.specs.Files.{Files, Follows, call_made, entry_state, kind_of, number_for, number_of, paths_of, state_at}
+use Rattle.vfs_core.specs.Files.{Files, Follows, call_made, entry_state, kind_of, number_for, path_number, paths_of, state_at}
 use Rattle.vfs_core.specs.Hash.{content_hash}
 use Rattle.vfs_core.specs.Marks.{is_out, kept_text, live_text_after, live_text, same_hash, with_path}
 use Rattle.vfs_core.specs.VfsPathOrder.{vfs_path_eq-same, vfs_path_equiv}
@@ -109,14 +109,14 @@ found-told None hash h = cc
 found-told (Some state) hash h = ap Some h
 
 number-known : (files : Files) (path : PathContent) (hash : ℕ) → state_at files path ≡ Exists hash
-    → number_of files path ≡ Some (number_for files path)
+    → path_number files path ≡ Some (number_for files path)
 number-known files path hash h =
     position-at (vfs_path_eq path) (paths_of files) (number_for files path) refl
     (has-number path files.entries (Exists hash) (found-told (entry_state files path) hash h))
 
 -- another path has another number
 apart-number : (files : Files) (each_path path : PathContent) (file : ℕ) → vfs_path_eq each_path path ≡ false
-    → number_of files each_path ≡ Some file → nat_eq file (number_for files path) ≡ false
+    → path_number files each_path ≡ Some file → nat_eq file (number_for files path) ≡ false
 apart-number files each_path path file other h = false_from_ne_true (nat_eq file (number_for files path)) (λ e.
     let at : slice_get (paths_of files) file ≡ Some each_path = path_of_number each_path (paths_of files) file h in
     let one : number_for files path ≡ file = sym (eqb-true file (number_for files path) e) in
@@ -191,7 +191,7 @@ told-contents (Some bytes) false (Some before) batch known file text earlier liv
 -- the text that was there before
 earlier-text : (old : Files) (path : PathContent) (marks : List Mark) (known : ℕ → Option (List ℕ)) (was_out : Bool) (before : Option (List ℕ))
     → state_at old path ≡ cond was_out Excluded (state_of before)
-    → ((file : ℕ) (t : List ℕ) → number_of old path ≡ Some file → cond was_out None before ≡ Some t → contents_after old.batch known file ≡ Some t)
+    → ((file : ℕ) (t : List ℕ) → path_number old path ≡ Some file → cond was_out None before ≡ Some t → contents_after old.batch known file ≡ Some t)
     → (t : List ℕ) → cond was_out None before ≡ Some t
     → contents_after old.batch known (number_for old path) ≡ Some t
 earlier-text old path marks known true before state brings t live = cc
@@ -205,14 +205,14 @@ mark-split : (old new : Files) (path each_path : PathContent) (contents : Option
     → paths_of new ≡ with_path path (paths_of old)
     → new.batch ≡ with_changed_file (call_made old path contents) old.batch
     → Follows old marks → BringsTo old known marks
-    → number_of new each_path ≡ Some file
+    → path_number new each_path ≡ Some file
     → cond is_own (live_text_after (kind_of contents) (is_out marks each_path) (live_text marks each_path)) (live_text marks each_path) ≡ Some text
     → contents_after new.batch known file ≡ Some text
 unfolding live_text
 mark-split old new path each_path contents marks known file text true own numbers batch follows brings number live =
     let one : each_path ≡ path = vfs_path_eq-same each_path path own in
     let is : number_for old path ≡ file = own-number path (paths_of old) file (list_any (vfs_path_eq path) (paths_of old)) refl
-    (ap (position (vfs_path_eq path)) (sym numbers) ∙ subst (λ p. number_of new p ≡ Some file) one number) in
+    (ap (position (vfs_path_eq path)) (sym numbers) ∙ subst (λ p. path_number new p ≡ Some file) one number) in
     let lives = subst (λ p. live_text_after (kind_of contents) (is_out marks p) (cond (is_out marks p) None (kept_text marks p)) ≡ Some text) one live in
     let earlier = earlier-text old path marks known (is_out marks path) (kept_text marks path) (follows.states path)
     (λ n t at is. brings.each path n t at is) in
@@ -222,7 +222,7 @@ mark-split old new path each_path contents marks known file text true own number
     ∙ ap (λ st. contents_after (with_changed_file (option_map (changed_file (number_for old path)) (change_made st contents)) old.batch) known (number_for old path)) (follows.states path)
     ∙ told
 mark-split old new path each_path contents marks known file text false own numbers batch follows brings number live =
-    let before : number_of old each_path ≡ Some file = other-number each_path path (paths_of old) file (list_any (vfs_path_eq path) (paths_of old))
+    let before : path_number old each_path ≡ Some file = other-number each_path path (paths_of old) file (list_any (vfs_path_eq path) (paths_of old))
     (eqb (position_or_len (vfs_path_eq each_path) (paths_of old)) (length (paths_of old))) own refl
     (ap (position (vfs_path_eq each_path)) (sym numbers) ∙ number) in
     ap (λ b. contents_after b known file) batch
@@ -245,12 +245,12 @@ BringsTo_mark old new path contents numbers batch known marks follows brings = r
 out-split : (old new : Files) (path each_path : PathContent) (marks : List Mark) (known : ℕ → Option (List ℕ))
     (file : ℕ) (text : List ℕ) (is_own : Bool) → vfs_path_eq each_path path ≡ is_own
     → paths_of new ≡ with_path path (paths_of old) → new.batch ≡ old.batch → BringsTo old known marks
-    → number_of new each_path ≡ Some file
+    → path_number new each_path ≡ Some file
     → cond is_own None (live_text marks each_path) ≡ Some text
     → contents_after new.batch known file ≡ Some text
 out-split old new path each_path marks known file text true own numbers batch brings number live = cc
 out-split old new path each_path marks known file text false own numbers batch brings number live =
-    let before : number_of old each_path ≡ Some file = other-number each_path path (paths_of old) file (list_any (vfs_path_eq path) (paths_of old))
+    let before : path_number old each_path ≡ Some file = other-number each_path path (paths_of old) file (list_any (vfs_path_eq path) (paths_of old))
     (eqb (position_or_len (vfs_path_eq each_path) (paths_of old)) (length (paths_of old))) own refl
     (ap (position (vfs_path_eq each_path)) (sym numbers) ∙ number) in
     ap (λ b. contents_after b known file) batch ∙ brings.each each_path file text before live

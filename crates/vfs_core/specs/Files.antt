@@ -40,8 +40,8 @@ abbrev pub paths_of : Files → List PathContent
 paths_of files = keys_of files.entries
 
 -- the number of a path
-abbrev pub number_of : Files → PathContent → Option ℕ
-number_of files path = position (vfs_path_eq path) (paths_of files)
+abbrev pub path_number : Files → PathContent → Option ℕ
+path_number files path = position (vfs_path_eq path) (paths_of files)
 
 -- the path of a number
 abbrev pub path_at : Files → ℕ → Option PathContent
@@ -104,7 +104,7 @@ HasRoomFor files path = length (with_path path (paths_of files)) ≤ 0x7fff_ffff
 -- each path that had a number has it still, and each number its path
 pub record KeepsNumbers (old new : Files) : Type 0 where
   pub numbers : (path : PathContent) (number : ℕ)
-      → number_of old path ≡ Some number → number_of new path ≡ Some number
+      → path_number old path ≡ Some number → path_number new path ≡ Some number
   pub paths : (path : PathContent) (number : ℕ)
       → path_at old number ≡ Some path → path_at new number ≡ Some path
 
@@ -112,7 +112,7 @@ pub record KeepsNumbers (old new : Files) : Type 0 where
 abbrev pub lookup_result : Files → PathContent → Option (ℕ × FileExcluded)
 lookup_result files path =
     option_and_then (λ number. option_map (λ excluded. (number, excluded)) (visibility (state_at files path)))
-    (number_of files path)
+    (path_number files path)
 
 -- whether the file of a number exists, where there is one
 abbrev pub existence_at : Files → ℕ → Option Bool

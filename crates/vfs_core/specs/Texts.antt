@@ -7,7 +7,7 @@ use Rattle.vfs_core.specs.declared.changed_file.Change.TheVariants.{Create, Modi
 use Rattle.vfs_core.specs.declared.changed_file.ChangedFile.{ChangedFile}
 use Rattle.vfs_core.specs.declared.marks.Mark.{Mark}
 use Rattle.vfs_core.specs.declared.marks.MarkKind.TheVariants.{Out}
-use Rattle.vfs_core.specs.Files.{Files, Follows, kind_of, number_of}
+use Rattle.vfs_core.specs.Files.{Files, Follows, kind_of, path_number}
 use Rattle.vfs_core.specs.Marks.{live_text}
 use Rattle.vfs_core.specs.VfsPath.{PathContent}
 
@@ -29,7 +29,7 @@ contents_after batch known file = contents_by (lookup (nat_eq file) batch) (know
 -- the batch brings what was known before it to the texts that live after marks
 pub record BringsTo (files : Files) (known : ℕ → Option (List ℕ)) (marks : List Mark) : Type 0 where
   pub each : (path : PathContent) (file : ℕ) (text : List ℕ)
-      → number_of files path ≡ Some file → live_text marks path ≡ Some text
+      → path_number files path ≡ Some file → live_text marks path ≡ Some text
       → contents_after files.batch known file ≡ Some text
 
 -- contents that come for a path are in the batch, where they change its file

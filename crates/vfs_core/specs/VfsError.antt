@@ -4,6 +4,6 @@ use Rattle.vfs_core.specs.declared.vfs.VfsError.{VfsError}
 use Rattle.vfs_core.specs.declared.vfs.VfsError.TheVariants.{TooMany, OutOfMemory}
 
 -- the text of a refusal
-abbrev pub error_text : VfsError → List ℕ
-error_text TooMany = codes "TooMany"
-error_text OutOfMemory = codes "OutOfMemory"
+abbrev pub vfs_error_text : VfsError → List ℕ
+vfs_error_text TooMany = codes "TooMany"
+vfs_error_text OutOfMemory = codes "OutOfMemory"

@@ -7,7 +7,7 @@ ghost use Rattle.std.specs.Result.{IsErrOf};
 ghost use Rattle.indexmap.specs.IndexMap.{spare};
 ghost use Rattle.vfs_core.specs.Batch.{with_change};
 ghost use Rattle.vfs_core.specs.Files.{bytes_of, existence_at, existing_files, is_change_at, lookup_result, no_files};
-ghost use Rattle.vfs_core.specs.Files.{number_for, number_of, numbered_path, path_at, paths_of, state_at, with_contents, with_state};
+ghost use Rattle.vfs_core.specs.Files.{number_for, path_number, numbered_path, path_at, paths_of, state_at, with_contents, with_state};
 ghost use Rattle.vfs_core.specs.Calls.{LeavesOut, SetsContents, TakesBatch};
 ghost use Rattle.vfs_core.specs.Files.{Follows, Gathers, GivesBatch, HasRoomFor, IsFullFor, KeepsCalls, KeepsMarks};
 ghost use Rattle.vfs_core.specs.Files.{KeepsNumbers, ListsLive};
@@ -57,9 +57,9 @@ impl<T: Drop> From<AllocFailed<T>> for VfsError {
 
 impl fmt::Display for VfsError {
     ghost use Rattle.std.specs.Prelude.{Some};
-    ghost use Rattle.vfs_core.specs.VfsError.{error_text};
+    ghost use Rattle.vfs_core.specs.VfsError.{vfs_error_text};
 
-    ghost output = { λ error. Some (error_text error) };
+    ghost output = { λ error. Some (vfs_error_text error) };
 
     fn fmt<W: fmt::Write>(&self, f: &mut fmt::Formatter<W>) -> fmt::Result {
         f.write_str(match self {
@@ -199,7 +199,7 @@ impl Vfs {
 
     /// The number of a path that was mentioned, also of one that is deleted or left out now.
     pub fn number_of(&self, path: &VfsPath) -> Option<FileId>
-        ensures { result ≡ number_of self.now path.now }
+        ensures { result ≡ path_number self.now path.now }
     {
         let (index, _, _) = self.entries.get_full(path)?;
         Some(FileId::from_raw(index as u32))
@@ -228,7 +228,7 @@ impl Vfs {
     pub fn file_path(&self, id: FileId) -> &VfsPath
         requires { id < length (paths_of self.now) }
         ensures path { path_at self.now id ≡ Some result.now }
-        ensures number { number_of self.now result.now ≡ Some id }
+        ensures number { path_number self.now result.now ≡ Some id }
     {
         let (path, _) = self.entries.get_index(id.index() as usize).unwrap();
         path

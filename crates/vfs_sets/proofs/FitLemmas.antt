@@ -4,10 +4,10 @@ use Rattle.std.proofs.Common.{add-one, ap, arith, get_or, if◌then◌else◌, l
 use Rattle.std.proofs.lemmas.Bool.{cond-true}
 use Rattle.std.proofs.lemmas.Bool.Decides.{nat_tests}
 use Rattle.vfs_core.specs.VfsPath.{PathContent}
-use Rattle.vfs_sets.specs.Placement.{IsPlaceOf, FitsNoRoot, fits, longest_reach, longest_reach_of_all, place_of, reach, takes}
+use Rattle.vfs_sets.specs.Placement.{IsPlaceOf, FitsNoRoot, fits_path, longest_reach, longest_reach_of_all, place_of, reach, takes_path}
 
 -- the reach of a root that fits
-reach-fits : (root path : PathContent) → fits root path ≡ true → reach root path ≡ length root.text + 1
+reach-fits : (root path : PathContent) → fits_path root path ≡ true → reach root path ≡ length root.text + 1
 reach-fits root path h = cond-true _ _ _ h
 
 -- a root with a reach fits: the same by whether it does
@@ -95,7 +95,7 @@ least-behind roots sets path number far short more (suc other) less rival own = 
 
 -- the same by whether the first set takes the path
 place-split : (roots : List PathContent) (sets : List (List PathContent)) (path : PathContent) (is_here : Bool)
-    → takes roots sets path ≡ is_here
+    → takes_path roots sets path ≡ is_here
     → (0 < longest_reach_of_all sets path → HasPlace sets path (place_of sets path))
     → 0 < max (longest_reach roots path) (longest_reach_of_all sets path)
     → HasPlace (roots ∷ sets) path (if is_here then 0 else place_of sets path + 1)
@@ -128,7 +128,7 @@ place-split roots sets path false h more some =
 place-has : (sets : List (List PathContent)) (path : PathContent) → 0 < longest_reach_of_all sets path
     → HasPlace sets path (place_of sets path)
 place-has [] path some = absurd (omega arith)
-place-has (roots ∷ sets) path some = place-split roots sets path (takes roots sets path) refl (place-has sets path) some
+place-has (roots ∷ sets) path some = place-split roots sets path (takes_path roots sets path) refl (place-has sets path) some
 
 -- where a set is computed, a root has a reach: the same by whether the first set takes the path
 some-split : (here behind place count : ℕ) (is_here : Bool) → (nat_lt 0 here && nat_le behind here) ≡ is_here
@@ -141,7 +141,7 @@ place-some : (sets : List (List PathContent)) (path : PathContent) → place_of 
 place-some [] path less = absurd (omega arith)
 place-some (roots ∷ sets) path less =
     some-split (longest_reach roots path) (longest_reach_of_all sets path) (place_of sets path) (length sets)
-    (takes roots sets path) refl (place-some sets path) (omega (arith, less))
+    (takes_path roots sets path) refl (place-some sets path) (omega (arith, less))
 
 -- where none is, no root has one
 none-here : (here behind : ℕ) → (nat_lt 0 here && nat_le behind here) ≡ false → behind ≡ 0 → here ≡ 0
@@ -160,7 +160,7 @@ place-none : (sets : List (List PathContent)) (path : PathContent) → place_of 
 place-none [] path last = refl
 place-none (roots ∷ sets) path last =
     none-split (longest_reach roots path) (longest_reach_of_all sets path) (place_of sets path) (length sets)
-    (takes roots sets path) refl (place-none sets path) (omega (arith, last))
+    (takes_path roots sets path) refl (place-none sets path) (omega (arith, last))
 
 -- a number that no lesser one may be is the least: the same by whether the other is lesser
 pub at_most-split : (number other : ℕ) (is_less : Bool) → nat_lt other number ≡ is_less → (other < number → ⊥) → number ≤ other
@@ -172,7 +172,7 @@ pub place_of_is : (sets : List (List PathContent)) (path : PathContent) → plac
     → IsPlaceOf sets path (place_of sets path)
 place_of_is sets path less =
     let has = place-has sets path (place-some sets path less) in
-    let begins : fits has.root path ≡ true = fits-split (length has.root.text) (fits has.root path) has.some in
+    let begins : fits_path has.root path ≡ true = fits-split (length has.root.text) (fits_path has.root path) has.some in
     let far = reach-fits has.root path begins in
     record {
       root = has.root;

@@ -9,9 +9,9 @@ use Rattle.std.specs.Cmp.Lexicographic.{bytes_decides, pointwise}
 use Rattle.std.specs.List.{list_any, position_from}
 use Rattle.std.specs.Str.{bytes_eq}
 use Rattle.vfs_core.specs.VfsPath.{PathContent}
-use Rattle.vfs_sets.specs.Placement.{FitsNoRoot, IsFit, IsPlaceOf, fits, place_of, placed_text}
+use Rattle.vfs_sets.specs.Placement.{FitsNoRoot, IsFit, IsPlaceOf, fits_path, place_of, placed_text}
 use Rattle.vfs_sets.specs.Probes.{CountsProbes, prefixes_tried, raised_by, tries_down_to}
-use Rattle.vfs_sets.specs.RootMaps.{HasNoPrefix, IsOfLongestPrefix, MapsRoots, is_root_of, number_at}
+use Rattle.vfs_sets.specs.RootMaps.{HasNoPrefix, IsOfLongestPrefix, MapsRoots, is_root_of, number_by_text}
 use Rattle.vfs_sets.proofs.CountLemmas.{raised_by-most}
 use Rattle.vfs_sets.proofs.FitLemmas.{at_most-split, fits_no_root, place_of_is, IsPlaceOf-one}
 use Rattle.vfs_sets.proofs.PlaceLemmas.{place_within}
@@ -89,7 +89,7 @@ least-is has start (roots ∷ sets) (suc j) within passes =
 abbrev IsPrefix : PathContent → PathContent → Type 0
 IsPrefix root path = root.text ≡ take (length root.text) (placed_text path)
 
-fit-prefix : (root path : PathContent) → fits root path ≡ true → IsPrefix root path
+fit-prefix : (root path : PathContent) → fits_path root path ≡ true → IsPrefix root path
 fit-prefix root path h =
     (bytes_decides root.text (take (length root.text) (placed_text path))).0
     (and_parts (beq root.is_virtual path.is_virtual) (pointwise nat_eq root.text (take (length root.text) (placed_text path))) h).1
@@ -138,7 +138,7 @@ probed_place {Z} sets path entries number before now maps longest =
     let size : length root.text ≡ longest.size = sym (ap length is) ∙ cut in
     let prefix : root.text ≡ take (length root.text) (placed_text path) =
     sym is ∙ ap (λ n. take n (placed_text path)) (sym size) in
-    let begins : fits root path ≡ true =
+    let begins : fits_path root path ≡ true =
     let same : pointwise nat_eq root.text (take (length root.text) (placed_text path)) ≡ true =
     (bytes_decides root.text (take (length root.text) (placed_text path))).1 prefix in
     rw (kind, same) refl in (
@@ -149,7 +149,7 @@ probed_place {Z} sets path entries number before now maps longest =
             let at = fit-found sets path other rival fit in
             let short = prefix-short rival path (fit-prefix rival path fit.begins) in
             let no_longer = at_most-split (length rival.text) longest.size (nat_lt longest.size (length rival.text)) refl (λ longer.
-            nothing (number_at (take (length rival.text) (placed_text path)) entries) at.0
+            nothing (number_by_text (take (length rival.text) (placed_text path)) entries) at.0
             (longest.none_longer (length rival.text) (prefixes_tried-each (placed_text path) (length rival.text) short) longer)
             (maps.each (take (length rival.text) (placed_text path)) ∙ at.1)) in
             omega (arith, no_longer, size);
@@ -170,7 +170,7 @@ pub probed_none : {Z : Type 0} (sets : List (List PathContent)) (path : PathCont
 probed_none sets path entries before now maps none = λ other rival fit.
     let at = fit-found sets path other rival fit in
     let short = prefix-short rival path (fit-prefix rival path fit.begins) in
-    nothing (number_at (take (length rival.text) (placed_text path)) entries) at.0
+    nothing (number_by_text (take (length rival.text) (placed_text path)) entries) at.0
     (none.none (length rival.text) (prefixes_tried-each (placed_text path) (length rival.text) short))
     (maps.each (take (length rival.text) (placed_text path)) ∙ at.1)
 

@@ -15,7 +15,7 @@ use Rattle.std.specs.Ordering.{nat_cmp}
 use Rattle.std.specs.Str.{bytes_eq}
 use Rattle.vfs_core.specs.VfsPath.{PathContent}
 use Rattle.vfs_sets.specs.Placement.{encoding}
-use Rattle.vfs_sets.specs.Roots.{AreRoots, PutsRoots, has_root, number_beside}
+use Rattle.vfs_sets.specs.Roots.{AreRoots, PutsRoots, has_encoding, number_beside}
 use Rattle.vfs_sets.proofs.PlaceLemmas.{drop_end}
 
 -- a look-up by order is one by the bytes
@@ -36,8 +36,8 @@ noted_after old new own number updates bytes =
 
 -- where roots are still to be noted: with those, each encoding has what it has after all
 pub record NotesRest (old now : List (List ℕ × ℕ)) (roots : List PathContent) (number index : ℕ) : Type 0 where
-  pub each : (bytes : List ℕ) → cond (has_root bytes (drop index roots)) (Some number) (number_beside bytes now)
-      ≡ cond (has_root bytes roots) (Some number) (number_beside bytes old)
+  pub each : (bytes : List ℕ) → cond (has_encoding bytes (drop index roots)) (Some number) (number_beside bytes now)
+      ≡ cond (has_encoding bytes roots) (Some number) (number_beside bytes old)
 
 -- before the first root
 pub rest_all : (old : List (List ℕ × ℕ)) (roots : List PathContent) (number : ℕ) → NotesRest old old roots number 0
@@ -64,12 +64,12 @@ rest_more old before after roots root own number index rest inside is own_is upd
     ∙ ap (λ n. root ∷ drop n roots) (sym (add-one index)) in
     record {
       each = λ bytes.
-          ap (λ (n : Option ℕ). cond (has_root bytes (drop (index + 1) roots)) (Some number) n)
+          ap (λ (n : Option ℕ). cond (has_encoding bytes (drop (index + 1) roots)) (Some number) n)
           (noted_after before after own number updates bytes
           ∙ ap (λ (o : List ℕ). cond (bytes_eq bytes o) (Some number) (number_beside bytes before.entries)) own_is)
-          ∙ either (bytes_eq bytes (encoding root)) (has_root bytes (drop (index + 1) roots)) (Some number)
+          ∙ either (bytes_eq bytes (encoding root)) (has_encoding bytes (drop (index + 1) roots)) (Some number)
           (number_beside bytes before.entries)
-          ∙ ap (λ (rs : List PathContent). cond (has_root bytes rs) (Some number) (number_beside bytes before.entries)) (sym cut)
+          ∙ ap (λ (rs : List PathContent). cond (has_encoding bytes rs) (Some number) (number_beside bytes before.entries)) (sym cut)
           ∙ rest.each bytes;
     }
 
@@ -78,7 +78,7 @@ pub rest_none : (old now : List (List ℕ × ℕ)) (roots : List PathContent) (n
     → index ≡ length roots → PutsRoots old now roots number
 rest_none old now roots number index rest e = record {
   each = λ bytes.
-      sym (ap (λ (rs : List PathContent). cond (has_root bytes rs) (Some number) (number_beside bytes now))
+      sym (ap (λ (rs : List PathContent). cond (has_encoding bytes rs) (Some number) (number_beside bytes now))
       (ap (λ n. drop n roots) e ∙ drop_end roots))
       ∙ rest.each bytes;
 }
@@ -86,7 +86,7 @@ rest_none old now roots number index rest e = record {
 -- where the sets from a number on are noted
 pub record NotesBehind (sets : List (List PathContent)) (pairs : List (List ℕ × ℕ)) (number : ℕ) : Type 0 where
   pub within : number ≤ length sets
-  pub each : (bytes : List ℕ) → number_beside bytes pairs ≡ position_from (has_root bytes) number (drop number sets)
+  pub each : (bytes : List ℕ) → number_beside bytes pairs ≡ position_from (has_encoding bytes) number (drop number sets)
 
 -- before the last set
 pub behind_none : (sets : List (List PathContent)) (pairs : List (List ℕ × ℕ)) → pairs ≡ [] → NotesBehind sets pairs (length sets)
@@ -94,7 +94,7 @@ behind_none sets pairs none = record {
   within = omega arith;
   each = λ bytes.
       ap (λ (ps : List (List ℕ × ℕ)). number_beside bytes ps) none
-      ∙ sym (ap (λ (s : List (List PathContent)). position_from (has_root bytes) (length sets) s) (drop_end sets));
+      ∙ sym (ap (λ (s : List (List PathContent)). position_from (has_encoding bytes) (length sets) s) (drop_end sets));
 }
 
 -- after one set more
@@ -110,9 +110,9 @@ behind_more sets old new roots before number behind next is notes =
       within = omega (arith, behind.within);
       each = λ bytes.
           notes.each bytes
-          ∙ ap (λ (n : Option ℕ). cond (has_root bytes roots) (Some number) n)
-          (behind.each bytes ∙ ap (λ n. position_from (has_root bytes) n (drop before sets)) (sym next))
-          ∙ ap (λ (s : List (List PathContent)). position_from (has_root bytes) number s) (sym cut);
+          ∙ ap (λ (n : Option ℕ). cond (has_encoding bytes roots) (Some number) n)
+          (behind.each bytes ∙ ap (λ n. position_from (has_encoding bytes) n (drop before sets)) (sym next))
+          ∙ ap (λ (s : List (List PathContent)). position_from (has_encoding bytes) number s) (sym cut);
     }
 
 -- after the first set
@@ -120,7 +120,7 @@ pub behind_all : (sets : List (List PathContent)) (pairs : List (List ℕ × ℕ
     → IsStrictlySortedBy (slice_cmp nat_cmp) (keys_of pairs) → AreRoots sets pairs
 behind_all sets pairs number behind none ordered = record {
   ascending = ordered;
-  each = λ bytes. behind.each bytes ∙ ap (λ n. position_from (has_root bytes) n (drop n sets)) none;
+  each = λ bytes. behind.each bytes ∙ ap (λ n. position_from (has_encoding bytes) n (drop n sets)) none;
 }
 
 -- a map's entries, taken one after the other, are its entries

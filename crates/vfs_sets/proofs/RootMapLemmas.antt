@@ -11,7 +11,7 @@ use Rattle.std.specs.Str.{bytes_eq}
 use Rattle.base_text_outside.specs.Causes.{next_count}
 use Rattle.vfs_core.specs.VfsPath.{PathContent}
 use Rattle.vfs_sets.specs.Probes.{raised_by}
-use Rattle.vfs_sets.specs.RootMaps.{MapsRoots, PutsRoot, PutsRootsOf, is_root_of, number_at}
+use Rattle.vfs_sets.specs.RootMaps.{MapsRoots, PutsRoot, PutsRootsOf, is_root_of, number_by_text}
 use Rattle.vfs_sets.proofs.PlaceLemmas.{drop_end}
 use Rattle.vfs_sets.proofs.RootLemmas.{either}
 
@@ -23,7 +23,7 @@ apart own text key differs same =
 -- other texts keep what stood beside them
 others-keep : {Z : Type 0} (own : Vec ℕ Z) (text : List ℕ) (old new : List (Vec ℕ Z × ℕ))
     → KeepsOthers (λ (x y : Vec ℕ Z). bytes_eq x.items y.items) (λ (k : Vec ℕ Z). bytes_eq own.items k.items) old new
-    → bytes_eq own.items text ≡ false → number_at text new ≡ number_at text old
+    → bytes_eq own.items text ≡ false → number_by_text text new ≡ number_by_text text old
 unfolding KeepsOthers
 others-keep {Z} own text old new keeps differs =
     keeps (λ (k : Vec ℕ Z). bytes_eq text k.items) (λ x y. nat_list_eq_equiv.congr text x.items y.items)
@@ -33,17 +33,17 @@ others-keep {Z} own text old new keeps differs =
 put-split : {Z S : Type 0} (old new : HashMap (Vec ℕ Z) ℕ S) (own : Vec ℕ Z) (number : ℕ)
     → Updates (λ (x y : Vec ℕ Z). bytes_eq x.items y.items) old new own (Some number)
     → (text : List ℕ) (is_own : Bool) → bytes_eq own.items text ≡ is_own
-    → number_at text new.entries ≡ cond is_own (Some number) (number_at text old.entries)
+    → number_by_text text new.entries ≡ cond is_own (Some number) (number_by_text text old.entries)
 put-split old new own number updates text true e =
-    subst (λ (t : List ℕ). number_at t new.entries ≡ Some number) ((bytes_decides own.items text).0 e) updates.1
+    subst (λ (t : List ℕ). number_by_text t new.entries ≡ Some number) ((bytes_decides own.items text).0 e) updates.1
 put-split old new own number updates text false e = others-keep own text old.entries new.entries updates.3 e
 
 put-after : {Z S : Type 0} (old new : HashMap (Vec ℕ Z) ℕ S) (own : Vec ℕ Z) (number : ℕ)
     → Updates (λ (x y : Vec ℕ Z). bytes_eq x.items y.items) old new own (Some number)
-    → (text : List ℕ) → number_at text new.entries ≡ cond (bytes_eq text own.items) (Some number) (number_at text old.entries)
+    → (text : List ℕ) → number_by_text text new.entries ≡ cond (bytes_eq text own.items) (Some number) (number_by_text text old.entries)
 put-after old new own number updates text =
     put-split old new own number updates text (bytes_eq own.items text) refl
-    ∙ ap (λ (b : Bool). cond b (Some number) (number_at text old.entries)) (nat_list_eq_equiv.symm own.items text)
+    ∙ ap (λ (b : Bool). cond b (Some number) (number_by_text text old.entries)) (nat_list_eq_equiv.symm own.items text)
 
 -- a root of the kind
 pub PutsRoot_own : {Z S : Type 0} (old new : HashMap (Vec ℕ Z) ℕ S) (own : Vec ℕ Z) (kind : Bool) (root : PathContent) (number : ℕ)
@@ -53,8 +53,8 @@ pub PutsRoot_own : {Z S : Type 0} (old new : HashMap (Vec ℕ Z) ℕ S) (own : V
 PutsRoot_own old new own kind root number same own_is updates = record {
   each = λ text.
       put-after old new own number updates text
-      ∙ ap (λ (t : List ℕ). cond (bytes_eq text t) (Some number) (number_at text old.entries)) own_is
-      ∙ sym (ap (λ (b : Bool). cond (b && bytes_eq text root.text) (Some number) (number_at text old.entries)) same);
+      ∙ ap (λ (t : List ℕ). cond (bytes_eq text t) (Some number) (number_by_text text old.entries)) own_is
+      ∙ sym (ap (λ (b : Bool). cond (b && bytes_eq text root.text) (Some number) (number_by_text text old.entries)) same);
 }
 
 -- a root of the other
@@ -62,15 +62,15 @@ pub PutsRoot_other : {Z : Type 0} (old new : List (Vec ℕ Z × ℕ)) (kind : Bo
     → beq root.is_virtual kind ≡ false → new ≡ old → PutsRoot kind root number old new
 PutsRoot_other old new kind root number differs same = record {
   each = λ text.
-      ap (number_at text) same
-      ∙ sym (ap (λ (b : Bool). cond (b && bytes_eq text root.text) (Some number) (number_at text old)) differs);
+      ap (number_by_text text) same
+      ∙ sym (ap (λ (b : Bool). cond (b && bytes_eq text root.text) (Some number) (number_by_text text old)) differs);
 }
 
 -- where roots are still to be put: with those, each text has what it has after all
 pub record PutsRest {Z : Type 0} (of : Bool × List PathContent) (number index : ℕ) (old now : List (Vec ℕ Z × ℕ)) : Type 0 where
   pub each : (text : List ℕ)
-      → cond (list_any (is_root_of of.0 text) (drop index of.1)) (Some number) (number_at text now)
-      ≡ cond (list_any (is_root_of of.0 text) of.1) (Some number) (number_at text old)
+      → cond (list_any (is_root_of of.0 text) (drop index of.1)) (Some number) (number_by_text text now)
+      ≡ cond (list_any (is_root_of of.0 text) of.1) (Some number) (number_by_text text old)
 
 -- before the first root
 pub puts_rest_all : {Z : Type 0} (kind : Bool) (roots : List PathContent) (number : ℕ) (old : List (Vec ℕ Z × ℕ))
@@ -90,8 +90,8 @@ puts_rest_more kind roots root number index old before after rest inside is puts
       each = λ text.
           ap (λ (n : Option ℕ). cond (list_any (is_root_of kind text) (drop (index + 1) roots)) (Some number) n) (puts.each text)
           ∙ either (is_root_of kind text root) (list_any (is_root_of kind text) (drop (index + 1) roots)) (Some number)
-          (number_at text before)
-          ∙ ap (λ (rs : List PathContent). cond (list_any (is_root_of kind text) rs) (Some number) (number_at text before)) (sym cut)
+          (number_by_text text before)
+          ∙ ap (λ (rs : List PathContent). cond (list_any (is_root_of kind text) rs) (Some number) (number_by_text text before)) (sym cut)
           ∙ rest.each text;
     }
 
@@ -100,7 +100,7 @@ pub puts_rest_none : {Z : Type 0} (kind : Bool) (roots : List PathContent) (numb
     → PutsRest (kind, roots) number index old now → index ≡ length roots → PutsRootsOf kind roots number old now
 puts_rest_none kind roots number index old now rest e = record {
   each = λ text.
-      sym (ap (λ (rs : List PathContent). cond (list_any (is_root_of kind text) rs) (Some number) (number_at text now))
+      sym (ap (λ (rs : List PathContent). cond (list_any (is_root_of kind text) rs) (Some number) (number_by_text text now))
       (ap (λ n. drop n roots) e ∙ drop_end roots))
       ∙ rest.each text;
 }
@@ -109,7 +109,7 @@ puts_rest_none kind roots number index old now rest e = record {
 pub record MapsBehind {Z : Type 0} (kind : Bool) (sets : List (List PathContent)) (number : ℕ) (entries : List (Vec ℕ Z × ℕ)) : Type 0 where
   pub within : number ≤ length sets
   pub each : (text : List ℕ)
-      → number_at text entries ≡ position_from (list_any (is_root_of kind text)) number (drop number sets)
+      → number_by_text text entries ≡ position_from (list_any (is_root_of kind text)) number (drop number sets)
 
 -- before the last set
 pub maps_behind_none : {Z : Type 0} (kind : Bool) (sets : List (List PathContent)) (entries : List (Vec ℕ Z × ℕ)) → entries ≡ []
@@ -117,7 +117,7 @@ pub maps_behind_none : {Z : Type 0} (kind : Bool) (sets : List (List PathContent
 maps_behind_none {Z} kind sets entries none = record {
   within = omega arith;
   each = λ text.
-      ap (λ (es : List (Vec ℕ Z × ℕ)). number_at text es) none
+      ap (λ (es : List (Vec ℕ Z × ℕ)). number_by_text text es) none
       ∙ sym (ap (λ (s : List (List PathContent)). position_from (list_any (is_root_of kind text)) (length sets) s) (drop_end sets));
 }
 

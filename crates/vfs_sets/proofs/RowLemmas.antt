@@ -8,8 +8,8 @@ use Rattle.std.specs.Map.Iter.{TakesFirst}
 use Rattle.indexmap.specs.IndexMap.{insert_entry}
 use Rattle.indexmap.proofs.MapLemmas.{absent_from_lookup, insert_entry-absent}
 use Rattle.vfs_core.specs.VfsPath.{PathContent, vfs_path_eq}
-use Rattle.vfs_sets.specs.FileSet.{FileSetContent, empty_set, file_at, files_eq, set_of, with_file}
-use Rattle.vfs_sets.specs.Rows.{ComparesNext, HasRoomFor, entries_eq, rows_content}
+use Rattle.vfs_sets.specs.FileSet.{FileSetContent, empty_set, file_at, files_eq, set_of, with_set_file}
+use Rattle.vfs_sets.specs.Rows.{ComparesNext, IsFreeOf, entries_eq, rows_content}
 
 -- a key that is not among some entries goes last
 goes_last : {K X : Type 0} (eq : K → K → Bool) (k : K) (v : X) (es : List (K × X)) → lookup (eq k) es ≡ None
@@ -17,8 +17,8 @@ goes_last : {K X : Type 0} (eq : K → K → Bool) (k : K) (v : X) (es : List (K
 goes_last eq k v es none = sym (insert_entry-absent eq k v es (absent_from_lookup (eq k) es none))
 
 -- the row of a new file and a new path is what puts the file at the path
-pub row_more : (rows : List (ℕ × PathContent)) (file : ℕ) (path : PathContent) → HasRoomFor (rows_content rows) file path
-    → rows_content (rows ++ (file, path) ∷ []) ≡ with_file (rows_content rows) file path
+pub row_more : (rows : List (ℕ × PathContent)) (file : ℕ) (path : PathContent) → IsFreeOf (rows_content rows) file path
+    → rows_content (rows ++ (file, path) ∷ []) ≡ with_set_file (rows_content rows) file path
 row_more rows file path room =
     let files_are = map-append (λ (row : ℕ × PathContent). (row.1, row.0)) rows ((file, path) ∷ [])
     ∙ goes_last vfs_path_eq path file (map (λ row. (row.1, row.0)) rows) room.no_file in
@@ -27,11 +27,11 @@ row_more rows file path room =
 
 -- so rows that hold what is put one after the other still do
 pub rows_more : (rows : List (ℕ × PathContent)) (file : ℕ) (path : PathContent) → set_of rows ≡ rows_content rows
-    → HasRoomFor (rows_content rows) file path
+    → IsFreeOf (rows_content rows) file path
     → set_of (rows ++ (file, path) ∷ []) ≡ rows_content (rows ++ (file, path) ∷ [])
 rows_more rows file path apart room =
-    fold-append (λ set f. with_file set f.0 f.1) empty_set rows ((file, path) ∷ [])
-    ∙ ap (λ (set : FileSetContent). with_file set file path) apart ∙ sym (row_more rows file path room)
+    fold-append (λ set f. with_set_file set f.0 f.1) empty_set rows ((file, path) ∷ [])
+    ∙ ap (λ (set : FileSetContent). with_set_file set file path) apart ∙ sym (row_more rows file path room)
 
 -- the file of the first row that is left, where that has the path, and else the one of the rows after it
 pub file_of_row : (rows : List (ℕ × PathContent)) (i : ℕ) (row : ℕ × PathContent) (path : PathContent) → i < length rows → row ≡ get_or rows i row
@@ -43,12 +43,12 @@ file_of_row rows i row path within is =
 
 -- what the first rows hold, with the next one
 pub taken_more : (rows : List (ℕ × PathContent)) (i : ℕ) (row : ℕ × PathContent) (path : PathContent) (set new : FileSetContent)
-    → i < length rows → row ≡ get_or rows i row → path ≡ row.1 → set ≡ set_of (take i rows) → new ≡ with_file set row.0 path
+    → i < length rows → row ≡ get_or rows i row → path ≡ row.1 → set ≡ set_of (take i rows) → new ≡ with_set_file set row.0 path
     → new ≡ set_of (take (i + 1) rows)
 taken_more rows i row path set new within is path_is before put =
-    put ∙ (λ j. with_file (before j) row.0 (path_is j))
-    ∙ ap (λ (r : ℕ × PathContent). with_file (set_of (take i rows)) r.0 r.1) is
-    ∙ sym (fold_more (λ set f. with_file set f.0 f.1) empty_set rows i row within)
+    put ∙ (λ j. with_set_file (before j) row.0 (path_is j))
+    ∙ ap (λ (r : ℕ × PathContent). with_set_file (set_of (take i rows)) r.0 r.1) is
+    ∙ sym (fold_more (λ set f. with_set_file set f.0 f.1) empty_set rows i row within)
 
 -- the rows of two lists are equal as what they hold is
 pub rows_eq : (xs ys : List (ℕ × PathContent)) → files_eq (rows_content xs) (rows_content ys) ≡ entries_eq nat_eq vfs_path_eq xs ys

@@ -36,8 +36,8 @@ files_equiv = and_equiv
     (lists_equiv (and_equiv (on_equiv (λ entry. entry.0) nat_eq_equiv) (on_equiv (λ entry. entry.1) vfs_path_equiv))))
 
 -- a set, with a file at a path
-abbrev pub with_file : FileSetContent → ℕ → PathContent → FileSetContent
-with_file set file path = record {
+abbrev pub with_set_file : FileSetContent → ℕ → PathContent → FileSetContent
+with_set_file set file path = record {
   files = insert_entry vfs_path_eq set.files path file;
   paths = insert_entry nat_eq set.paths file path;
 }
@@ -71,7 +71,7 @@ resolved_file set anchor tail =
 
 -- the set of some files, put one after the other
 abbrev pub set_of : List (ℕ × PathContent) → FileSetContent
-set_of files = fold (λ set file. with_file set file.0 file.1) empty_set files
+set_of files = fold (λ set file. with_set_file set file.0 file.1) empty_set files
 
 -- a number, as an iteration shows it
 abbrev pub number_shown : ℕ → ℕ

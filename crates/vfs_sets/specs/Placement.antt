@@ -17,13 +17,13 @@ abbrev pub placed_text : PathContent → List ℕ
 placed_text path = unwrap_or (text_above path) path.text
 
 -- a root fits a path of its kind, where its bytes begin that text
-abbrev pub fits : PathContent → PathContent → Bool
-fits root path = beq root.is_virtual path.is_virtual && starts_with nat_eq (placed_text path) root.text
+abbrev pub fits_path : PathContent → PathContent → Bool
+fits_path root path = beq root.is_virtual path.is_virtual && starts_with nat_eq (placed_text path) root.text
 
 -- a root of a set fits a path
 pub record IsFit (sets : List (List PathContent)) (path : PathContent) (number : ℕ) (root : PathContent) : Type 0 where
   pub own : Contains (slice_index_or sets number []) root
-  pub begins : IsTrue (fits root path)
+  pub begins : IsTrue (fits_path root path)
 
 -- the set that takes a path: a root of it fits, none that fits is longer, and no lesser set has one as long
 pub record IsPlaceOf (sets : List (List PathContent)) (path : PathContent) (number : ℕ) : Type 0 where
@@ -42,7 +42,7 @@ FitsNoRoot sets path = (number : ℕ) (root : PathContent) → IsFit sets path n
 
 -- one more than the length of a root that fits, and 0 for one that does not
 abbrev pub reach : PathContent → PathContent → ℕ
-reach root path = if fits root path then length root.text + 1 else 0
+reach root path = if fits_path root path then length root.text + 1 else 0
 
 -- the reach of the longest root that fits
 abbrev pub longest_reach : List PathContent → PathContent → ℕ
@@ -55,13 +55,13 @@ longest_reach_of_all [] path = 0
 longest_reach_of_all (roots ∷ sets) path = max (longest_reach roots path) (longest_reach_of_all sets path)
 
 -- a set takes a path where a root of it fits and no set behind it has a longer one
-abbrev pub takes : List PathContent → List (List PathContent) → PathContent → Bool
-takes roots behind path = nat_lt 0 (longest_reach roots path) && nat_le (longest_reach_of_all behind path) (longest_reach roots path)
+abbrev pub takes_path : List PathContent → List (List PathContent) → PathContent → Bool
+takes_path roots behind path = nat_lt 0 (longest_reach roots path) && nat_le (longest_reach_of_all behind path) (longest_reach roots path)
 
 -- the first set that takes a path, or the number of sets
 abbrev pub place_of : List (List PathContent) → PathContent → ℕ
 place_of [] path = 0
-place_of (roots ∷ sets) path = if takes roots sets path then 0 else place_of sets path + 1
+place_of (roots ∷ sets) path = if takes_path roots sets path then 0 else place_of sets path + 1
 
 -- the set of a path, where a root fits
 abbrev pub class_of : List (List PathContent) → PathContent → Option ℕ

@@ -19,8 +19,8 @@ abbrev pub first_set_of : Bool → List ℕ → List (List PathContent) → Opti
 first_set_of kind text sets = position_from (list_any (is_root_of kind text)) 0 sets
 
 -- the number that stands beside a text, or none
-abbrev pub number_at : {Z : Type 0} → List ℕ → List (Vec ℕ Z × ℕ) → Option ℕ
-number_at text entries = lookup (λ key. bytes_eq text key.items) entries
+abbrev pub number_by_text : {Z : Type 0} → List ℕ → List (Vec ℕ Z × ℕ) → Option ℕ
+number_by_text text entries = lookup (λ key. bytes_eq text key.items) entries
 
 -- the length of the longest text of some roots, and 0 for no root
 abbrev pub longest_text : List PathContent → ℕ
@@ -34,11 +34,11 @@ longest_text_of_all (roots ∷ sets) = max (longest_text roots) (longest_text_of
 
 -- no number stands beside a text of more bytes
 abbrev pub HasTextsUpTo : {Z : Type 0} → ℕ → List (Vec ℕ Z × ℕ) → Type 0
-HasTextsUpTo longest entries = (text : List ℕ) → longest < length text → number_at text entries ≡ None
+HasTextsUpTo longest entries = (text : List ℕ) → longest < length text → number_by_text text entries ≡ None
 
 -- beside each text stands the first set with a root of the kind and that text, where there is one
 pub record MapsRoots {Z : Type 0} (kind : Bool) (sets : List (List PathContent)) (entries : List (Vec ℕ Z × ℕ)) : Type 0 where
-  pub each : (text : List ℕ) → number_at text entries ≡ first_set_of kind text sets
+  pub each : (text : List ℕ) → number_by_text text entries ≡ first_set_of kind text sets
 
 -- the real and the virtual roots have each a map
 pub record HasRootMaps {Z : Type 0} (sets : List (List PathContent)) (real_roots virtual_roots : List (Vec ℕ Z × ℕ)) : Type 0 where
@@ -48,23 +48,23 @@ pub record HasRootMaps {Z : Type 0} (sets : List (List PathContent)) (real_roots
 -- a set's number stands beside the text of a root, where that is of a kind, and beside each other text what stood there
 pub record PutsRoot {Z : Type 0} (kind : Bool) (root : PathContent) (number : ℕ) (old new : List (Vec ℕ Z × ℕ)) : Type 0 where
   pub each : (text : List ℕ)
-      → number_at text new ≡ (if is_root_of kind text root then Some number else number_at text old)
+      → number_by_text text new ≡ (if is_root_of kind text root then Some number else number_by_text text old)
 
 -- the same of the roots of a set
 pub record PutsRootsOf {Z : Type 0} (kind : Bool) (roots : List PathContent) (number : ℕ) (old new : List (Vec ℕ Z × ℕ)) : Type 0 where
   pub each : (text : List ℕ)
-      → number_at text new ≡ (if list_any (is_root_of kind text) roots then Some number else number_at text old)
+      → number_by_text text new ≡ (if list_any (is_root_of kind text) roots then Some number else number_by_text text old)
 
 -- a number stands beside the longest prefix tried that has one, and each prefix down to that one was counted
 pub record IsOfLongestPrefix {Z : Type 0} (entries : List (Vec ℕ Z × ℕ)) (text : List ℕ) (number before now : ℕ) : Type 0 where
   pub size : ℕ
   pub counts : now ≡ raised_by (tries_down_to size text) before
   pub tried : Contains (prefixes_tried text) size
-  pub has : number_at (take size text) entries ≡ Some number
+  pub has : number_by_text (take size text) entries ≡ Some number
   pub none_longer : (longer : ℕ) → Contains (prefixes_tried text) longer → size < longer
-      → number_at (take longer text) entries ≡ None
+      → number_by_text (take longer text) entries ≡ None
 
 -- no prefix tried has a number, and each was counted
 pub record HasNoPrefix {Z : Type 0} (entries : List (Vec ℕ Z × ℕ)) (text : List ℕ) (before now : ℕ) : Type 0 where
   pub counts : now ≡ raised_by (length (prefixes_tried text)) before
-  pub none : (size : ℕ) → Contains (prefixes_tried text) size → number_at (take size text) entries ≡ None
+  pub none : (size : ℕ) → Contains (prefixes_tried text) size → number_by_text (take size text) entries ≡ None

@@ -11,12 +11,12 @@ use Rattle.vfs_core.specs.VfsPath.{PathContent}
 use Rattle.vfs_sets.specs.Placement.{encoding}
 
 -- whether one of the roots has an encoding
-abbrev pub has_root : List ℕ → List PathContent → Bool
-has_root bytes roots = list_any (λ root. bytes_eq bytes (encoding root)) roots
+abbrev pub has_encoding : List ℕ → List PathContent → Bool
+has_encoding bytes roots = list_any (λ root. bytes_eq bytes (encoding root)) roots
 
 -- the first set with a root of an encoding, or none
 abbrev pub first_with : List ℕ → List (List PathContent) → Option ℕ
-first_with bytes sets = position_from (has_root bytes) 0 sets
+first_with bytes sets = position_from (has_encoding bytes) 0 sets
 
 -- the number that stands beside an encoding, or none
 abbrev pub number_beside : List ℕ → List (List ℕ × ℕ) → Option ℕ
@@ -30,4 +30,4 @@ pub record AreRoots (sets : List (List PathContent)) (pairs : List (List ℕ × 
 -- a set's number stands beside the encoding of each of its roots, and beside each other encoding what stood there
 pub record PutsRoots (old new : List (List ℕ × ℕ)) (roots : List PathContent) (number : ℕ) : Type 0 where
   pub each : (bytes : List ℕ)
-      → number_beside bytes new ≡ (if has_root bytes roots then Some number else number_beside bytes old)
+      → number_beside bytes new ≡ (if has_encoding bytes roots then Some number else number_beside bytes old)

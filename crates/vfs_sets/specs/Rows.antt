@@ -10,7 +10,7 @@ abbrev pub rows_content : List (ℕ × PathContent) → FileSetContent
 rows_content rows = record { files = map (λ row. (row.1, row.0)) rows; paths = rows }
 
 -- neither a file nor a path is in a set
-pub record HasRoomFor (set : FileSetContent) (file : ℕ) (path : PathContent) : Type 0 where
+pub record IsFreeOf (set : FileSetContent) (file : ℕ) (path : PathContent) : Type 0 where
   pub no_file : file_at set path ≡ None
   pub no_path : path_of set file ≡ None
 

@@ -2,7 +2,7 @@
 
 ghost use Rattle.std.specs.Prelude.{◌≡◌, IfOk, OnErr, OnOk, length};
 ghost use Rattle.std.specs.Option.{option_copied};
-ghost use Rattle.vfs_sets.specs.FileSet.{empty_set, file_at, files_eq, path_of, set_of, with_file};
+ghost use Rattle.vfs_sets.specs.FileSet.{empty_set, file_at, files_eq, path_of, set_of, with_set_file};
 ghost use Rattle.vfs_sets.specs.Rows.{ComparesNext, rows_content};
 
 use base_text_paths::{FileId, TryClone, copy_entries};
@@ -63,7 +63,7 @@ impl FileMaps {
         file: FileId,
         path: VfsPath,
     ) -> Result<(), AllocError>
-        ensures ok { OnOk result (self.new ≡ with_file self.old file path) }
+        ensures ok { OnOk result (self.new ≡ with_set_file self.old file path) }
         ensures err { OnErr result (self.new ≡ self.old) }
     {
         let copy = path.try_clone(alloc)?;

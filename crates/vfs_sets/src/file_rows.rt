@@ -2,8 +2,8 @@
 
 ghost use Rattle.std.specs.Prelude.{◌≡◌, OnErr, OnOk, IsTrue, length};
 ghost use Rattle.std.specs.Option.{option_copied};
-ghost use Rattle.vfs_sets.specs.FileSet.{empty_set, file_at, path_of, set_of, with_file};
-ghost use Rattle.vfs_sets.specs.Rows.{rows_content, HasRoomFor};
+ghost use Rattle.vfs_sets.specs.FileSet.{empty_set, file_at, path_of, set_of, with_set_file};
+ghost use Rattle.vfs_sets.specs.Rows.{rows_content, IsFreeOf};
 
 use base_text_paths::{FileId, TryClone, copy_items};
 use std::alloc::{AllocError, Global};
@@ -49,15 +49,15 @@ impl FileRows {
 
     /// Whether a file can be put at a path as one more row.
     pub(crate) fn has_room_for(&self, file: FileId, path: &VfsPath) -> bool
-        ensures { IsTrue result → HasRoomFor self.now file path.now }
+        ensures { IsTrue result → IsFreeOf self.now file path.now }
     {
         self.rows.len() < MOST && self.file_at(path).is_none() && self.path_of(&file).is_none()
     }
 
     /// Puts a file at a path as one more row.
     pub(crate) fn push(&mut self, file: FileId, path: VfsPath) -> Result<(), AllocError>
-        requires { HasRoomFor self.old file path }
-        ensures ok { OnOk result (self.new ≡ with_file self.old file path) }
+        requires { IsFreeOf self.old file path }
+        ensures ok { OnOk result (self.new ≡ with_set_file self.old file path) }
         ensures err { OnErr result (self.new ≡ self.old) }
     {
         self.rows.push((file, path))?;

@@ -4,7 +4,7 @@ ghost use Rattle.std.specs.Prelude.{◌≡◌, IfOk, OnErr, OnOk, length};
 ghost use Rattle.std.specs.Map.{keys_of};
 ghost use Rattle.std.specs.Map.Iter.{ShowsInOrder};
 ghost use Rattle.std.specs.Option.{option_copied};
-ghost use Rattle.vfs_sets.specs.FileSet.{sibling_path, empty_set, file_at, number_shown, path_of, resolved_file, set_of, with_file};
+ghost use Rattle.vfs_sets.specs.FileSet.{sibling_path, empty_set, file_at, number_shown, path_of, resolved_file, set_of, with_set_file};
 
 use crate::file_maps::FileMaps;
 use crate::file_rows::FileRows;
@@ -59,7 +59,7 @@ impl FileSet {
 
     /// Puts a file at a path. What either had before is overwritten, and a file keeps its place in the order.
     pub fn insert(&mut self, file_id: FileId, path: VfsPath) -> Result<(), AllocError>
-        ensures ok { OnOk result (self.new ≡ with_file self.old file_id path) }
+        ensures ok { OnOk result (self.new ≡ with_set_file self.old file_id path) }
         ensures err { OnErr result (self.new ≡ self.old) }
     {
         match &mut self.content {
@@ -180,7 +180,7 @@ fn maps_with(
     file: FileId,
     path: VfsPath,
 ) -> Result<Box<FileMaps>, AllocError>
-    ensures { IfOk result (λ maps. maps.value ≡ with_file (set_of rows.now) file path) }
+    ensures { IfOk result (λ maps. maps.value ≡ with_set_file (set_of rows.now) file path) }
 {
     let mut maps = Box::new(alloc, FileMaps::of_rows(alloc, rows)?)?;
     maps.insert(alloc, file, path)?;

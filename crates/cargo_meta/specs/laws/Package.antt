@@ -11,7 +11,7 @@ use Rattle.json_fields.specs.Laws.TextForms.{bare-round_trips, version-round_tri
 use Rattle.json_fields.specs.RoundTrip.{IsKept, RoundTrips}
 use Rattle.cargo_meta_values.specs.Kinds.{edition_of}
 use Rattle.cargo_meta.specs.NewPackage.{new_package}
-use Rattle.cargo_meta.specs.Package.{body_from, body_set, head_from, head_rows, head_set, of_head, package_at, package_data, package_from, package_members, tail_from, tail_set}
+use Rattle.cargo_meta.specs.Package.{body_from, body_set, package_head_from, head_rows, package_head_set, of_head, package_at, package_data, package_from, package_members, package_tail_from, package_tail_set}
 use Rattle.cargo_meta_values.specs.declared.kinds.Edition.TheVariants.{E2015}
 use Rattle.cargo_meta.specs.declared.package.Package.{Package}
 use Rattle.cargo_meta_values.specs.laws.Dependency.{dependency-round_trips}
@@ -32,22 +32,22 @@ abbrev with_tail : Package → Package → Package
 with_tail q p = record q { homepage = p.homepage; documentation = p.documentation; edition = p.edition; metadata = p.metadata; links = p.links; publish = p.publish; default_run = p.default_run; rust_version = p.rust_version }
 
 -- the rows of one group do not read what another sets
-body_from-head_set : (q p : Package) (ms : Members) → body_from q (head_set p ms) ≡ body_from q ms
-unfolding body_from head_set
+body_from-head_set : (q p : Package) (ms : Members) → body_from q (package_head_set p ms) ≡ body_from q ms
+unfolding body_from package_head_set
 body_from-head_set q p ms = simp (required_member-set_member, optional_member-set_member, default_member-set_member)
 
-tail_from-head_set : (q p : Package) (ms : Members) → tail_from q (head_set p ms) ≡ tail_from q ms
-unfolding tail_from head_set
+tail_from-head_set : (q p : Package) (ms : Members) → package_tail_from q (package_head_set p ms) ≡ package_tail_from q ms
+unfolding package_tail_from package_head_set
 tail_from-head_set q p ms = simp (required_member-set_member, optional_member-set_member, default_member-set_member)
 
-tail_from-body_set : (q p : Package) (ms : Members) → tail_from q (body_set p ms) ≡ tail_from q ms
-unfolding tail_from body_set
+tail_from-body_set : (q p : Package) (ms : Members) → package_tail_from q (body_set p ms) ≡ package_tail_from q ms
+unfolding package_tail_from body_set
 tail_from-body_set q p ms = simp (required_member-set_member, optional_member-set_member, default_member-set_member)
 
 -- the rows of each group are kept
 record HeadKept (may_float : Bool) (n : ℕ) (p : Package) : Type 0 where
-  pub again : (ms : Members) → head_from (head_set p ms) ≡ Ok (with_head p)
-  pub written : (ws : Members) → AreWritten may_float n ws → AreWritten may_float n (head_set p ws)
+  pub again : (ms : Members) → package_head_from (package_head_set p ms) ≡ Ok (with_head p)
+  pub written : (ws : Members) → AreWritten may_float n ws → AreWritten may_float n (package_head_set p ws)
 
 -- the middle group
 record BodyKept (may_float : Bool) (n : ℕ) (p : Package) : Type 0 where
@@ -56,12 +56,12 @@ record BodyKept (may_float : Bool) (n : ℕ) (p : Package) : Type 0 where
 
 -- the last group
 record TailKept (may_float : Bool) (n : ℕ) (p : Package) : Type 0 where
-  pub again : (q : Package) → tail_from q (tail_set p no_members) ≡ Ok (with_tail q p)
-  pub written : (ws : Members) → AreWritten may_float n ws → AreWritten may_float n (tail_set p ws)
+  pub again : (q : Package) → package_tail_from q (package_tail_set p no_members) ≡ Ok (with_tail q p)
+  pub written : (ws : Members) → AreWritten may_float n ws → AreWritten may_float n (package_tail_set p ws)
 
 module _ (ms : Members) {n : ℕ} (within : AreWithin n ms) (low : 3 ≤ n) (some : 1 ≤ n) (none : 0 ≤ n) where
   head_rows-kept : ReadsAs (head_rows ms) (λ h. HeadKept (members_have_float ms) n (of_head h))
-  unfolding head_from head_rows head_set
+  unfolding package_head_from head_rows package_head_set
   head_rows-kept =
       and_then (required_member-kept text-round_trips none within (codes "name")) λ name name_h.
       and_then (required_member-kept version-round_trips none within (codes "version")) λ version version_h.
@@ -86,12 +86,12 @@ module _ (ms : Members) {n : ℕ} (within : AreWithin n ms) (low : 3 ≤ n) (som
             before)))))));
       })
 
-  head-kept : ReadsAs (head_from ms) (HeadKept (members_have_float ms) n)
-  unfolding head_from
+  head-kept : ReadsAs (package_head_from ms) (HeadKept (members_have_float ms) n)
+  unfolding package_head_from
   head-kept = and_then head_rows-kept λ h kept. at_last kept
 
   body-kept : (h : Package) → HeadKept (members_have_float ms) n h → ReadsAs (body_from h ms) (λ p. HeadKept (members_have_float ms) n p × BodyKept (members_have_float ms) n p)
-  unfolding body_from body_set head_set
+  unfolding body_from body_set package_head_set
   body-kept h head =
       and_then (optional_member-kept text-round_trips none within (λ x. refl) (codes "license_file")) λ license_file license_file_h.
       and_then (required_member-kept (list-round_trips _ _ _ target-round_trips) low within (codes "targets")) λ targets targets_h.
@@ -120,8 +120,8 @@ module _ (ms : Members) {n : ℕ} (within : AreWithin n ms) (low : 3 ≤ n) (som
       )
 
   tail-kept : (b : Package) → HeadKept (members_have_float ms) n b → BodyKept (members_have_float ms) n b
-      → ReadsAs (tail_from b ms) (λ p. HeadKept (members_have_float ms) n p × BodyKept (members_have_float ms) n p × TailKept (members_have_float ms) n p)
-  unfolding tail_from tail_set head_set body_set edition_of
+      → ReadsAs (package_tail_from b ms) (λ p. HeadKept (members_have_float ms) n p × BodyKept (members_have_float ms) n p × TailKept (members_have_float ms) n p)
+  unfolding package_tail_from package_tail_set package_head_set body_set edition_of
   tail-kept b head body =
       and_then (optional_member-kept text-round_trips none within (λ x. refl) (codes "homepage")) λ homepage homepage_h.
       and_then (optional_member-kept text-round_trips none within (λ x. refl) (codes "documentation")) λ documentation documentation_h.
@@ -152,14 +152,14 @@ module _ (ms : Members) {n : ℕ} (within : AreWithin n ms) (low : 3 ≤ n) (som
 
 -- a package whose groups are each kept is read again
 package_from-again : (p : Package)
-    → ((ms : Members) → head_from (head_set p ms) ≡ Ok (with_head p)) → ((q : Package) (ms : Members) → body_from q (body_set p ms) ≡ Ok (with_body q p))
-    → ((q : Package) → tail_from q (tail_set p no_members) ≡ Ok (with_tail q p)) → package_from (package_members p) ≡ Ok p
+    → ((ms : Members) → package_head_from (package_head_set p ms) ≡ Ok (with_head p)) → ((q : Package) (ms : Members) → body_from q (body_set p ms) ≡ Ok (with_body q p))
+    → ((q : Package) → package_tail_from q (package_tail_set p no_members) ≡ Ok (with_tail q p)) → package_from (package_members p) ≡ Ok p
 unfolding package_from package_members
 package_from-again p head body tail =
-    let last = tail_set p no_members in
+    let last = package_tail_set p no_members in
     let below = body_set p last in
-    let body_read : body_from (with_head p) (head_set p below) ≡ Ok (with_body (with_head p) p) = body_from-head_set (with_head p) p below ∙ body (with_head p) last in
-    let tail_read : tail_from (with_body (with_head p) p) (head_set p below) ≡ Ok p =
+    let body_read : body_from (with_head p) (package_head_set p below) ≡ Ok (with_body (with_head p) p) = body_from-head_set (with_head p) p below ∙ body (with_head p) last in
+    let tail_read : package_tail_from (with_body (with_head p) p) (package_head_set p below) ≡ Ok p =
     tail_from-head_set (with_body (with_head p) p) p below ∙ (tail_from-body_set (with_body (with_head p) p) p last ∙ tail (with_body (with_head p) p)) in
     rw (head below, body_read) tail_read
 

@@ -8,8 +8,8 @@ ghost use Rattle.base_text_paths.specs.Arena.{number_of};
 ghost use Rattle.graph_base.specs.Kept.{IsClosed, is_named, kept_below, kept_rows};
 ghost use Rattle.crate_graph.specs.Order.{IsOrderOf};
 ghost use Rattle.crate_graph.specs.Suborder.{kept_nodes, new_number};
-ghost use Rattle.crate_graph.specs.Graph.{edges, row_of, target_of};
-ghost use Rattle.crate_graph.specs.Prune.{KeepsNamed, Stays, kept_crates, number_at};
+ghost use Rattle.crate_graph.specs.Graph.{edges, dependency_row, target_of};
+ghost use Rattle.crate_graph.specs.Prune.{KeepsNamed, Stays, kept_crates, number_after_prune};
 ghost use Rattle.crate_graph.specs.Prune.{renumbered_crate};
 
 use crate::graph::CrateGraphBuilder;
@@ -110,7 +110,7 @@ fn numbers_of(alloc: Global, ids: &[CrateBuilderId]) -> Result<Vec<u32>, AllocEr
 
 // Whether a list names all that a crate depends on.
 fn names_all(to_keep: &[CrateBuilderId], krate: &CrateBuilder) -> bool
-    ensures { result ≡ list_all (is_named (map number_of to_keep.now)) (row_of krate.now) }
+    ensures { result ≡ list_all (is_named (map number_of to_keep.now)) (dependency_row krate.now) }
 {
     for dep in krate.basic.dependencies.as_slice() {
         if !names(to_keep, dep.crate_id) {
@@ -181,7 +181,7 @@ fn renumbered_copy(
     numbers: &[u32],
 ) -> Result<CrateBuilder, AllocError>
     requires { All (λ dep. target_of dep < length numbers.now) krate.now.basic.dependencies }
-    ensures { IfOk result (λ copy. copy ≡ renumbered_crate (number_at numbers.now) krate.now) }
+    ensures { IfOk result (λ copy. copy ≡ renumbered_crate (number_after_prune numbers.now) krate.now) }
 {
     let deps = renamed_dependencies(alloc, numbers, krate.basic.dependencies.as_slice())?;
     let mut copy = krate.try_clone(alloc)?;

@@ -1,7 +1,7 @@
 //! The crates of a graph that are finished.
 
 ghost use Rattle.std.specs.Prelude.{◌≡◌, ◌<◌, IfOk, OnOk, length};
-ghost use Rattle.input_db.specs.FinishSteps.{is_first_of_root, none_finished, with_finished};
+ghost use Rattle.input_db.specs.FinishSteps.{is_first_of_root, none_finished, with_finished_crate};
 
 use crate::crate_input::Crate;
 use base_text_paths::FileId;
@@ -59,7 +59,7 @@ impl FinishedCrates {
     // A crate is finished.
     pub(super) fn note(&mut self, number: u32, file: FileId, given: Crate) -> Result<(), AllocError>
         requires { number < length self.old.numbers }
-        ensures { OnOk result (self.new ≡ with_finished self.old number file given) }
+        ensures { OnOk result (self.new ≡ with_finished_crate self.old number file given) }
     {
         self.numbers[number as usize] = given;
         self.roots.insert(file)?;

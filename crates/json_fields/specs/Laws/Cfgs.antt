@@ -7,7 +7,7 @@ use Rattle.std.specs.Prelude.{slice_range}
 use Rattle.std.specs.Option.{option_map}
 use Rattle.std.specs.Result.{IfOk}
 use Rattle.base_text_outside.proofs.CfgLemmas.{with_last}
-use Rattle.base_text_outside.specs.Cfg.{atom_of, is_equals, text_of, unquote}
+use Rattle.base_text_outside.specs.Cfg.{atom_of, is_equals, atom_text, unquote}
 use Rattle.base_text_outside.specs.declared.cfg.CfgAtom.{CfgAtom}
 use Rattle.base_text_outside.specs.declared.cfg.CfgAtom.TheVariants.{Flag, KeyValue}
 use Rattle.json_fields.specs.Cfg.{cfg_at, cfg_data, cfg_of, named_or_missed}
@@ -52,27 +52,27 @@ between_quotes (b ∷ rest) value is =
     rw (front, whole, inner) refl
 
 -- the text of the atom that a text names is that text
-text_of-named : (text : List ℕ) (atom : CfgAtom) → atom_of text ≡ Some atom → text_of atom ≡ text
-unfolding atom_of text_of
+text_of-named : (text : List ℕ) (atom : CfgAtom) → atom_of text ≡ Some atom → atom_text atom ≡ text
+unfolding atom_of atom_text
 text_of-named text atom is = by_equals (list_any is_equals text) refl is
   where
     by_quotes : (o : Option (List ℕ)) → list_any is_equals text ≡ true → unquote (after_first is_equals text) ≡ o
-        → option_map (λ value. KeyValue (before_first is_equals text) value) o ≡ Some atom → text_of atom ≡ text
+        → option_map (λ value. KeyValue (before_first is_equals text) value) o ≡ Some atom → atom_text atom ≡ text
     by_quotes None some quoted named = cc
     by_quotes (Some value) some quoted named =
         let keyed : atom ≡ KeyValue (before_first is_equals text) value = cc in
-        let printed : text_of (KeyValue (before_first is_equals text) value) ≡ before_first is_equals text ++ 61 ∷ 34 ∷ (value ++ 34 ∷ []) = simp append_assoc in
-        ap text_of keyed ∙ printed ∙ ap (λ after. before_first is_equals text ++ 61 ∷ after) (sym (between_quotes _ value quoted)) ∙ sym (split_at_equals text some)
+        let printed : atom_text (KeyValue (before_first is_equals text) value) ≡ before_first is_equals text ++ 61 ∷ 34 ∷ (value ++ 34 ∷ []) = simp append_assoc in
+        ap atom_text keyed ∙ printed ∙ ap (λ after. before_first is_equals text ++ 61 ∷ after) (sym (between_quotes _ value quoted)) ∙ sym (split_at_equals text some)
 
     by_equals : (some : Bool) → list_any is_equals text ≡ some
-        → cond some (option_map (λ value. KeyValue (before_first is_equals text) value) (unquote (after_first is_equals text))) (Some (Flag text)) ≡ Some atom → text_of atom ≡ text
+        → cond some (option_map (λ value. KeyValue (before_first is_equals text) value) (unquote (after_first is_equals text))) (Some (Flag text)) ≡ Some atom → atom_text atom ≡ text
     by_equals true some named = by_quotes (unquote (after_first is_equals text)) some refl named
     by_equals false none named =
         let flag : atom ≡ Flag text = cc in
-        ap text_of flag
+        ap atom_text flag
 
 -- an atom is read again from its text
-pub cfg_of-again : (text : List ℕ) → IfOk (cfg_of text) (λ atom. cfg_of (text_of atom) ≡ Ok atom)
+pub cfg_of-again : (text : List ℕ) → IfOk (cfg_of text) (λ atom. cfg_of (atom_text atom) ≡ Ok atom)
 unfolding cfg_of
 cfg_of-again text = read-as (named_or_missed (atom_of text)) λ atom h.
     ap (λ t. named_or_missed (atom_of t)) (text_of-named text atom (named_as (atom_of text) h)) ∙ h
@@ -83,4 +83,4 @@ cfg_of-again text = read-as (named_or_missed (atom_of text)) λ atom h.
 
 -- atoms of conditional compilation
 pub cfg-round_trips : RoundTrips cfg_at cfg_data 0
-cfg-round_trips = text_form-round_trips cfg_of text_of cfg_of-again
+cfg-round_trips = text_form-round_trips cfg_of atom_text cfg_of-again

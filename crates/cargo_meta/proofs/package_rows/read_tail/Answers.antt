@@ -1,10 +1,10 @@
 use Rattle.std.proofs.Common.{refl}
-use Rattle.cargo_meta.specs.Package.{tail_from}
+use Rattle.cargo_meta.specs.Package.{package_tail_from}
 use Rattle.cargo_meta.proofs.package_rows.read_tail.Goals as goal
 use Rattle.json_fields.proofs.Steps.{read_rows, read_on}
 
 pub returns : goal.returns
-unfolding tail_from
+unfolding package_tail_from
 returns c =
     let metadata = rw c.null.ensures at c.in_ok-metadata.ensures.exact in
     record {

@@ -8,7 +8,7 @@ use Rattle.std.proofs.lemmas.Option.{slice_get-get_or}
 use Rattle.input_db.specs.Identity.{named_in}
 use Rattle.input_db.specs.Identity.{data_of, number_in}
 use Rattle.input_db.specs.FinishSteps.{FinishedCrates, Progress, finish_crate, progress_after, none_finished}
-use Rattle.input_db.specs.SetInDb.{crate_at}
+use Rattle.input_db.specs.SetInDb.{finished_crate}
 use Rattle.crate_graph.proofs.ExtendLemmas.{targets_within}
 use Rattle.crate_graph.proofs.GraphLemmas.{length-edges}
 use Rattle.input_db.proofs.KnownLemmas.{known}
@@ -41,7 +41,7 @@ crate-is g c = ap (slice_get c.args.graph.now.crates) (sym c.from_raw.ensures) �
 
 -- and it stands at its place of the order
 crate-at : (g : Over) (c : goal.After-finished-in-loop-number-1 g)
-    → crate_at c.args.graph.now.crates c.args.order.now c.loop-number.number-index ≡ Some c.index-krate.result.now
+    → finished_crate c.args.graph.now.crates c.args.order.now c.loop-number.number-index ≡ Some c.index-krate.result.now
 crate-at g c =
     let within : c.loop-number.number-index < length c.args.order.now = omega (arith, c.loop-number-test.true) in
     ap (option_and_then (slice_get c.args.graph.now.crates)) (slice_get-get_or c.args.order.now c.loop-number.number-index 0 within)

@@ -8,7 +8,7 @@ use Rattle.crate_graph_values.specs.declared.builder.CrateBuilder.{CrateBuilder}
 use Rattle.input_db.specs.Database.{Database}
 use Rattle.input_db.specs.Identity.{IsTable}
 use Rattle.input_db.specs.FinishSteps.{IsSetInSteps, Progress, progress_after, with_new_list}
-use Rattle.input_db.specs.SetInDb.{HaveIdentities, HoldLastInputs, IsSetInDb, KeepsOthers}
+use Rattle.input_db.specs.SetInDb.{HaveIdentities, HoldLastInputs, IsSetInDb, KeepsOtherEntries}
 use Rattle.input_db.proofs.IdentityLaws.{clean_paths, identities, shared}
 use Rattle.input_db.proofs.InputLaws.{inputs, kept}
 use Rattle.input_db.proofs.KnownLemmas.{given_is, given_known}
@@ -66,7 +66,7 @@ returns g c =
       identities = subst (HaveIdentities crates order numbers) table (identities crates old order behind is_run is_stable);
       shared = shared crates old order behind is_run is_stable (clean_paths crates order clean);
       inputs = subst (HoldLastInputs crates order numbers) table (inputs crates old order behind is_run is_stable);
-      kept = subst (KeepsOthers order numbers old.crates) table (kept crates old order behind is_run is_stable);
+      kept = subst (KeepsOtherEntries order numbers old.crates) table (kept crates old order behind is_run is_stable);
       table = subst IsTable (ap (λ (d : Database). d.crates) db ∙ table) c.store_list.ensures.table;
       listed = ap (λ (d : Database). d.listed) ends
           ∙ listed-with_new_list (progress_after crates old order).db c.in_ok-given.given.items ∙ firsts;

@@ -1,6 +1,6 @@
 use Rattle.std.proofs.Common.{◌≡◌, ◌<◌, ◌∙◌, arith, get_or, length-set, subst, sym, true}
 use Rattle.std.proofs.lemmas.List.{take_all}
-use Rattle.input_db.specs.Queries.{AreListed}
+use Rattle.input_db.specs.Queries.{AreMarksOf}
 use Rattle.input_db.proofs.Dependents.{listed_more}
 use Rattle.input_db.proofs.queries.listed_marks.Goals as goal
 
@@ -22,6 +22,6 @@ loop-krate-preserved c =
 
 pub returns-clause-listed : goal.returns-clause-listed
 returns-clause-listed c =
-    subst (AreListed c.loop-krate.marks.items)
+    subst (AreMarksOf c.loop-krate.marks.items)
     (take_all c.loop-krate.krate-index c.args.listed.now (omega (arith, c.loop-krate-test.false)))
     c.loop-krate.invariant.listed

@@ -4,14 +4,14 @@ use Rattle.std.proofs.lemmas.List.{take_all}
 use Rattle.std.specs.List.{filter_map}
 use Rattle.std.specs.Option.{option_copied}
 use Rattle.base_values.specs.Sorted.{sorted}
-use Rattle.live_page.specs.Entries.{dependency_cmp, dependency_entry, named_number, path_in, root_in}
+use Rattle.live_page.specs.Entries.{dependency_cmp, dependency_entry, named_number, path_in, root_file_path}
 use Rattle.live_page.proofs.Shown.{dependency_hidden, dependency_shown, filter_map-map, taken_none, taken_some}
 use Rattle.live_page.proofs.entries.dependency_entries.Goals as goal
 use Rattle.live_page.proofs.entries.dependency_entries.Goals.{in-Some+in_ok-name+in_ok-root+in_ok-push, in_default}
 
 pub loop-dep-preserved : goal.loop-dep-preserved
 loop-dep-preserved c =
-    let root = root_in (path_in c.args.db.now.files) c.args.db.now.crates in
+    let root = root_file_path (path_in c.args.db.now.files) c.args.db.now.crates in
     let deps = c.as_slice-dep-items.result.now in
     let place = c.loop-dep.dep-index in
     let dep = c.dep-item.result in
@@ -33,7 +33,7 @@ loop-dep-preserved c =
 
 pub returns : goal.returns
 returns c =
-    let root = root_in (path_in c.args.db.now.files) c.args.db.now.crates in
+    let root = root_file_path (path_in c.args.db.now.files) c.args.db.now.crates in
     let deps = c.args.krate.now.dependencies in
     c.in_ok-sort_all.ensures.sorted
     ∙ ap (sorted dependency_cmp)

@@ -1,5 +1,5 @@
 use Rattle.std.proofs.Common.{◌∙◌, ap, is_some, sym}
-use Rattle.input_db_files.specs.Files.{root_of}
+use Rattle.input_db_files.specs.Files.{source_root_at}
 use Rattle.live_page.proofs.Shown.{root_more, root_none}
 use Rattle.live_page.proofs.page_text.sets_of.Goals as goal
 
@@ -11,4 +11,4 @@ loop-id-preserved-in_ok-push c =
 pub loop-id-preserved : goal.loop-id-preserved
 loop-id-preserved c =
     root_none c.args.db.now c.loop-id.yielded c.in-Some.id c.loop-id.sets.items
-    (ap (λ f. is_some (root_of f c.in-Some.id)) (sym c.files.ensures) ∙ sym c.has_root.ensures ∙ c.if-has_root.false) c.loop-id.invariant
+    (ap (λ f. is_some (source_root_at f c.in-Some.id)) (sym c.files.ensures) ∙ sym c.has_root.ensures ∙ c.if-has_root.false) c.loop-id.invariant

@@ -3,7 +3,7 @@ use Rattle.std.specs.List.{flat_map}
 use Rattle.std.proofs.lemmas.List.Filters.{dedup_is}
 use Rattle.graph_base.specs.Edges.{row}
 use Rattle.graph_base.proofs.ClearLemmas.{cleared_trail, nodes_marked}
-use Rattle.graph_base.specs.Reversed.{rows_of}
+use Rattle.graph_base.specs.Reversed.{target_rows}
 use Rattle.pm_cargo_members.proofs.GraphLemmas.{closure_found}
 use Rattle.pm_cargo_members.proofs.closure.closure_of.Goals as goal
 
@@ -13,7 +13,7 @@ clear-requires c = nodes_marked c.args.graph.now c.args.start c.search_into.new.
 pub returns-clause-exact : goal.returns-clause-exact
 returns-clause-exact c =
     let trail = c.search_into.new.trail in
-    let kept = ap rows_of c.as_slice.ensures.value ∙ c.graph.view_is in
+    let kept = ap target_rows c.as_slice.ensures.value ∙ c.graph.view_is in
     closure_found c.args.graph.now c.args.start trail c.in_ok-nodes.nodes.items c.sort_unstable.new.self.items c.dedup.new.self.items
     c.requires.in_range c.in_ok-search_into.ensures.ok
     (c.in_ok-nodes.ensures ∙ ap (λ (g : List (List ℕ)). flat_map (row g) c.nodes.result.now) kept

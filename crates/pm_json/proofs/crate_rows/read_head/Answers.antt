@@ -1,10 +1,10 @@
 use Rattle.std.proofs.Common.{refl}
-use Rattle.pm_json.specs.CrateData.{head_from}
+use Rattle.pm_json.specs.CrateData.{crate_head_from}
 use Rattle.pm_json.proofs.crate_rows.read_head.Goals as goal
 use Rattle.json_fields.proofs.Steps.{read_rows, read_on}
 
 pub returns : goal.returns
-unfolding head_from
+unfolding crate_head_from
 returns c = record {
   exact = read_rows _ _
       (read_on _ c.in_ok-display_name.ensures.exact

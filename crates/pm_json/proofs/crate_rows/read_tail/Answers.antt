@@ -1,11 +1,11 @@
 use Rattle.std.proofs.Common.{refl}
 use Rattle.pm_json.proofs.Steps.{returns_miss, returns_on, returns_rows}
-use Rattle.pm_json.specs.CrateData.{tail_from}
+use Rattle.pm_json.specs.CrateData.{crate_tail_from}
 use Rattle.pm_json.proofs.crate_rows.read_tail.Goals as goal
 use Rattle.json_fields.proofs.Steps.{read_rows, read_on}
 
 pub returns-in_err-crate_attrs : goal.returns-in_err-crate_attrs
-unfolding tail_from
+unfolding crate_tail_from
 returns-in_err-crate_attrs c =
     let error = c.from_residual-in_err-crate_attrs in
     record {
@@ -15,7 +15,7 @@ returns-in_err-crate_attrs c =
     }
 
 pub returns-in_err-proc_macro_cwd : goal.returns-in_err-proc_macro_cwd
-unfolding tail_from
+unfolding crate_tail_from
 returns-in_err-proc_macro_cwd c =
     let error = c.from_residual-in_err-proc_macro_cwd in
     record {
@@ -32,7 +32,7 @@ returns-in_err-proc_macro_cwd c =
     }
 
 pub returns : goal.returns
-unfolding tail_from
+unfolding crate_tail_from
 returns c = record {
   exact = read_rows _ _
       (read_on _ c.in_ok-env.ensures.exact

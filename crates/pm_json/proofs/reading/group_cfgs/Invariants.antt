@@ -1,6 +1,6 @@
 use Rattle.std.proofs.Common.{◌≡◌, flat_map, take}
-use Rattle.pm_json.specs.Crates.{atoms_of}
+use Rattle.pm_json.specs.Crates.{group_atoms}
 use Rattle.pm_json.proofs.reading.group_cfgs.Given as goal
 
 abbrev pub invariant-loop-name : goal.invariant-loop-name
-invariant-loop-name l = l.cfgs.items ≡ flat_map (atoms_of l.groups) (take l.name-index l.names)
+invariant-loop-name l = l.cfgs.items ≡ flat_map (group_atoms l.groups) (take l.name-index l.names)

@@ -3,9 +3,9 @@ use Rattle.std.specs.Option.{option_map}
 use Rattle.std.proofs.lemmas.Result.{err_from_is_err_and}
 use Rattle.base_text_paths.specs.AbsPath.{abs_text}
 use Rattle.pm_json.specs.Queries.{crates_in}
-use Rattle.pm_lower_crates.specs.Loader.{file_of}
+use Rattle.pm_lower_crates.specs.Loader.{file_number}
 use Rattle.pm_lower_crates.proofs.RowLemmas.{drop_next, limit_weaker}
-use Rattle.pm_lower_crates.specs.JsonRows.{row_in, row_of}
+use Rattle.pm_lower_crates.specs.JsonRows.{row_in, json_row}
 use Rattle.pm_lower_crates.proofs.JsonRowLemmas.{Gathers, file_found, gathers_full, gathers_more}
 use Rattle.pm_lower_crates.proofs.json_gathering.add_rows.Goals as goal
 
@@ -22,7 +22,7 @@ returns-in_err-add_row-clause-full g c =
     let same : c.as_slice-krate-items.result.now ≡ crates = c.as_slice-krate-items.ensures in
     let within : i < length crates = omega (arith, c.loop-krate-test.true, ap length same) in
     let here : k ≡ get_or crates i k = c.krate-item.is ∙ ap (λ ks. get_or ks i k) same in
-    let file : c.in_ok-file.file ≡ file_of files k.root_module =
+    let file : c.in_ok-file.file ≡ file_number files k.root_module =
     file_found files (g.L.Loader.files c.loop-krate.loader) (abs_text c.as_path.result) k.root_module c.in_ok-file.file c.in_ok-file.ensures.found c.loop-krate.invariant.loader c.as_path.ensures in
     let before : Gathers files project shared crates c.args.graph.now (k ∷ drop (i + 1) crates) mid c.loop-krate.rows.items =
     subst (λ r. Gathers files project shared crates c.args.graph.now r mid c.loop-krate.rows.items) (drop_next crates i k within here) c.loop-krate.invariant.gathered in
@@ -31,7 +31,7 @@ returns-in_err-add_row-clause-full g c =
     c.in_err-add_row.ensures.full)
 
 pub loop-krate-preserved : goal.loop-krate-preserved
-unfolding row_of
+unfolding json_row
 loop-krate-preserved g c =
     let files = g.L.Loader.files c.args.loader.now in
     let project = c.args.project.now.json.now in
@@ -43,9 +43,9 @@ loop-krate-preserved g c =
     let same : c.as_slice-krate-items.result.now ≡ crates = c.as_slice-krate-items.ensures in
     let within : i < length crates = omega (arith, c.loop-krate-test.true, ap length same) in
     let here : k ≡ get_or crates i k = c.krate-item.is ∙ ap (λ ks. get_or ks i k) same in
-    let file : c.in_ok-file.file ≡ file_of files k.root_module =
+    let file : c.in_ok-file.file ≡ file_number files k.root_module =
     file_found files (g.L.Loader.files c.loop-krate.loader) (abs_text c.as_path.result) k.root_module c.in_ok-file.file c.in_ok-file.ensures.found c.loop-krate.invariant.loader c.as_path.ensures in
-    let row : c.in_ok-add_row.field-0 ≡ row_of files (length mid.crates) k = c.in_ok-add_row.ensures.row ∙ ap (option_map (row_in (length mid.crates) k)) file in
+    let row : c.in_ok-add_row.field-0 ≡ json_row files (length mid.crates) k = c.in_ok-add_row.ensures.row ∙ ap (option_map (row_in (length mid.crates) k)) file in
     let before : Gathers files project shared crates c.args.graph.now (k ∷ drop (i + 1) crates) mid c.loop-krate.rows.items =
     subst (λ r. Gathers files project shared crates c.args.graph.now r mid c.loop-krate.rows.items) (drop_next crates i k within here) c.loop-krate.invariant.gathered in
     record {

@@ -3,8 +3,8 @@ use Rattle.std.specs.List.{All}
 use Rattle.std.proofs.lemmas.Result.{err_from_is_err_and}
 use Rattle.pm_lower_crates.specs.Gathering.{AreNumbered, owners_by, edges_between}
 use Rattle.pm_lower_crates.specs.Keeping.{AreLowered}
-use Rattle.pm_lower_crates.specs.KeptEdges.{IsWithin}
-use Rattle.pm_lower_crates.specs.Lowering.{crate_of}
+use Rattle.pm_lower_crates.specs.KeptEdges.{IsWithinRows}
+use Rattle.pm_lower_crates.specs.Lowering.{crate_of_row}
 use Rattle.pm_lower_crates.specs.Rows.{owners, owners_from, rows_of}
 use Rattle.pm_lower_crates.specs.WantedEdges.{bad_names_of_owners}
 use Rattle.pm_lower_crates.proofs.EdgeLemmas.{bad_weaker}
@@ -51,7 +51,7 @@ keep_edges-requires c =
     let count : length (rows_of made) ≡ length c.add_rows.new.graph.crates =
     omega (arith, count_added w c.args.shared.now.value c.new-graph.result c.add_rows.new.graph (rows_of made) c.in_ok-owners.ensures.added, ap length c.new-graph.ensures.crates) in
     let edges : c.in_ok-edges.edges.items ≡ edges_between made = c.in_ok-edges.ensures.edges ∙ ap edges_between c.as_slice.ensures.value in
-    subst (λ n. All (IsWithin n) c.in_ok-edges.edges.items) count (subst (λ es. All (IsWithin (length (rows_of made))) es) (sym edges) (wanted_within made numbers))
+    subst (λ n. All (IsWithinRows n) c.in_ok-edges.edges.items) count (subst (λ es. All (IsWithinRows (length (rows_of made))) es) (sym edges) (wanted_within made numbers))
 
 pub returns-clause-lowers : goal.returns-clause-lowers
 returns-clause-lowers c live are =
@@ -69,7 +69,7 @@ returns-clause-lowers c live are =
     let good = ap bad_names_of_owners (sym given) ∙ c.in_ok-edges.ensures.good in
     let limit_is = c.in_ok-keep_edges.ensures.limit ∙ adds.limit ∙ c.new-graph.ensures.limit in
     let edges : c.in_ok-edges.edges.items ≡ edges_between (owners live w) = c.in_ok-edges.ensures.edges ∙ ap edges_between given in
-    let crates = map (crate_of w shared []) (rows_of (owners live w)) in
+    let crates = map (crate_of_row w shared []) (rows_of (owners live w)) in
     let low = subst (λ es. AreLowered crates es c.keep_edges.new.graph.crates) edges (c.in_ok-keep_edges.ensures.keeps crates bare) in
     has_crates live w shared limit c.keep_edges.new.graph within good limit_is low
 
@@ -89,6 +89,6 @@ returns-clause-missing c live are =
     let good = ap bad_names_of_owners (sym given) ∙ c.in_ok-edges.ensures.good in
     let limit_is = c.in_ok-keep_edges.ensures.limit ∙ adds.limit ∙ c.new-graph.ensures.limit in
     let edges : c.in_ok-edges.edges.items ≡ edges_between (owners live w) = c.in_ok-edges.ensures.edges ∙ ap edges_between given in
-    let crates = map (crate_of w shared []) (rows_of (owners live w)) in
+    let crates = map (crate_of_row w shared []) (rows_of (owners live w)) in
     let low = subst (λ es. AreLowered crates es c.keep_edges.new.graph.crates) edges (c.in_ok-keep_edges.ensures.keeps crates bare) in
     lacks_alone live w shared limit c.keep_edges.new.graph within good limit_is low

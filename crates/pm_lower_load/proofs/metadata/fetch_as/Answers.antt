@@ -2,7 +2,7 @@ use Rattle.std.proofs.Common.{◌∙◌, Err, ap, subst, sym}
 use Rattle.std.proofs.lemmas.Result.{err_from_is_err_and}
 use Rattle.base_text_paths.specs.AbsPath.{abs_text}
 use Rattle.base_text.specs.Progress.{TakesFront-none}
-use Rattle.pm_cargo_fetch.specs.Fetch.{Answers}
+use Rattle.pm_cargo_fetch.specs.Fetch.{AnswersFetch}
 use Rattle.pm_cargo_fetch.proofs.Lines.{TakesLines-if, TakesLines-same, TakesLines-stopped, TakesLines-whole}
 use Rattle.pm_lower_load.specs.Loading.{of_fetch}
 use Rattle.pm_lower_load.proofs.LoadingLemmas.{refuses_fetch}
@@ -19,7 +19,7 @@ returns-in_err-exec-clause-answer g c =
     let same = fetched_as-is c.args.manifest.now (abs_text c.parent-dir.result) c.args.asked.now c.args.root.now c.args.no_deps (g.R.Runner.answers c.args.runner.now)
     c.in_ok-fetch.fetch c.parent-dir.ensures c.in_ok-fetch.ensures in
     let p = err_from_is_err_and c.from_residual-in_err-exec.result c.from_residual-in_err-exec.ensures.1 in
-    rw (p.1, p.2) (refuses_fetch c.in_err-exec.field-0.0 _ (subst (Answers (Err c.in_err-exec.field-0.0)) same c.in_err-exec.ensures.answer))
+    rw (p.1, p.2) (refuses_fetch c.in_err-exec.field-0.0 _ (subst (AnswersFetch (Err c.in_err-exec.field-0.0)) same c.in_err-exec.ensures.answer))
 
 pub returns-in_err-exec-clause-lines : goal.returns-in_err-exec-clause-lines
 returns-in_err-exec-clause-lines g c =

@@ -1,7 +1,7 @@
 use Rattle.std.proofs.Common.{◌≡◌, ◌∙◌, [], ◌∷◌, ◌++◌, ap, codes, option_copied}
 use Rattle.base_text_outside.specs.CommandWords.{flag_word}
 use Rattle.base_text_paths.specs.ManifestPath.{is_rust_manifest}
-use Rattle.pm_tools.specs.Words.{build_words, coverage_words, feature_words, is_unstable, place_words, platform_words}
+use Rattle.pm_tools.specs.Words.{build_words, coverage_words, build_feature_words, is_unstable, place_words, platform_words}
 use Rattle.pm_tools.proofs.words_of_build.build_words.Goals as goal
 
 -- the parts, one after another
@@ -24,7 +24,7 @@ returns c =
     let first = extra ∙ ap (λ l. l ++ config.extra_args) c.in_ok-words.ensures in
     let places = c.in_ok-push_places.ensures ∙ ap (λ l. l ++ place_words config w) first in
     let platform = c.in_ok-push_platform.ensures ∙ ap (λ l. l ++ platform_words version config.target) places in
-    let features = c.in_ok-push_features.ensures ∙ ap (λ l. l ++ feature_words w config.features) platform in
+    let features = c.in_ok-push_features.ensures ∙ ap (λ l. l ++ build_feature_words w config.features) platform in
     let with_script = scripted ∙ ap (λ l. l ++ script) features in
     let going = c.in_ok-push_word.ensures.ok ∙ ap (λ l. l ++ codes "--keep-going" ∷ []) with_script in
     let coverage = c.in_ok-push_coverage.ensures ∙ ap (λ l. l ++ coverage_words config.all_targets version) going in

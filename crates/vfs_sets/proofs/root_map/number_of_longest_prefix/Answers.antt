@@ -2,7 +2,7 @@ use Rattle.std.proofs.Common.{◌≡◌, ◌-◌, ◌∙◌, ◌<◌, ap, arith,
 use Rattle.std.proofs.lemmas.Grind.{common_steps}
 use Rattle.std.specs.Option.{option_copied}
 use Rattle.vfs_sets.specs.Probes.{raised_by}
-use Rattle.vfs_sets.specs.RootMaps.{number_at}
+use Rattle.vfs_sets.specs.RootMaps.{number_by_text}
 use Rattle.vfs_sets.proofs.RootMapLemmas.{raised_next, untried_next}
 use Rattle.vfs_sets.proofs.TriedLemmas.{prefixes_tried-each, prefixes_tried-length, prefixes_tried-within, tries_down_to-count}
 use Rattle.vfs_sets.proofs.root_map.number_of_longest_prefix.Goals as goal
@@ -32,10 +32,10 @@ returns g c =
 
 pub loop-untried-preserved-in_default : goal.loop-untried-preserved-in_default
 loop-untried-preserved-in_default g c =
-    let none : number_at (take (c.loop-untried.untried - 1) c.args.text.now) c.args.map.now.entries ≡ None =
+    let none : number_by_text (take (c.loop-untried.untried - 1) c.args.text.now) c.args.map.now.entries ≡ None =
     sym c.get.ensures.value ∙ ap option_copied c.in_default.is in (
       omega (arith, c.loop-untried.invariant.0),
-      untried_next (λ n. number_at (take n c.args.text.now) c.args.map.now.entries) c.loop-untried.untried (length c.args.text.now)
+      untried_next (λ n. number_by_text (take n c.args.text.now) c.args.map.now.entries) c.loop-untried.untried (length c.args.text.now)
           c.loop-untried.invariant.1 none (omega arith),
       raised_next _ _ c.loop-untried.untried _ _ (omega arith) c.loop-untried.invariant.0 c.loop-untried.invariant.2 c.tick.ensures,
     )
@@ -44,10 +44,10 @@ pub loop-untried-preserved : goal.loop-untried-preserved
 loop-untried-preserved g c =
     let within = c.loop-untried.invariant.0 in
     let longer : c.args.longest < length (take (c.loop-untried.untried - 1) c.args.text.now) = grind (arith, common_steps) in
-    let none : number_at (take (c.loop-untried.untried - 1) c.args.text.now) c.args.map.now.entries ≡ None =
+    let none : number_by_text (take (c.loop-untried.untried - 1) c.args.text.now) c.args.map.now.entries ≡ None =
     c.requires (take (c.loop-untried.untried - 1) c.args.text.now) longer in (
       omega (arith, c.loop-untried.invariant.0),
-      untried_next (λ n. number_at (take n c.args.text.now) c.args.map.now.entries) c.loop-untried.untried (length c.args.text.now)
+      untried_next (λ n. number_by_text (take n c.args.text.now) c.args.map.now.entries) c.loop-untried.untried (length c.args.text.now)
           c.loop-untried.invariant.1 none (omega arith),
       raised_next _ _ c.loop-untried.untried _ _ (omega arith) c.loop-untried.invariant.0 c.loop-untried.invariant.2 c.tick.ensures,
     )

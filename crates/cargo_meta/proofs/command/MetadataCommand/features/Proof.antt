@@ -4,7 +4,7 @@ use Rattle.std.proofs.Common.{◌≡◌, ◌∙◌, refl, sym, subst, ap, lit<, 
 use Rattle.std.proofs.raw_atomic.Walks.{proved_at}
 use Rattle.std.specs.Prelude.{Ok, OnOk, OnErr, IsErr}
 use Rattle.std.specs.Result.{result_from_control_flow}
-use Rattle.cargo_meta.specs.Command.{Settings, IsFirst, with_features}
+use Rattle.cargo_meta.specs.Command.{Settings, IsFirstGiven, with_features}
 use Rattle.cargo_meta.specs.contracts.command.CargoOpt.{the_row as Opt}
 use Rattle.cargo_meta.proofs.command.CargoOpt.TheLaws.{the_row_laws as Opt-laws}
 use Rattle.cargo_meta.specs.contracts.command.MetadataCommand.{the_row as R}
@@ -61,7 +61,7 @@ features_spec 𝓤 𝓛 𝓜 𝓡 wired =
     let typed = ((Opt-laws.lawful 𝓛).typed x us (subst (Is Opt x) given.1 are.1.0)).0 in
     subst (λ vss. ent 𝓤 (W.pre (y vss)) (WpFn 𝓤 𝓛.H 𝓣.C 𝓣.Λ code.function (W.args (y vss)) (W.post (y vss)))) (sym (λ i. (are.0.0 i, (given.1 i, tt)))) (
     let y' = y (vs, (us, tt)) in let Ref = λ (κ' : Lft) (p : MutBor Settings). (MutRef (named 0) κ' R).own_val p vs in
-    qed 𝓛 (((‵ (flft κ q) ⊛ ‵ ftrue) ⊛ ‵ (Ref κ s) ⊛ ‵ (Opt.own_val x us) ⊛ ‵ ftrue) ∷ raw (fact 𝓤 (IsFirst x s.now)) ∷ []) ∵
+    qed 𝓛 (((‵ (flft κ q) ⊛ ‵ ftrue) ⊛ ‵ (Ref κ s) ⊛ ‵ (Opt.own_val x us) ⊛ ‵ ftrue) ∷ raw (fact 𝓤 (IsFirstGiven x s.now)) ∷ []) ∵
     move ! (1 ∷ []) $ heard ! _ (λ is_first. split ! $ split ! $ move ! (2 ∷ []) $ split3 ! $ keep ! (0 ∷ 1 ∷ 3 ∷ []) $
     -- [the command; the features; the token]
     enter ! _ _ _ _ _ $ alloc_all ! (λ l. pass_all ! refl ((tt, tt), (typed, tt)) $
@@ -73,7 +73,7 @@ features_spec 𝓤 𝓛 𝓜 𝓡 wired =
     let G = triple_of 𝓛 g.signature (g.spec 𝓛 𝓜.mem 𝓡.returns) in
     let z : G.Ghost = (((α ∷ [], tt), (full_share, tt), tt, (record s { ghost_name = δ }, (x, tt)), (vs, (us, tt))), tt) in
     nothing ! $ move ! (4 ∷ 0 ∷ []) $ join ! $ move ! (1 ∷ 0 ∷ []) $ join ! $ nothing ! $ move ! (3 ∷ 0 ∷ []) $ join ! $ join ! $
-    use0 𝓛 (raw (fact 𝓤 (IsFirst x s.now))) (fact_i 𝓤 _ (emp 𝓤) is_first) $ move ! (1 ∷ 0 ∷ []) $ use2 𝓛 (raw (G.pre z)) (id⊢ 𝓤 _) $
+    use0 𝓛 (raw (fact 𝓤 (IsFirstGiven x s.now))) (fact_i 𝓤 _ (emp 𝓤) is_first) $ move ! (1 ∷ 0 ∷ []) $ use2 𝓛 (raw (G.pre z)) (id⊢ 𝓤 _) $
     calls_at ! (framed 𝓤 𝓛.H 𝓜 𝓣) G (met 𝓤 𝓛 𝓜 𝓡 (code.calls-cargo_meta::command::MetadataCommand::add_features 𝓡.env wired)) z
     (and_then ! (get ! refl) (and_then ! (get ! refl) (no_more !))) (λ v.
     use1 𝓛 (later (some (λ (r : Step.Denot). ((‵ (flft (α ∷ []) full_share) ⊛ ‵ ftrue) ⊛ ‵ (Step.own_val r (v ∷ []))) ⊛

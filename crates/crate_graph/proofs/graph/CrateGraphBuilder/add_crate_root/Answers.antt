@@ -2,7 +2,7 @@ use Rattle.std.proofs.Common.{◌≡◌, ◌+◌, ◌<◌, ◌^◌, ◌∙◌, �
 use Rattle.crate_graph.specs.Order.{IsOrderOf}
 use Rattle.crate_graph.specs.Graph.{edges}
 use Rattle.base_text_paths.specs.Paths.{IsClean}
-use Rattle.crate_graph_values.specs.Laws.{HasCleanPath}
+use Rattle.crate_graph_values.specs.Laws.{HasCleanMacroDirectory}
 use Rattle.graph_base.proofs.ReachLemmas.{acyclic_with_node, in_range_with_node}
 use Rattle.crate_graph.proofs.GraphLemmas.{edges-with_crate, length-edges, well_made-with_crate}
 use Rattle.crate_graph.proofs.RankLemmas.{ranked-with_node}
@@ -15,7 +15,7 @@ make_room-requires c = λ room.
 pub invariant_of-self-2 : goal.invariant_of-self-2
 invariant_of-self-2 c =
     let none : c.new-krate.result.basic.dependencies ≡ [] = ap (λ b. b.dependencies) c.new-krate.ensures.data ∙ c.empty.ensures in
-    let clean : HasCleanPath c.new-krate.result.basic = subst HasCleanPath (sym c.new-krate.ensures.data) (subst IsClean c.proc_macro_cwd.view_is c.proc_macro_cwd.invariant) in
+    let clean : HasCleanMacroDirectory c.new-krate.result.basic = subst HasCleanMacroDirectory (sym c.new-krate.ensures.data) (subst IsClean c.proc_macro_cwd.view_is c.proc_macro_cwd.invariant) in
     let room : length c.self.inside.crates.items < c.self.inside.limit = c.in_ok-crate_attrs.ensures.room.0 in
     let old = c.self.inside.crates.items in
     let krate = c.new-krate.result in

@@ -5,7 +5,7 @@ use Rattle.graph_base.proofs.ReachLemmas.{acyclic_with_edge, in_range_with_edge}
 use Rattle.crate_graph.specs.Insertion.{GivesRoom}
 use Rattle.crate_graph.specs.Order.{IsOrderOf}
 use Rattle.crate_graph.specs.Placing.{Rearranges}
-use Rattle.crate_graph.specs.Graph.{HasDependency, IsWellMade, edges, target_of}
+use Rattle.crate_graph.specs.Graph.{HasDependency, IsWellMadeGraph, edges, target_of}
 use Rattle.crate_graph.proofs.GraphLemmas.{edges-with_dependency, length-edges, well_made-with_dependency}
 use Rattle.crate_graph.proofs.RankLemmas.{ranked-with_edge}
 use Rattle.crate_graph.proofs.graph.CrateGraphBuilder.add_dep_counted.Goals as goal
@@ -20,7 +20,7 @@ invariant_of-self-in-Ok g c =
     let to = target_of c.args.dep in
     let new = c.append_and_apply.new.order in
     let now = c.append_and_apply.new.crates.items in
-    let made = subst (λ graph. IsWellMade graph.crates c.self.inside.limit) c.self.view_is c.self.invariant.well_made in
+    let made = subst (λ graph. IsWellMadeGraph graph.crates c.self.inside.limit) c.self.view_is c.self.invariant.well_made in
     let ranks = subst (λ graph. IsOrderOf graph.order (edges graph.crates)) c.self.view_is c.self.invariant.ranks in
     let has = subst (λ graph. HasDependency graph.crates now (number_of c.args.from) c.args.dep) c.self.view_is c.in_ok-append_and_apply-in-Ok.ensures.ok in
     let apart : Reaches (edges c.args.self.now.crates) (target_of c.args.dep) (number_of c.args.from) → ⊥ = search rules in

@@ -5,7 +5,7 @@ use Rattle.std.proofs.lemmas.List.{get_or_read}
 use Rattle.base_text_paths.specs.Arena.{number_of}
 use Rattle.graph_base.specs.Kept.{is_named, kept_below}
 use Rattle.crate_graph.specs.Suborder.{new_number}
-use Rattle.crate_graph.specs.Prune.{kept_crates, renumbered_crate, number_at}
+use Rattle.crate_graph.specs.Prune.{kept_crates, renumbered_crate, number_after_prune}
 use Rattle.crate_graph.proofs.PruneLemmas.{kept_more, kept_skip, length-ids, length-numbers, renumbered_kept, named_here, is_some-id}
 use Rattle.crate_graph.proofs.ExtendLemmas.{targets_within}
 use Rattle.crate_graph.specs.Graph.{edges}
@@ -56,7 +56,7 @@ loop-place-preserved c =
     elim c.if-is_some.branch [
       | then-is_some+in_ok-renumbered_copy+in_ok-push w ↦
           let some : is_some (get_or ids place None) ≡ true = read ∙ w.if-is_some.true in
-          let copy : w.in_ok-renumbered_copy.field-0 ≡ renumbered_crate (kept_below keep) krate = w.in_ok-renumbered_copy.ensures ∙ ap (λ xs. renumbered_crate (number_at xs) krate) w.deref.ensures.value ∙ renumbered_kept keep crates ids c.requires ids_are place krate within at some c.in_ok-ids.numbers.items numbers_are in
+          let copy : w.in_ok-renumbered_copy.field-0 ≡ renumbered_crate (kept_below keep) krate = w.in_ok-renumbered_copy.ensures ∙ ap (λ xs. renumbered_crate (number_after_prune xs) krate) w.deref.ensures.value ∙ renumbered_kept keep crates ids c.requires ids_are place krate within at some c.in_ok-ids.numbers.items numbers_are in
           ap (λ v. v.items ++ left) w.kept-is ∙ ap (λ xs. xs ++ left) w.in_ok-push.ensures.items ∙ ap (λ x. (done ++ x ∷ []) ++ left) copy
           ∙ kept_more keep crates done whole place krate within at c.loop-place.invariant (named_here keep crates ids c.requires ids_are place krate within at some)
       | else-is_some w ↦

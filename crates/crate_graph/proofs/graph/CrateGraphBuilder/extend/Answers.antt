@@ -10,10 +10,10 @@ use Rattle.base_text_paths.specs.contracts.arena.IdxOrd.TheImpl as numbers
 use Rattle.crate_graph_values.specs.contracts.builder.CrateBuilderPartialEq.TheImpl as krates
 use Rattle.crate_graph_values.specs.contracts.builder.CrateBuilderEq.TheImpl.Laws as krate_eq
 use Rattle.crate_graph_values.specs.contracts.crate_data.CrateTag.{the_row}
-use Rattle.crate_graph_values.specs.Laws.{HasCleanPath}
+use Rattle.crate_graph_values.specs.Laws.{HasCleanMacroDirectory}
 use Rattle.crate_graph.specs.Extend.{AreApart, HasEquals, Id, KeepsCrates, merge_of, moved_entry, new_id, new_id_at}
 use Rattle.crate_graph.specs.Order.{IsOrderOf, with_next_nodes}
-use Rattle.crate_graph.specs.Graph.{IsWellMade, edges}
+use Rattle.crate_graph.specs.Graph.{IsWellMadeGraph, edges}
 use Rattle.graph_base.proofs.FinishLemmas.{acyclic_above}
 use Rattle.crate_graph.proofs.ExtendLemmas.{merge_of-longer}
 use Rattle.crate_graph.proofs.GraphLemmas.{length-edges}
@@ -72,11 +72,11 @@ in_range c = subst (λ g. IsInRange (edges g.crates)) c.other.view_is c.other.in
 found : (c : After) (id : Id) → option_map number_of (tree.get (numbers.ghosts the_row).cmp c.in_ok-ids.ids id) ≡ slice_get c.in_ok-merge.merge.new_numbers (number_of id)
 found c id = c.in_ok-ids.ensures id ∙ ap (λ ns. slice_get ns (number_of id)) c.new_numbers.ensures
 
-clean : (c : After) → All (λ krate. HasCleanPath krate.basic) c.in_ok-merge.merge.crates
+clean : (c : After) → All (λ krate. HasCleanMacroDirectory krate.basic) c.in_ok-merge.merge.crates
 clean c =
-    let olds = subst (λ g. All (λ krate. HasCleanPath krate.basic) g.crates) c.self.view_is c.self.invariant.well_made.clean in
-    let others = subst (λ g. All (λ krate. HasCleanPath krate.basic) g.crates) c.other.view_is c.other.invariant.well_made.clean in
-    subst (λ j. All (λ krate. HasCleanPath krate.basic) j.crates) (sym (is_merge c)) (merge_of-clean (krates.eq-value).it c.args.self.now.crates c.args.other.crates c.in_ok-order.order.items olds others)
+    let olds = subst (λ g. All (λ krate. HasCleanMacroDirectory krate.basic) g.crates) c.self.view_is c.self.invariant.well_made.clean in
+    let others = subst (λ g. All (λ krate. HasCleanMacroDirectory krate.basic) g.crates) c.other.view_is c.other.invariant.well_made.clean in
+    subst (λ j. All (λ krate. HasCleanMacroDirectory krate.basic) j.crates) (sym (is_merge c)) (merge_of-clean (krates.eq-value).it c.args.self.now.crates c.args.other.crates c.in_ok-order.order.items olds others)
 
 -- ---- the ranks of the graph
 
@@ -89,7 +89,7 @@ ranks_are c =
 
 ranked : (c : After) → IsOrderOf c.in_ok-ranks.ranks (edges c.in_ok-merge.merge.crates)
 ranked c =
-    let made = subst (λ g. IsWellMade g.crates c.self.inside.limit) c.self.view_is c.self.invariant.well_made in
+    let made = subst (λ g. IsWellMadeGraph g.crates c.self.inside.limit) c.self.view_is c.self.invariant.well_made in
     let ranks = subst (λ g. IsOrderOf g.order (edges g.crates)) c.self.view_is c.self.invariant.ranks in
     let more = length c.in_ok-merge.merge.crates - length c.args.self.now.crates in
     subst (λ order. IsOrderOf order (edges c.in_ok-merge.merge.crates)) (sym (ranks_are c))
@@ -98,9 +98,9 @@ ranked c =
 
 pub invariant_of-self : goal.invariant_of-self
 invariant_of-self c =
-    let made = subst (λ g. IsWellMade g.crates c.self.inside.limit) c.self.view_is c.self.invariant.well_made in
+    let made = subst (λ g. IsWellMadeGraph g.crates c.self.inside.limit) c.self.view_is c.self.invariant.well_made in
     record {
-      well_made = subst (λ crates. IsWellMade crates c.self.inside.limit) (sym c.into_crates.ensures)
+      well_made = subst (λ crates. IsWellMadeGraph crates c.self.inside.limit) (sym c.into_crates.ensures)
           (well_made-merge_of (krates.eq-value).it c.args.self.now.crates c.args.other.crates c.in_ok-order.order.items c.in_ok-merge.merge c.self.inside.limit made (taken c) c.in_ok-merge.ensures.room (clean c) acyclic_above);
       ranks = subst (λ crates. IsOrderOf c.in_ok-ranks.ranks (edges crates)) (sym c.into_crates.ensures) (ranked c);
     }

@@ -2,7 +2,7 @@ use Rattle.std.proofs.Common.{◌≡◌, ◌∙◌, ◌+◌, ◌<◌, ◌^◌, [
 use Rattle.std.specs.Prelude.{IfOk, OnErr, OnOk, slice_index}
 use Rattle.graph_base.specs.Blocks.{FitAbove, FitBelow, RearrangesAbove, RearrangesBelow}
 use Rattle.graph_base.specs.Listing.{IsInverse}
-use Rattle.crate_graph.specs.Order.{AreKept, IsOrder, Ranking, ranking, ranks_in, with_next_node}
+use Rattle.crate_graph.specs.Order.{AreKeptRanks, IsOrder, Ranking, ranking, ranks_in, with_next_node}
 use Rattle.crate_graph.specs.Placing.{Placement}
 use Rattle.crate_graph.proofs.RankingLemmas.{inverse_nodes, ranking_is_order}
 use Rattle.crate_graph.proofs.ResultLemmas.{if_ok_then}
@@ -16,7 +16,7 @@ pub returns-in-None-clause-order : goal.returns-in-None-clause-order
 returns-in-None-clause-order c = is_order [] c.args.self.now (ap (λ (o : Option (List ℕ)). ranking (ranks_in o)) (sym c.in-None.is) ∙ c.self.view_is) none_kept
 
 pub returns-in-Some-clause-length : goal.returns-in-Some-clause-length
-returns-in-Some-clause-length c = c.len.ensures.length ∙ sym (node_count c.in-Some.table c.args.self.now (ap (λ (o : Option (List ℕ)). ranking (ranks_in o)) (sym c.in-Some.is) ∙ c.self.view_is) (subst (λ (o : Option (List ℕ)). AreKept (ranks_in o)) c.in-Some.is c.self.invariant))
+returns-in-Some-clause-length c = c.len.ensures.length ∙ sym (node_count c.in-Some.table c.args.self.now (ap (λ (o : Option (List ℕ)). ranking (ranks_in o)) (sym c.in-Some.is) ∙ c.self.view_is) (subst (λ (o : Option (List ℕ)). AreKeptRanks (ranks_in o)) c.in-Some.is c.self.invariant))
 
 pub returns-in-Some-clause-order : goal.returns-in-Some-clause-order
-returns-in-Some-clause-order c = is_order c.in-Some.table c.args.self.now (ap (λ (o : Option (List ℕ)). ranking (ranks_in o)) (sym c.in-Some.is) ∙ c.self.view_is) (subst (λ (o : Option (List ℕ)). AreKept (ranks_in o)) c.in-Some.is c.self.invariant)
+returns-in-Some-clause-order c = is_order c.in-Some.table c.args.self.now (ap (λ (o : Option (List ℕ)). ranking (ranks_in o)) (sym c.in-Some.is) ∙ c.self.view_is) (subst (λ (o : Option (List ℕ)). AreKeptRanks (ranks_in o)) c.in-Some.is c.self.invariant)

@@ -2,7 +2,7 @@ use Rattle.std.proofs.Common.{◌≡◌, ◌∙◌, ◌+◌, ◌<◌, ◌^◌, [
 use Rattle.std.specs.Prelude.{IfOk, OnErr, OnOk, slice_index}
 use Rattle.graph_base.specs.Blocks.{FitAbove, FitBelow, RearrangesAbove, RearrangesBelow}
 use Rattle.graph_base.specs.Listing.{IsInverse}
-use Rattle.crate_graph.specs.Order.{AreKept, IsOrder, Ranking, ranking, ranks_in, with_next_node}
+use Rattle.crate_graph.specs.Order.{AreKeptRanks, IsOrder, Ranking, ranking, ranks_in, with_next_node}
 use Rattle.crate_graph.specs.Placing.{Placement}
 use Rattle.crate_graph.proofs.RankingLemmas.{inverse_nodes, ranking_is_order}
 use Rattle.crate_graph.proofs.ResultLemmas.{if_ok_then}
@@ -18,7 +18,7 @@ returns-in-None-clause-order c = is_order [] c.args.self.now (ap (λ (o : Option
 pub returns-in-Some-clause-nodes : goal.returns-in-Some-clause-nodes
 returns-in-Some-clause-nodes c =
     if_ok_then (λ nodes. IsInverse nodes.items c.in-Some.table) (λ nodes. nodes.items ≡ c.args.self.now.nodes) c.nodes.result
-    (λ nodes is. inverse_nodes nodes.items c.in-Some.table (subst (λ (o : Option (List ℕ)). AreKept (ranks_in o)) c.in-Some.is c.self.invariant) is ∙ ap (λ (o : Ranking). o.nodes) (ap (λ (o : Option (List ℕ)). ranking (ranks_in o)) (sym c.in-Some.is) ∙ c.self.view_is)) c.nodes.ensures
+    (λ nodes is. inverse_nodes nodes.items c.in-Some.table (subst (λ (o : Option (List ℕ)). AreKeptRanks (ranks_in o)) c.in-Some.is c.self.invariant) is ∙ ap (λ (o : Ranking). o.nodes) (ap (λ (o : Option (List ℕ)). ranking (ranks_in o)) (sym c.in-Some.is) ∙ c.self.view_is)) c.nodes.ensures
 
 pub returns-in-Some-clause-order : goal.returns-in-Some-clause-order
-returns-in-Some-clause-order c = is_order c.in-Some.table c.args.self.now (ap (λ (o : Option (List ℕ)). ranking (ranks_in o)) (sym c.in-Some.is) ∙ c.self.view_is) (subst (λ (o : Option (List ℕ)). AreKept (ranks_in o)) c.in-Some.is c.self.invariant)
+returns-in-Some-clause-order c = is_order c.in-Some.table c.args.self.now (ap (λ (o : Option (List ℕ)). ranking (ranks_in o)) (sym c.in-Some.is) ∙ c.self.view_is) (subst (λ (o : Option (List ℕ)). AreKeptRanks (ranks_in o)) c.in-Some.is c.self.invariant)

@@ -2,7 +2,7 @@ use Rattle.std.proofs.Common.{◌≡◌, ◌∙◌, ◌+◌, ◌<◌, ◌^◌, [
 use Rattle.std.specs.Prelude.{IfOk, OnErr, OnOk, slice_index}
 use Rattle.graph_base.specs.Blocks.{FitAbove, FitBelow, RearrangesAbove, RearrangesBelow}
 use Rattle.graph_base.specs.Listing.{IsInverse}
-use Rattle.crate_graph.specs.Order.{AreKept, IsOrder, Ranking, ranking, ranks_in, with_next_node}
+use Rattle.crate_graph.specs.Order.{AreKeptRanks, IsOrder, Ranking, ranking, ranks_in, with_next_node}
 use Rattle.crate_graph.specs.Placing.{Placement}
 use Rattle.crate_graph.proofs.RankingLemmas.{inverse_nodes, ranking_is_order}
 use Rattle.crate_graph.proofs.ResultLemmas.{if_ok_then}

@@ -2,7 +2,7 @@ use Rattle.std.proofs.Common.{◌≡◌, ◌∙◌, ◌+◌, ◌<◌, ◌^◌, [
 use Rattle.std.specs.Prelude.{IfOk, OnErr, OnOk, slice_index}
 use Rattle.graph_base.specs.Blocks.{FitAbove, FitBelow, RearrangesAbove, RearrangesBelow}
 use Rattle.graph_base.specs.Listing.{IsInverse}
-use Rattle.crate_graph.specs.Order.{AreKept, IsOrder, Ranking, ranking, ranks_in, with_next_node}
+use Rattle.crate_graph.specs.Order.{AreKeptRanks, IsOrder, Ranking, ranking, ranks_in, with_next_node}
 use Rattle.crate_graph.specs.Placing.{Placement}
 use Rattle.crate_graph.proofs.RankingLemmas.{inverse_nodes, ranking_is_order}
 use Rattle.crate_graph.proofs.ResultLemmas.{if_ok_then}
@@ -10,11 +10,11 @@ use Rattle.crate_graph.proofs.TableLemmas.{fits_above, fits_below, fits_nothing,
 use Rattle.crate_graph.proofs.order.Order.push.Goals as goal
 
 pub push-requires : goal.push-requires
-push-requires c = omega (arith, c.requires, node_count c.in-Some.table c.args.self.now (ap (λ (o : Option (List ℕ)). ranking (ranks_in o)) (sym c.in-Some.is) ∙ c.self.view_is) (subst (λ (o : Option (List ℕ)). AreKept (ranks_in o)) c.in-Some.is c.self.invariant))
+push-requires c = omega (arith, c.requires, node_count c.in-Some.table c.args.self.now (ap (λ (o : Option (List ℕ)). ranking (ranks_in o)) (sym c.in-Some.is) ∙ c.self.view_is) (subst (λ (o : Option (List ℕ)). AreKeptRanks (ranks_in o)) c.in-Some.is c.self.invariant))
 
 pub invariant_of-self : goal.invariant_of-self
-invariant_of-self c = pushed_kept c.push.result c.in-Some.table c.push.new.self c.push.ensures.ranks (omega (arith, c.requires, node_count c.in-Some.table c.args.self.now (ap (λ (o : Option (List ℕ)). ranking (ranks_in o)) (sym c.in-Some.is) ∙ c.self.view_is) (subst (λ (o : Option (List ℕ)). AreKept (ranks_in o)) c.in-Some.is c.self.invariant))) c.push.ensures.ok c.push.ensures.err
+invariant_of-self c = pushed_kept c.push.result c.in-Some.table c.push.new.self c.push.ensures.ranks (omega (arith, c.requires, node_count c.in-Some.table c.args.self.now (ap (λ (o : Option (List ℕ)). ranking (ranks_in o)) (sym c.in-Some.is) ∙ c.self.view_is) (subst (λ (o : Option (List ℕ)). AreKeptRanks (ranks_in o)) c.in-Some.is c.self.invariant))) c.push.ensures.ok c.push.ensures.err
 
 pub returns-in-Some-clause-ok : goal.returns-in-Some-clause-ok
 returns-in-Some-clause-ok c =
-    pushed_ok c.push.result c.in-Some.table c.push.new.self c.args.self.now (ap (λ (o : Option (List ℕ)). ranking (ranks_in o)) (sym c.in-Some.is) ∙ c.self.view_is) (subst (λ (o : Option (List ℕ)). AreKept (ranks_in o)) c.in-Some.is c.self.invariant) c.push.ensures.ranks (omega (arith, c.requires, node_count c.in-Some.table c.args.self.now (ap (λ (o : Option (List ℕ)). ranking (ranks_in o)) (sym c.in-Some.is) ∙ c.self.view_is) (subst (λ (o : Option (List ℕ)). AreKept (ranks_in o)) c.in-Some.is c.self.invariant))) c.push.ensures.ok
+    pushed_ok c.push.result c.in-Some.table c.push.new.self c.args.self.now (ap (λ (o : Option (List ℕ)). ranking (ranks_in o)) (sym c.in-Some.is) ∙ c.self.view_is) (subst (λ (o : Option (List ℕ)). AreKeptRanks (ranks_in o)) c.in-Some.is c.self.invariant) c.push.ensures.ranks (omega (arith, c.requires, node_count c.in-Some.table c.args.self.now (ap (λ (o : Option (List ℕ)). ranking (ranks_in o)) (sym c.in-Some.is) ∙ c.self.view_is) (subst (λ (o : Option (List ℕ)). AreKeptRanks (ranks_in o)) c.in-Some.is c.self.invariant))) c.push.ensures.ok

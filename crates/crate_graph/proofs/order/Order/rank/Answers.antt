@@ -2,7 +2,7 @@ use Rattle.std.proofs.Common.{◌≡◌, ◌∙◌, ◌+◌, ◌<◌, ◌^◌, [
 use Rattle.std.specs.Prelude.{IfOk, OnErr, OnOk, slice_index}
 use Rattle.graph_base.specs.Blocks.{FitAbove, FitBelow, RearrangesAbove, RearrangesBelow}
 use Rattle.graph_base.specs.Listing.{IsInverse}
-use Rattle.crate_graph.specs.Order.{AreKept, IsOrder, Ranking, ranking, ranks_in, with_next_node}
+use Rattle.crate_graph.specs.Order.{AreKeptRanks, IsOrder, Ranking, ranking, ranks_in, with_next_node}
 use Rattle.crate_graph.specs.Placing.{Placement}
 use Rattle.crate_graph.proofs.RankingLemmas.{inverse_nodes, ranking_is_order}
 use Rattle.crate_graph.proofs.ResultLemmas.{if_ok_then}
@@ -13,7 +13,7 @@ pub unreachable-requires : goal.unreachable-requires
 unreachable-requires c = omega (arith, c.requires, node_count [] c.args.self.now (ap (λ (o : Option (List ℕ)). ranking (ranks_in o)) (sym c.in-None.is) ∙ c.self.view_is) none_kept)
 
 pub rank-requires : goal.rank-requires
-rank-requires c = omega (arith, c.requires, node_count c.in-Some.table c.args.self.now (ap (λ (o : Option (List ℕ)). ranking (ranks_in o)) (sym c.in-Some.is) ∙ c.self.view_is) (subst (λ (o : Option (List ℕ)). AreKept (ranks_in o)) c.in-Some.is c.self.invariant))
+rank-requires c = omega (arith, c.requires, node_count c.in-Some.table c.args.self.now (ap (λ (o : Option (List ℕ)). ranking (ranks_in o)) (sym c.in-Some.is) ∙ c.self.view_is) (subst (λ (o : Option (List ℕ)). AreKeptRanks (ranks_in o)) c.in-Some.is c.self.invariant))
 
 pub returns : goal.returns
-returns c = c.rank.ensures ∙ ap (λ (rs : List ℕ). slice_index rs c.args.node) (sym (same_ranks c.in-Some.table c.args.self.now (ap (λ (o : Option (List ℕ)). ranking (ranks_in o)) (sym c.in-Some.is) ∙ c.self.view_is) (subst (λ (o : Option (List ℕ)). AreKept (ranks_in o)) c.in-Some.is c.self.invariant)))
+returns c = c.rank.ensures ∙ ap (λ (rs : List ℕ). slice_index rs c.args.node) (sym (same_ranks c.in-Some.table c.args.self.now (ap (λ (o : Option (List ℕ)). ranking (ranks_in o)) (sym c.in-Some.is) ∙ c.self.view_is) (subst (λ (o : Option (List ℕ)). AreKeptRanks (ranks_in o)) c.in-Some.is c.self.invariant)))

@@ -3,7 +3,7 @@ use Rattle.std.specs.Prelude.{IfErr, IfOk, OnOk, slice_index}
 use Rattle.graph_base.specs.Reach.{Reaches}
 use Rattle.graph_base.specs.Ranks.{AreRanks}
 use Rattle.crate_graph.specs.Insertion.{CountsVisits, GivesRoom, most_visits}
-use Rattle.crate_graph.specs.Order.{AreKept, Descends, Ranking, ranking, ranks_in}
+use Rattle.crate_graph.specs.Order.{AreKeptRanks, Descends, Ranking, ranking, ranks_in}
 use Rattle.crate_graph.specs.Placing.{placement_below}
 use Rattle.crate_graph.proofs.RoomLemmas.{apart_already}
 use Rattle.crate_graph.proofs.TableLemmas.{is_order, node_count, none_kept, same_ranks}
@@ -16,37 +16,37 @@ unreachable-requires g c =
 
 pub is_below-requires : goal.is_below-requires
 is_below-requires g c =
-    record { nodes = (omega (arith, c.requires.nodes.1, (node_count c.in-Some.table c.args.self.now (ap (λ (o : Option (List ℕ)). ranking (ranks_in o)) (sym c.in-Some.is) ∙ c.self.view_is) (subst (λ (o : Option (List ℕ)). AreKept (ranks_in o)) c.in-Some.is c.self.invariant))), omega (arith, c.requires.nodes.0, (node_count c.in-Some.table c.args.self.now (ap (λ (o : Option (List ℕ)). ranking (ranks_in o)) (sym c.in-Some.is) ∙ c.self.view_is) (subst (λ (o : Option (List ℕ)). AreKept (ranks_in o)) c.in-Some.is c.self.invariant)))) }
+    record { nodes = (omega (arith, c.requires.nodes.1, (node_count c.in-Some.table c.args.self.now (ap (λ (o : Option (List ℕ)). ranking (ranks_in o)) (sym c.in-Some.is) ∙ c.self.view_is) (subst (λ (o : Option (List ℕ)). AreKeptRanks (ranks_in o)) c.in-Some.is c.self.invariant))), omega (arith, c.requires.nodes.0, (node_count c.in-Some.table c.args.self.now (ap (λ (o : Option (List ℕ)). ranking (ranks_in o)) (sym c.in-Some.is) ∙ c.self.view_is) (subst (λ (o : Option (List ℕ)). AreKeptRanks (ranks_in o)) c.in-Some.is c.self.invariant)))) }
 
 pub returns-then-is_below-clause-room : goal.returns-then-is_below-clause-room
 returns-then-is_below-clause-room g c =
-    let kept = (subst (λ (o : Option (List ℕ)). AreKept (ranks_in o)) c.in-Some.is c.self.invariant) in
-    room_fits (g.G.Graph.rows c.args.graph.now) c.args.self.now c.args.from c.args.to (is_order c.in-Some.table c.args.self.now (ap (λ (o : Option (List ℕ)). ranking (ranks_in o)) (sym c.in-Some.is) ∙ c.self.view_is) kept) (subst AreRanks (sym (same_ranks c.in-Some.table c.args.self.now (ap (λ (o : Option (List ℕ)). ranking (ranks_in o)) (sym c.in-Some.is) ∙ c.self.view_is) (subst (λ (o : Option (List ℕ)). AreKept (ranks_in o)) c.in-Some.is c.self.invariant))) kept.ranked) c.requires.in_range c.requires.count c.requires.descends
-    c.requires.nodes.0 c.requires.nodes.1 (subst (λ (rs : List ℕ). slice_index rs c.args.to < slice_index rs c.args.from) (sym (same_ranks c.in-Some.table c.args.self.now (ap (λ (o : Option (List ℕ)). ranking (ranks_in o)) (sym c.in-Some.is) ∙ c.self.view_is) (subst (λ (o : Option (List ℕ)). AreKept (ranks_in o)) c.in-Some.is c.self.invariant))) (c.is_below.ensures.0 c.if-is_below.true)) c.below.result (c.below.ensures ∙ ap (placement_below c.args.from) c.new.ensures.items)
+    let kept = (subst (λ (o : Option (List ℕ)). AreKeptRanks (ranks_in o)) c.in-Some.is c.self.invariant) in
+    room_fits (g.G.Graph.rows c.args.graph.now) c.args.self.now c.args.from c.args.to (is_order c.in-Some.table c.args.self.now (ap (λ (o : Option (List ℕ)). ranking (ranks_in o)) (sym c.in-Some.is) ∙ c.self.view_is) kept) (subst AreRanks (sym (same_ranks c.in-Some.table c.args.self.now (ap (λ (o : Option (List ℕ)). ranking (ranks_in o)) (sym c.in-Some.is) ∙ c.self.view_is) (subst (λ (o : Option (List ℕ)). AreKeptRanks (ranks_in o)) c.in-Some.is c.self.invariant))) kept.ranked) c.requires.in_range c.requires.count c.requires.descends
+    c.requires.nodes.0 c.requires.nodes.1 (subst (λ (rs : List ℕ). slice_index rs c.args.to < slice_index rs c.args.from) (sym (same_ranks c.in-Some.table c.args.self.now (ap (λ (o : Option (List ℕ)). ranking (ranks_in o)) (sym c.in-Some.is) ∙ c.self.view_is) (subst (λ (o : Option (List ℕ)). AreKeptRanks (ranks_in o)) c.in-Some.is c.self.invariant))) (c.is_below.ensures.0 c.if-is_below.true)) c.below.result (c.below.ensures ∙ ap (placement_below c.args.from) c.new.ensures.items)
 
 pub returns-then-is_below-clause-apart : goal.returns-then-is_below-clause-apart
 returns-then-is_below-clause-apart g c =
-    apart_already (g.G.Graph.rows c.args.graph.now) c.args.self.now c.args.from c.args.to c.requires.descends (subst (λ (rs : List ℕ). slice_index rs c.args.to < slice_index rs c.args.from) (sym (same_ranks c.in-Some.table c.args.self.now (ap (λ (o : Option (List ℕ)). ranking (ranks_in o)) (sym c.in-Some.is) ∙ c.self.view_is) (subst (λ (o : Option (List ℕ)). AreKept (ranks_in o)) c.in-Some.is c.self.invariant))) (c.is_below.ensures.0 c.if-is_below.true))
+    apart_already (g.G.Graph.rows c.args.graph.now) c.args.self.now c.args.from c.args.to c.requires.descends (subst (λ (rs : List ℕ). slice_index rs c.args.to < slice_index rs c.args.from) (sym (same_ranks c.in-Some.table c.args.self.now (ap (λ (o : Option (List ℕ)). ranking (ranks_in o)) (sym c.in-Some.is) ∙ c.self.view_is) (subst (λ (o : Option (List ℕ)). AreKeptRanks (ranks_in o)) c.in-Some.is c.self.invariant))) (c.is_below.ensures.0 c.if-is_below.true))
 
 pub returns-then-is_below-clause-visits : goal.returns-then-is_below-clause-visits
 returns-then-is_below-clause-visits g c =
-    none_visited (g.G.Graph.rows c.args.graph.now) c.args.self.now c.args.from c.args.to (g.L.Ledger.count c.args.steps.now.ledger) (subst (λ (rs : List ℕ). slice_index rs c.args.to < slice_index rs c.args.from) (sym (same_ranks c.in-Some.table c.args.self.now (ap (λ (o : Option (List ℕ)). ranking (ranks_in o)) (sym c.in-Some.is) ∙ c.self.view_is) (subst (λ (o : Option (List ℕ)). AreKept (ranks_in o)) c.in-Some.is c.self.invariant))) (c.is_below.ensures.0 c.if-is_below.true))
+    none_visited (g.G.Graph.rows c.args.graph.now) c.args.self.now c.args.from c.args.to (g.L.Ledger.count c.args.steps.now.ledger) (subst (λ (rs : List ℕ). slice_index rs c.args.to < slice_index rs c.args.from) (sym (same_ranks c.in-Some.table c.args.self.now (ap (λ (o : Option (List ℕ)). ranking (ranks_in o)) (sym c.in-Some.is) ∙ c.self.view_is) (subst (λ (o : Option (List ℕ)). AreKeptRanks (ranks_in o)) c.in-Some.is c.self.invariant))) (c.is_below.ensures.0 c.if-is_below.true))
 
 pub find_room-answer-requires-clause-kept : goal.find_room-answer-requires-clause-kept
 find_room-answer-requires-clause-kept g c =
-    (subst (λ (o : Option (List ℕ)). AreKept (ranks_in o)) c.in-Some.is c.self.invariant)
+    (subst (λ (o : Option (List ℕ)). AreKeptRanks (ranks_in o)) c.in-Some.is c.self.invariant)
 
 pub find_room-answer-requires-clause-count : goal.find_room-answer-requires-clause-count
 find_room-answer-requires-clause-count g c =
-    sym (node_count c.in-Some.table c.args.self.now (ap (λ (o : Option (List ℕ)). ranking (ranks_in o)) (sym c.in-Some.is) ∙ c.self.view_is) (subst (λ (o : Option (List ℕ)). AreKept (ranks_in o)) c.in-Some.is c.self.invariant)) ∙ c.requires.count
+    sym (node_count c.in-Some.table c.args.self.now (ap (λ (o : Option (List ℕ)). ranking (ranks_in o)) (sym c.in-Some.is) ∙ c.self.view_is) (subst (λ (o : Option (List ℕ)). AreKeptRanks (ranks_in o)) c.in-Some.is c.self.invariant)) ∙ c.requires.count
 
 pub find_room-answer-requires-clause-descends : goal.find_room-answer-requires-clause-descends
 find_room-answer-requires-clause-descends g c =
-    subst (λ (rs : List ℕ). Descends rs (g.G.Graph.rows c.args.graph.now)) (same_ranks c.in-Some.table c.args.self.now (ap (λ (o : Option (List ℕ)). ranking (ranks_in o)) (sym c.in-Some.is) ∙ c.self.view_is) (subst (λ (o : Option (List ℕ)). AreKept (ranks_in o)) c.in-Some.is c.self.invariant)) c.requires.descends
+    subst (λ (rs : List ℕ). Descends rs (g.G.Graph.rows c.args.graph.now)) (same_ranks c.in-Some.table c.args.self.now (ap (λ (o : Option (List ℕ)). ranking (ranks_in o)) (sym c.in-Some.is) ∙ c.self.view_is) (subst (λ (o : Option (List ℕ)). AreKeptRanks (ranks_in o)) c.in-Some.is c.self.invariant)) c.requires.descends
 
 pub find_room-answer-requires-clause-nodes : goal.find_room-answer-requires-clause-nodes
 find_room-answer-requires-clause-nodes g c =
-    (omega (arith, c.requires.nodes.0, (node_count c.in-Some.table c.args.self.now (ap (λ (o : Option (List ℕ)). ranking (ranks_in o)) (sym c.in-Some.is) ∙ c.self.view_is) (subst (λ (o : Option (List ℕ)). AreKept (ranks_in o)) c.in-Some.is c.self.invariant))), omega (arith, c.requires.nodes.1, (node_count c.in-Some.table c.args.self.now (ap (λ (o : Option (List ℕ)). ranking (ranks_in o)) (sym c.in-Some.is) ∙ c.self.view_is) (subst (λ (o : Option (List ℕ)). AreKept (ranks_in o)) c.in-Some.is c.self.invariant))))
+    (omega (arith, c.requires.nodes.0, (node_count c.in-Some.table c.args.self.now (ap (λ (o : Option (List ℕ)). ranking (ranks_in o)) (sym c.in-Some.is) ∙ c.self.view_is) (subst (λ (o : Option (List ℕ)). AreKeptRanks (ranks_in o)) c.in-Some.is c.self.invariant))), omega (arith, c.requires.nodes.1, (node_count c.in-Some.table c.args.self.now (ap (λ (o : Option (List ℕ)). ranking (ranks_in o)) (sym c.in-Some.is) ∙ c.self.view_is) (subst (λ (o : Option (List ℕ)). AreKeptRanks (ranks_in o)) c.in-Some.is c.self.invariant))))
 
 pub returns-clause-room : goal.returns-clause-room
 returns-clause-room g c =

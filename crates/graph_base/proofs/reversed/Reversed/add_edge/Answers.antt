@@ -1,6 +1,6 @@
 use Rattle.std.proofs.Common.{◌<◌, ◌∙◌, ap, arith, length, subst, sym}
 use Rattle.graph_base.specs.Edges.{with_edge}
-use Rattle.graph_base.specs.Reversed.{IsGraph, rows_of}
+use Rattle.graph_base.specs.Reversed.{IsGraph, target_rows}
 use Rattle.graph_base.proofs.RowLemmas.{graph_with_edge, rows-long, rows_same, rows_with_edge}
 use Rattle.graph_base.proofs.reversed.Reversed.add_edge.Goals as goal
 
@@ -18,7 +18,7 @@ invariant_of-self-2 c =
     let to : c.args.to < length rows = omega (arith, c.requires.to, rows-long rows, ap length c.self.view_is) in
     subst IsGraph
     (sym (rows_with_edge rows c.args.from c.args.to c.index_mut.result.now c.push.new.self from c.index_mut.ensures.value c.in_ok-push.ensures.items))
-    (graph_with_edge (rows_of rows) c.args.from c.args.to c.self.invariant (omega (arith, from, rows-long rows)) (omega (arith, to, rows-long rows)))
+    (graph_with_edge (target_rows rows) c.args.from c.args.to c.self.invariant (omega (arith, from, rows-long rows)) (omega (arith, to, rows-long rows)))
 
 pub returns : goal.returns
 returns c =

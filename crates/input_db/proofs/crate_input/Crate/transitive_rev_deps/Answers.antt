@@ -4,7 +4,7 @@ use Rattle.std.proofs.lemmas.Result.{IfOk-weaker}
 use Rattle.graph_base.specs.Edges.{IsAscending}
 use Rattle.graph_base.specs.Reach.{Reaches}
 use Rattle.input_db.specs.Identity.{crate_edges}
-use Rattle.input_db.specs.Queries.{AreListed, is_marked, others}
+use Rattle.input_db.specs.Queries.{AreMarksOf, is_marked, others}
 use Rattle.input_db.proofs.Dependents.{dependents_same, edges-long, marks_fit}
 use Rattle.input_db.proofs.Filtered.{ascending_filtered}
 use Rattle.input_db.proofs.ItselfFirst.{first_once}
@@ -35,7 +35,7 @@ returns-clause-exact g c =
     ∙ ap (filter (is_marked marks)) c.deref.ensures.value in
     IfOk-weaker c.itself_first.result _ _
     (λ crates is. dependents_same (crate_edges db.crates) back c.args.self db.listed marks reaching crates.items found leads_back
-    (subst (AreListed marks) c.all_crates.ensures.list c.in_ok-is_listed.ensures.listed)
+    (subst (AreMarksOf marks) c.all_crates.ensures.list c.in_ok-is_listed.ensures.listed)
     (is ∙ ap (λ ns. c.args.self ∷ others c.args.self ns) kept))
     c.itself_first.ensures
 

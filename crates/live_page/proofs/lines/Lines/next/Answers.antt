@@ -1,7 +1,7 @@
 use Rattle.std.proofs.Common.{Global, [], Some, Ok, Err, Option, Vec, false, ℕ}
 use Rattle.base_text.specs.Calls.{none}
 use Rattle.base_text.proofs.Called.{at_once}
-use Rattle.live_page.specs.Pieces.{is_read_fault}
+use Rattle.live_page.specs.Pieces.{is_script_fault}
 use Rattle.live_page.proofs.Gaves.{too_many}
 use Rattle.live_page.proofs.lines.Lines.next.Goals as goal
 
@@ -20,4 +20,4 @@ pub returns-in-Ok-clause-at_once : goal.returns-in-Ok-clause-at_once
 returns-in-Ok-clause-at_once g c = at_once g.S.ByteSource.read_gives false _ _ _ c.in-Ok.ensures.reads
 
 pub returns-in-Err-clause-at_once : goal.returns-in-Err-clause-at_once
-returns-in-Err-clause-at_once g c = at_once g.S.ByteSource.read_gives (is_read_fault {T = Option (Vec ℕ Global)} (Err c.in-Err.error)) _ _ _ c.in-Err.ensures.reads
+returns-in-Err-clause-at_once g c = at_once g.S.ByteSource.read_gives (is_script_fault {T = Option (Vec ℕ Global)} (Err c.in-Err.error)) _ _ _ c.in-Err.ensures.reads

@@ -1,7 +1,7 @@
 use Rattle.std.proofs.Common.{◌≡◌, length, ap, arith, sym, ◌∙◌}
 use Rattle.std.proofs.lemmas.Result.{err_from_is_err_and}
 use Rattle.pm_cargo_reading.specs.declared.contents.Contents.{Contents}
-use Rattle.pm_cargo_reading.specs.Packages.{ids_between, manifest_path, take_target}
+use Rattle.pm_cargo_reading.specs.Packages.{ids_between, absolute_manifest, take_target}
 use Rattle.pm_cargo_reading.specs.Reading.{take_each}
 use Rattle.pm_cargo_reading.proofs.TakingLemmas.{package-no_manifest, package-no_targets, package-too_many}
 use Rattle.pm_cargo_reading.proofs.contents.ContentsBuilder.take_parts.Goals as goal
@@ -22,7 +22,7 @@ returns-in_err-push_targets-clause-refused c =
     let p = err_from_is_err_and c.from_residual-in_err-push_targets.result c.from_residual-in_err-push_targets.ensures.1 in
     rw (p.1, p.2) (package-no_targets c.args.members.now c.args.limits.now c.args.self.now c.args.package.now _ c.in_ok-manifest.manifest c.replace-targets.result c.replace-targets.ensures.value
     (omega (arith, c.if-len-limits.false, c.len.ensures, ap (λ s. length s.packages) c.self.view_is))
-    (ap manifest_path (sym c.as_str.ensures) ∙ c.in_ok-manifest.ensures) c.in_err-push_targets.ensures.exact)
+    (ap absolute_manifest (sym c.as_str.ensures) ∙ c.in_ok-manifest.ensures) c.in_err-push_targets.ensures.exact)
 
 pub ids_between-requires : goal.ids_between-requires
 ids_between-requires c =
@@ -36,7 +36,7 @@ returns-clause-parts c =
     let end : c.len-2.result ≡ length targets = omega (arith, c.len-2.ensures, ap (λ (s : Contents). length s.targets) c.self-2.view_is) in
     record {
       room = omega (arith, c.if-len-limits.false, c.len.ensures, ap (λ s. length s.packages) c.self.view_is);
-      manifest = ap manifest_path (sym c.as_str.ensures) ∙ c.in_ok-manifest.ensures;
+      manifest = ap absolute_manifest (sym c.as_str.ensures) ∙ c.in_ok-manifest.ensures;
       taken = ap (take_each (take_target c.args.limits.now.targets (length before.packages) c.in_ok-manifest.manifest) before.targets) (sym c.replace-targets.ensures.value) ∙ c.in_ok-push_targets.ensures.exact;
       few = omega (arith, c.if-len-limits.false, c.len.ensures, ap (λ s. length s.packages) c.self.view_is);
       short = c.in_ok-push_targets.ensures.short c.requires.short;

@@ -7,7 +7,7 @@ use Rattle.std.specs.Str.Lines.{lines}
 use Rattle.base_text.specs.Progress.{with_lines}
 use Rattle.pm_cargo_fetch.proofs.Lines.{TakesLines-whole}
 use Rattle.pm_tools.specs.Lines.{lines_from}
-use Rattle.pm_tools.specs.Outputs.{BuildState, take_line, take_message}
+use Rattle.pm_tools.specs.Outputs.{BuildState, take_output_line, take_message}
 use Rattle.pm_tools.specs.Packages.{lent_packages}
 use Rattle.pm_tools.specs.Reading.{take_each}
 use Rattle.pm_tools.proofs.LineLemmas.{lines_begun, lines_came, lines_cut, lines_stopped}
@@ -16,14 +16,14 @@ use Rattle.pm_tools.proofs.outputs.OutputsBuilder.take_lines.Goals as goal
 
 pub loop-line-init : goal.loop-line-init
 loop-line-init g c = record {
-  read = take_each-none (take_line (lent_packages c.args.packages.now.packages)) c.args.self.now;
+  read = take_each-none (take_output_line (lent_packages c.args.packages.now.packages)) c.args.self.now;
   came = lines_begun (lent_packages c.args.packages.now.packages) c.args.self.now (g.P.Progress.lines c.args.progress.now);
 }
 
 pub loop-line-preserved : goal.loop-line-preserved
 loop-line-preserved g c =
     let packages = lent_packages c.args.packages.now.packages in
-    let step = take_line packages in
+    let step = take_output_line packages in
     let before : BuildState = c.args.self.now in
     let so_far : List (List ℕ) = map (λ line. line.now) c.loop-line.yielded in
     let next : step c.loop-line.self c.in-Some.line.now ≡ Ok c.take_message.new.self =
@@ -53,7 +53,7 @@ returns-in_err-message-clause-lines g c =
 
 pub returns-in_err-take_message-clause-leaves : goal.returns-in_err-take_message-clause-leaves
 returns-in_err-take_message-clause-leaves g c =
-    let step = take_line (lent_packages c.args.packages.now.packages) in
+    let step = take_output_line (lent_packages c.args.packages.now.packages) in
     let road = YieldsList-at c.into_iter-line-iterator.ensures.into_iter_gives (YieldsList-from_lines c.args.out.now c.lines-line-items.ensures.rest) in
     let so_far = YieldsList-so_far road c.loop-line.yielded _ c.loop-line.yielded_by in
     let turn = YieldsList-turn road c.loop-line.yielded _ c.loop-line.yielded_by _ _ c.in-Some.line c.in-Some.is c.next.ensures.steps in
@@ -79,7 +79,7 @@ returns-in_err-take_message-clause-lines g c =
 
 pub returns-clause-leaves : goal.returns-clause-leaves
 returns-clause-leaves g c =
-    let step = take_line (lent_packages c.args.packages.now.packages) in
+    let step = take_output_line (lent_packages c.args.packages.now.packages) in
     let road = YieldsList-at c.into_iter-line-iterator.ensures.into_iter_gives (YieldsList-from_lines c.args.out.now c.lines-line-items.ensures.rest) in
     let done = YieldsList-end road c.loop-line.yielded _ c.loop-line.yielded_by _ _ c.in-None.is c.next.ensures.steps in
     sym (ap (take_each step c.args.self.now) done.0) ∙ c.loop-line.invariant.read
