@@ -1,23 +1,28 @@
--- Which reads a call makes of its source, so that a line is given as soon as it is whole and a fault is reported at once.
+-- Which reads a call makes of its source, so that a line is given as soon as it is whole and a fault is
+-- reported at once.
 use Rattle.std.specs.Prelude.{◌≡◌, ℕ, Bool, true, false, List, [], ◌++◌, Option, Some, None, Result, Ok, Err}
 use Rattle.base_text.specs.Lines.{has_newline}
 use Rattle.base_text.specs.declared.lines.LineError.{LineError}
 use Rattle.base_text.specs.declared.lines.LineError.TheVariants.{ReadFault, OutOfMemory}
 
--- reads one after the other, the bytes that they gave, and the source after them: none of them failed, and each was made where
--- no newline was among the bytes that waited at first and those that were given since
-pub data ReadsOnNeed {S : Type 0} (gives : S → Option (List ℕ) → S → Type 0) (waiting : List ℕ) (first : S) : List ℕ → S → Type 0 where
+-- reads one after the other, the bytes that they gave, and the source after them: none of them failed, and
+-- each was made where no newline was among the bytes that waited at first and those that were given since
+pub data ReadsOnNeed {S : Type 0} (gives : S → Option (List ℕ) → S → Type 0) (waiting : List ℕ) (first : S)
+    : List ℕ → S → Type 0 where
   none : ReadsOnNeed gives waiting first [] first
-  next : {bytes more : List ℕ} {before now : S} → ReadsOnNeed gives waiting first bytes before → has_newline (waiting ++ bytes) ≡ false
+  next : {bytes more : List ℕ} {before now : S} → ReadsOnNeed gives waiting first bytes before
+      → has_newline (waiting ++ bytes) ≡ false
       → gives before (Some more) now → ReadsOnNeed gives waiting first (bytes ++ more) now
 
 -- the reads of a call of which none failed
-pub record ReadsWell {S : Type 0} (gives : S → Option (List ℕ) → S → Type 0) (waiting : List ℕ) (first now : S) : Type 0 where
+pub record ReadsWell {S : Type 0} (gives : S → Option (List ℕ) → S → Type 0) (waiting : List ℕ)
+    (first now : S) : Type 0 where
   pub bytes : List ℕ
   pub reads : ReadsOnNeed gives waiting first bytes now
 
 -- the reads of a call of which the last failed
-pub record FailsLast {S : Type 0} (gives : S → Option (List ℕ) → S → Type 0) (waiting : List ℕ) (first now : S) : Type 0 where
+pub record FailsLast {S : Type 0} (gives : S → Option (List ℕ) → S → Type 0) (waiting : List ℕ)
+    (first now : S) : Type 0 where
   pub bytes : List ℕ
   pub before : S
   pub reads : ReadsOnNeed gives waiting first bytes before

@@ -1,4 +1,5 @@
--- What is held of a line that was read in part, and what is given of a line: its bytes, unless they are more than a bound.
+-- What is held of a line that was read in part, and what is given of a line: its bytes, unless they are more
+-- than a bound.
 use Rattle.std.specs.Prelude.{◌≡◌, ℕ, ◌<◌, ◌≤◌, if◌then◌else◌, Bool, true, false, List, [], ◌∷◌, Option, Some, None, length, nat_le}
 use Rattle.base_text.specs.declared.lines.Line.{Line}
 use Rattle.base_text.specs.declared.lines.Line.TheVariants.{Whole, TooLong}

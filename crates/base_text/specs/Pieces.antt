@@ -37,7 +37,8 @@ pub record Reads (bound count : ℕ) (left left' : Option (List ℕ)) (piece : L
   pub end : count ≡ 0 → IsAtEnd left'
 
 -- what a call does to its source: it is read once, and not at all where there was no memory
-abbrev pub ReadsOnce : {S : Type 0} → (S → Option (List ℕ) → S → Type 0) → Result ℕ LineError → List ℕ → S → S → Type 0
+abbrev pub ReadsOnce : {S : Type 0} → (S → Option (List ℕ) → S → Type 0) → Result ℕ LineError → List ℕ → S → S
+    → Type 0
 ReadsOnce gives (Ok count) piece old new = gives old (Some piece) new
 ReadsOnce gives (Err ReadFault) piece old new = gives old None new
 ReadsOnce gives (Err OutOfMemory) piece old new = new ≡ old

@@ -1,4 +1,5 @@
--- The lines by which a call says how far it has come, in the order in which they come. Of a progress that keeps no lines none are known.
+-- The lines by which a call says how far it has come, in the order in which they come. Of a progress that
+-- keeps no lines none are known.
 use Rattle.std.specs.Prelude.{◌≡◌, ℕ, List, [], ◌++◌, Option, Some, None}
 use Rattle.std.proofs.Common.{◌∙◌, ap, refl, sym, append_assoc, append-nil}
 
@@ -15,7 +16,8 @@ pub record TakesFront (old new : Option (List (List ℕ))) (lines : List (List �
   pub taken : new ≡ with_lines front old
 
 -- lines and then more lines are both in a row
-pub with_lines-next : (old : Option (List (List ℕ))) (first next : List (List ℕ)) → with_lines next (with_lines first old) ≡ with_lines (first ++ next) old
+pub with_lines-next : (old : Option (List (List ℕ))) (first next : List (List ℕ))
+    → with_lines next (with_lines first old) ≡ with_lines (first ++ next) old
 with_lines-next None first next = refl
 with_lines-next (Some lines) first next = ap Some (append_assoc lines first next)
 
@@ -25,12 +27,23 @@ with_lines-none None = refl
 with_lines-none (Some lines) = ap Some (append-nil lines)
 
 -- all of them came
-pub TakesFront-whole : (old new : Option (List (List ℕ))) (lines : List (List ℕ)) → new ≡ with_lines lines old → TakesFront old new lines
-TakesFront-whole old new lines all = record { front = lines; missing = []; whole = append-nil lines; taken = all }
+pub TakesFront-whole : (old new : Option (List (List ℕ))) (lines : List (List ℕ)) → new ≡ with_lines lines old
+    → TakesFront old new lines
+TakesFront-whole old new lines all = record {
+  front = lines;
+  missing = [];
+  whole = append-nil lines;
+  taken = all;
+}
 
 -- none of them came
 pub TakesFront-none : (old : Option (List (List ℕ))) (lines : List (List ℕ)) → TakesFront old old lines
-TakesFront-none old lines = record { front = []; missing = lines; whole = refl; taken = sym (with_lines-none old) }
+TakesFront-none old lines = record {
+  front = [];
+  missing = lines;
+  whole = refl;
+  taken = sym (with_lines-none old);
+}
 
 -- a front of the next lines came after all of the first
 pub TakesFront-after : (old between new : Option (List (List ℕ))) (first next : List (List ℕ))
@@ -43,7 +56,8 @@ TakesFront-after old between new first next all part = record {
 }
 
 -- a front of the first lines is one of all
-pub TakesFront-more : (old new : Option (List (List ℕ))) (first next : List (List ℕ)) → TakesFront old new first → TakesFront old new (first ++ next)
+pub TakesFront-more : (old new : Option (List (List ℕ))) (first next : List (List ℕ))
+    → TakesFront old new first → TakesFront old new (first ++ next)
 TakesFront-more old new first next part = record {
   front = part.front;
   missing = part.missing ++ next;

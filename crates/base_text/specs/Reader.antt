@@ -8,8 +8,8 @@ use Rattle.base_text.specs.declared.lines.LineError.TheVariants.{ReadFault, OutO
 use Rattle.base_text.specs.Lines.{has_newline, lines_of, partial_line}
 use Rattle.base_text.specs.Part.{IsHeld, Part, line_bytes, item_of, no_part}
 
--- what is held of the line that is read, the bytes behind it that were read and not looked at, how many more may be read, and
--- whether the source reported its end
+-- what is held of the line that is read, the bytes behind it that were read and not looked at, how many more
+-- may be read, and whether the source reported its end
 pub record Reader : Type 0 where
   pub part : Part
   pub piece : List ℕ
@@ -25,9 +25,11 @@ abbrev pub IsCut : Bool → List ℕ → List ℕ → Option (List ℕ) → Type
 IsCut false front rest left = partial_line front ≡ []
 IsCut true front rest left = (rest ≡ []) × IsAtEnd left
 
--- a reader gave this of the lines of a source, which had `first` to read and has `left` now: the bytes that were taken are those
--- of the lines that were given, those of the line that is read, and those that were not looked at
-pub record GaveLines (first left : Option (List ℕ)) (given : List (Option (List ℕ))) (reader : Reader) : Type 0 where
+-- a reader gave this of the lines of a source, which had `first` to read and has `left` now: the bytes that
+-- were taken are those of the lines that were given, those of the line that is read, and those that were not
+-- looked at
+pub record GaveLines (first left : Option (List ℕ)) (given : List (Option (List ℕ))) (reader : Reader)
+    : Type 0 where
   pub front : List ℕ
   pub line : List ℕ
   pub taken : Consumes first left (front ++ (line ++ reader.piece))

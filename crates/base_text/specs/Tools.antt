@@ -1,4 +1,5 @@
--- The command by which a tool of a toolchain is started: the program, by the directory of the toolchain, and the variable that gives `rustup` the toolchain that is meant.
+-- The command by which a tool of a toolchain is started: the program, by the directory of the toolchain, and
+-- the variable that gives `rustup` the toolchain that is meant.
 use Rattle.std.specs.Prelude.{ℕ, Bool, ◌||◌, if◌then◌else◌, List, [], codes, Option, Some, None, is_some}
 use Rattle.base_values.specs.ByText.{value_at, with_value}
 use Rattle.base_text_outside.specs.declared.command.CommandLine.{CommandLine}

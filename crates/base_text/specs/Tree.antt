@@ -1,4 +1,5 @@
--- What a tree of files holds: a finite map from normal paths to texts. A directory is a path that is above a file.
+-- What a tree of files holds: a finite map from normal paths to texts. A directory is a path that is above a
+-- file.
 use Rattle.std.specs.Prelude.{ℕ, Bool, ◌&&◌, if◌then◌else◌, List, [], length, nat_lt, slice_get, Option, Some, None, bytes_eq, fold}
 use Rattle.std.specs.BTreeSet.{insert_key}
 use Rattle.std.specs.Cmp.Lexicographic.{pointwise}
@@ -25,12 +26,14 @@ entry_name directory file = if is_above directory file then slice_get file (leng
 
 -- the names of the entries of a directory, in the order of their bytes and each once
 unfoldable pub entry_names : TreeFiles → List (List ℕ) → List (List ℕ)
-entry_names files directory = fold (insert_key text_cmp) [] (filter_map (λ file. entry_name directory (components file.0)) files)
+entry_names files directory =
+    fold (insert_key text_cmp) [] (filter_map (λ file. entry_name directory (components file.0)) files)
 
 -- the names of the entries of a path, where it is a directory
 unfoldable pub names_in : TreeFiles → List ℕ → Option (List (List ℕ))
 names_in files path =
-    if list_any (λ file. is_above (normal path) (components file.0)) files then Some (entry_names files (normal path)) else None
+    if list_any (λ file. is_above (normal path) (components file.0)) files then Some (entry_names files (normal path))
+    else None
 
 -- the text of the file at the normal path
 unfoldable pub file_text : TreeFiles → List ℕ → Option (List ℕ)

@@ -1,4 +1,5 @@
--- When a source or a sink may fail: its count of faults rises with every failure, and stops at the greatest u64.
+-- When a source or a sink may fail: its count of faults rises with every failure, and stops at the greatest
+-- u64.
 use Rattle.std.specs.Prelude.{◌≡◌, ℕ, ◌+◌, ◌-◌, ◌^◌, ◌<◌, ◌≤◌, min, List, length, Result, Ok, OnErr, IsErrOf}
 use Rattle.std.proofs.Common.{arith}
 use Rattle.base_text_outside.specs.declared.sink.SinkError.{SinkError}

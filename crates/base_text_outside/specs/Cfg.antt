@@ -19,14 +19,16 @@ is_quote b = b == 34
 -- what stands between the two quotes at the ends of a text
 unfoldable pub unquote : List ℕ → Option (List ℕ)
 unquote text =
-    if nat_le 2 (length text) && is_quote (slice_index text 0) && is_quote (slice_index text (length text - 1))
+    if nat_le 2 (length text) && is_quote (slice_index text 0)
+    && is_quote (slice_index text (length text - 1))
     then Some (slice_range text 1 (length text - 1)) else None
 
 -- the atom that a text names: a flag, or a key and after the first `=` a value in quotes
 unfoldable pub atom_of : List ℕ → Option CfgAtom
 atom_of text =
     if list_any is_equals text
-    then option_map (λ value. KeyValue (before_first is_equals text) value) (unquote (after_first is_equals text))
+    then option_map (λ value. KeyValue (before_first is_equals text) value)
+    (unquote (after_first is_equals text))
     else Some (Flag text)
 
 -- the text that names an atom

@@ -10,7 +10,8 @@ question_of line = record { program = line.program; words = line.words; dir = li
 
 -- whether two questions are the same, as a test
 abbrev pub same_question : Question → Question → Bool
-same_question a b = bytes_eq a.program b.program && (pointwise bytes_eq a.words b.words && bytes_eq a.dir b.dir)
+same_question a b =
+    bytes_eq a.program b.program && (pointwise bytes_eq a.words b.words && bytes_eq a.dir b.dir)
 
 -- the same program, words and directory
 pub record AsksSame (a b : CommandLine) : Type 0 where

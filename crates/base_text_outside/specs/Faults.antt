@@ -1,4 +1,5 @@
--- Sources and sinks in memory of which chosen calls fail: the calls are numbered from 0, and the failing numbers listed.
+-- Sources and sinks in memory of which chosen calls fail: the calls are numbered from 0, and the failing
+-- numbers listed.
 use Rattle.std.specs.Prelude.{◌≡◌, ℕ, ◌==◌, ◌++◌, Bool, List, Option, Some, None, if◌then◌else◌}
 use Rattle.std.specs.List.{list_any}
 use Rattle.base_text_outside.specs.Causes.{next_count}
@@ -39,4 +40,7 @@ is_failing_call s = list_any (λ n. n == s.calls) s.failing
 
 -- after a call, which counts as a fault where its number is listed
 abbrev pub after_call : FaultCounts → FaultCounts
-after_call s = record s { calls = next_count s.calls; faults = if is_failing_call s then next_count s.faults else s.faults }
+after_call s = record s {
+  calls = next_count s.calls;
+  faults = if is_failing_call s then next_count s.faults else s.faults;
+}

@@ -6,6 +6,7 @@ use Rattle.std.specs.Borrow.{LendsSo, Fml, RattleType, MutBor}
 use Rattle.base_text_paths.specs.contracts.arena_map.ArenaMap.{the_row}
 
 -- once the borrow r ends, the last value written through r stands at n
-abbrev pub lends_entry : (K V : RattleType) → MutBor (FinMap nat_cmp V.Denot) → ℕ → Option (MutBor V.Denot) → Fml
+abbrev pub lends_entry : (K V : RattleType) → MutBor (FinMap nat_cmp V.Denot) → ℕ → Option (MutBor V.Denot)
+    → Fml
 lends_entry K V s n r =
     LendsSo (the_row K V) V s r (λ m w. OnSome r (m ≡ insert s.now n w)) (λ m. m ≡ s.now)

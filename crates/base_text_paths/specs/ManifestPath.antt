@@ -1,4 +1,5 @@
--- Paths of manifests: absolute paths that have a directory above them. A manifest is a `Cargo.toml`, or a script that holds its own manifest.
+-- Paths of manifests: absolute paths that have a directory above them. A manifest is a `Cargo.toml`, or a
+-- script that holds its own manifest.
 use Rattle.std.specs.Prelude.{ℕ, ◌<◌, Bool, false, List, length, bytes_eq, codes}
 use Rattle.std.specs.Option.{option_and_then, option_map_or, unwrap_or}
 use Rattle.base_text_paths.specs.FileName.{extension_of}
@@ -14,4 +15,6 @@ directory_of manifest = unwrap_or (parent_text manifest) (codes "/")
 
 -- the extension of the file name is `rs`
 unfoldable pub is_rust_manifest : List ℕ → Bool
-is_rust_manifest text = option_map_or (λ extension. bytes_eq extension (codes "rs")) (option_and_then extension_of (file_name text)) false
+is_rust_manifest text =
+    option_map_or (λ extension. bytes_eq extension (codes "rs"))
+    (option_and_then extension_of (file_name text)) false

@@ -33,11 +33,14 @@ pub path_ties : (x y : List ℕ) → path_eq x y ≡ eq_by_cmp path_cmp x y
 path_ties x y = lists_ties (slice_cmp nat_cmp) texts_ties (components x) (components y)
 
 -- the same two are a partial order on whatever holds a path
-pub path_po : {K : Type 0} (text : K → List ℕ) → IsPartialOrder (on text path_eq) (as_partial_cmp (on text path_cmp))
+pub path_po : {K : Type 0} (text : K → List ℕ)
+    → IsPartialOrder (on text path_eq) (as_partial_cmp (on text path_cmp))
 path_po text =
-    partial_order_from_agreeing_total (on text path_cmp) (on_total text path_cmp_total) (λ x y. refl) (λ x y. path_ties (text x) (text y))
+    partial_order_from_agreeing_total (on text path_cmp) (on_total text path_cmp_total) (λ x y. refl)
+    (λ x y. path_ties (text x) (text y))
 
 -- equal paths are hashed alike
 pub path_fed_alike : (x y : List ℕ) → path_eq x y ≡ true → path_fed x ≡ path_fed y
 path_fed_alike x y e =
-    ap (λ parts. fed.str (path_text parts)) ((pointwise_decides bytes_decides (components x) (components y)).0 e)
+    ap (λ parts. fed.str (path_text parts))
+    ((pointwise_decides bytes_decides (components x) (components y)).0 e)

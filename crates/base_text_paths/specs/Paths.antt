@@ -1,4 +1,5 @@
--- Paths as lists of components, by the rules of Unix paths: a path is its components, and its text follows from them.
+-- Paths as lists of components, by the rules of Unix paths: a path is its components, and its text follows
+-- from them.
 use Rattle.std.specs.Prelude.{◌≡◌, ℕ, ◌-◌, Bool, not, ◌||◌, ◌==◌, if◌then◌else◌, List, [], ◌∷◌, ◌++◌, length, take, drop, slice_get, slice_index, Option, Some, None}
 use Rattle.std.specs.Prelude.{codes, bytes_eq, filter, flat_map, fold}
 use Rattle.std.specs.List.{join_with_byte, slice_split, starts_with}
@@ -63,11 +64,13 @@ IsClean text = text ≡ path_text (components text)
 
 -- the components of a path with a tail behind it, where an absolute tail stands alone
 unfoldable pub components_with_tail : List ℕ → List ℕ → List (List ℕ)
-components_with_tail base tail = if is_absolute tail then components tail else components base ++ components tail
+components_with_tail base tail =
+    if is_absolute tail then components tail else components base ++ components tail
 
 -- the text of the path without its last component, and none for `/`
 unfoldable pub parent_text : List ℕ → Option (List ℕ)
-parent_text text = if length (components text) == 0 then None else Some (path_text (without_last (components text)))
+parent_text text =
+    if length (components text) == 0 then None else Some (path_text (without_last (components text)))
 
 -- the first components of the whole are those of the front
 unfoldable pub is_prefix : List (List ℕ) → List (List ℕ) → Bool
@@ -75,8 +78,11 @@ is_prefix front whole = starts_with bytes_eq whole front
 
 -- the components behind the front, with a slash between each two, where the front begins the whole
 unfoldable pub text_below : List (List ℕ) → List (List ℕ) → Option (List ℕ)
-text_below front whole = if is_prefix front whole then Some (join_with_byte 47 (drop (length front) whole)) else None
+text_below front whole =
+    if is_prefix front whole then Some (join_with_byte 47 (drop (length front) whole)) else None
 
 -- the last component, unless it is `..`
 unfoldable pub file_name : List ℕ → Option (List ℕ)
-file_name text = option_and_then (λ name. if bytes_eq name (codes "..") then None else Some name) (last_component (components text))
+file_name text =
+    option_and_then (λ name. if bytes_eq name (codes "..") then None else Some name)
+    (last_component (components text))

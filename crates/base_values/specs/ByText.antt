@@ -1,4 +1,5 @@
--- a map from text, seen as its entries in ascending order of their keys' bytes: the order of a `BTreeMap<String, _>`
+-- a map from text, seen as its entries in ascending order of their keys' bytes: the order of a
+-- `BTreeMap<String, _>`
 use Rattle.std.specs.Prelude.{◌≡◌, ℕ, List, map, Option, String, string_bytes}
 use Rattle.std.specs.declared.alloc.Global.{Global}
 use Rattle.std.specs.declared.cmp.Ordering.{Ordering}

@@ -1,4 +1,5 @@
--- Versions as Semantic Versioning has them, in the order of Cargo's `semver`: numbers, pre-release, build metadata.
+-- Versions as Semantic Versioning has them, in the order of Cargo's `semver`: numbers, pre-release, build
+-- metadata.
 use Rattle.std.specs.Prelude.{ℕ, Bool, List, ◌==◌}
 use Rattle.std.specs.Ordering.{eq_of_both, nat_cmp, on, then_cmp}
 use Rattle.std.specs.Cmp.Lexicographic.{pointwise}
@@ -16,5 +17,6 @@ version_eq = eq_of_both (on (λ p. p.0) ◌==◌) (eq_of_both (on (λ p. p.1) �
 
 -- the order of versions
 abbrev pub version_cmp : Parts → Parts → Ordering
-version_cmp = then_cmp (on (λ p. p.0) nat_cmp) (then_cmp (on (λ p. p.1) nat_cmp) (then_cmp (on (λ p. p.2) nat_cmp)
+version_cmp =
+    then_cmp (on (λ p. p.0) nat_cmp) (then_cmp (on (λ p. p.1) nat_cmp) (then_cmp (on (λ p. p.2) nat_cmp)
     (then_cmp (on (λ p. p.3) pre_cmp) (on (λ p. p.4) build_cmp))))

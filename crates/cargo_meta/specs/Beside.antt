@@ -12,7 +12,8 @@ up_to_slash text = take (length text - suffix_len (λ b. not (is_slash b)) text)
 abbrev pub has_no_component : List ℕ → Bool
 has_no_component path = (length (trim_trailing path) == 0) || bytes_eq (trim_trailing path) root_dir
 
--- the path's text before its last component, with the slash that stands there, and the whole text where it has none
+-- the path's text before its last component, with the slash that stands there, and the whole text where it
+-- has none
 unfoldable pub folder : List ℕ → List ℕ
 folder path = if has_no_component path then path else up_to_slash (trim_trailing path)
 

@@ -1,4 +1,5 @@
--- the table of a package, in the field order of `cargo metadata`: three groups of eight rows, each read into the package
+-- the table of a package, in the field order of `cargo metadata`: three groups of eight rows, each read into
+-- the package
 use Rattle.std.specs.Prelude.{◌≡◌, [], codes, false, refl, Ok}
 use Rattle.serde_json.specs.Data.{Data, null, object, string, Members, no_members}
 use Rattle.json_fields.specs.Fields.{any_at, default_member, list_at, map_at, members_at, optional_member, required_member, text_at}

@@ -24,7 +24,8 @@ packages_among ids packages = filter (λ p. is_among ids p.id) packages
 
 -- the manifest is `Cargo.toml` in the root, as paths are compared: by their components
 abbrev pub is_manifest_in : List ℕ → List ℕ → Bool
-is_manifest_in root manifest = pointwise bytes_eq (path_components manifest) (path_components (path_join root (codes "Cargo.toml")))
+is_manifest_in root manifest =
+    pointwise bytes_eq (path_components manifest) (path_components (path_join root (codes "Cargo.toml")))
 
 -- the first package whose manifest is in the root
 abbrev pub package_in : List ℕ → List Package → Option Package

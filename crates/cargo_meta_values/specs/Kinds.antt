@@ -30,7 +30,9 @@ target_kind_text (target.Unknown text) = text
 
 -- the kinds of targets that are known
 abbrev pub target_kinds : List TargetKind
-target_kinds = target.Bench ∷ target.Bin ∷ target.CustomBuild ∷ target.CDyLib ∷ target.DyLib ∷ target.Example ∷ target.Lib ∷ target.ProcMacro ∷ target.RLib ∷ target.StaticLib ∷ target.Test ∷ []
+target_kinds =
+    target.Bench ∷ target.Bin ∷ target.CustomBuild ∷ target.CDyLib ∷ target.DyLib ∷ target.Example
+    ∷ target.Lib ∷ target.ProcMacro ∷ target.RLib ∷ target.StaticLib ∷ target.Test ∷ []
 
 -- the kind of target that a text names; another text stays as it is
 unfoldable pub target_kind_of : List ℕ → TargetKind
@@ -49,7 +51,9 @@ crate_type_text (crate_type.Unknown text) = text
 
 -- the types of crates that are known
 abbrev pub crate_types : List CrateType
-crate_types = crate_type.Bin ∷ crate_type.CDyLib ∷ crate_type.DyLib ∷ crate_type.Lib ∷ crate_type.ProcMacro ∷ crate_type.RLib ∷ crate_type.StaticLib ∷ []
+crate_types =
+    crate_type.Bin ∷ crate_type.CDyLib ∷ crate_type.DyLib ∷ crate_type.Lib ∷ crate_type.ProcMacro
+    ∷ crate_type.RLib ∷ crate_type.StaticLib ∷ []
 
 -- the type of crate that a text names; another text stays as it is
 unfoldable pub crate_type_of : List ℕ → CrateType
@@ -81,7 +85,8 @@ edition_text edition._E2030 = codes "2030"
 
 -- the editions
 abbrev pub editions : List Edition
-editions = edition.E2015 ∷ edition.E2018 ∷ edition.E2021 ∷ edition.E2024 ∷ edition._E2027 ∷ edition._E2030 ∷ []
+editions =
+    edition.E2015 ∷ edition.E2018 ∷ edition.E2021 ∷ edition.E2024 ∷ edition._E2027 ∷ edition._E2030 ∷ []
 
 -- the edition that a text names
 unfoldable pub edition_of : List ℕ → Reading Edition

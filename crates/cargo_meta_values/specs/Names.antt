@@ -11,7 +11,8 @@ use Rattle.cargo_meta_values.specs.declared.names.PackageId.{PackageId}
 use Rattle.cargo_meta_values.specs.declared.names.Source.{Source}
 
 -- equality, order and what a hash takes are those of a text
-pub record ComparesAsText {T : Type 0} (text : T → List ℕ) (eq : T → T → Bool) (cmp : T → T → Ordering) (hash_input : T → List (List ℕ)) : Type 0 where
+pub record ComparesAsText {T : Type 0} (text : T → List ℕ) (eq : T → T → Bool) (cmp : T → T → Ordering)
+    (hash_input : T → List (List ℕ)) : Type 0 where
   pub equal : (x y : T) → eq x y ≡ bytes_eq (text x) (text y)
   pub order : (x y : T) → cmp x y ≡ slice_cmp nat_cmp (text x) (text y)
   pub hash : (x : T) → hash_input x ≡ fed.str (text x)

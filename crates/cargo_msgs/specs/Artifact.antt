@@ -20,7 +20,13 @@ profile_at d = do
   debug_assertions ← required_member (codes "debug_assertions") flag_at ms
   overflow_checks ← required_member (codes "overflow_checks") flag_at ms
   test ← required_member (codes "test") flag_at ms
-  Ok (record { opt_level = opt_level; debuginfo = info; debug_assertions = debug_assertions; overflow_checks = overflow_checks; test = test })
+  Ok (record {
+    opt_level = opt_level;
+    debuginfo = info;
+    debug_assertions = debug_assertions;
+    overflow_checks = overflow_checks;
+    test = test;
+  })
 
 -- the document of a profile
 unfoldable pub profile_data : ArtifactProfile → Data

@@ -45,7 +45,14 @@ diagnostic_row inner d = do
   spans ← required_member (codes "spans") (list_at span_at) ms
   children ← required_member (codes "children") (list_at inner) ms
   rendered ← optional_member (codes "rendered") text_at ms
-  Ok (roll-Diagnostic (record { message = message; code = code; level = level; spans = spans; children = children; rendered = rendered }))
+  Ok (roll-Diagnostic (record {
+    message = message;
+    code = code;
+    level = level;
+    spans = spans;
+    children = children;
+    rendered = rendered;
+  }))
 
 -- a diagnostic of at most n levels
 abbrev pub diagnostic_within : ℕ → Data → Reading Diagnostic

@@ -14,4 +14,10 @@ build_from ms = do
   filenames ← required_member (codes "filenames") (list_at text_at) ms
   executable ← optional_member (codes "executable") text_at ms
   fresh ← required_member (codes "fresh") flag_at ms
-  Ok (record { profile = profile; features = features; filenames = filenames; executable = executable; fresh = fresh })
+  Ok (record {
+    profile = profile;
+    features = features;
+    filenames = filenames;
+    executable = executable;
+    fresh = fresh;
+  })

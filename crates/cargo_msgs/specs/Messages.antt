@@ -67,7 +67,8 @@ with_reason reason (object ms) = object (set_member (codes "reason") (string rea
 abbrev pub message_data : Message → Data
 message_data (message.CompilerArtifact a) = with_reason (codes "compiler-artifact") (artifact_data a)
 message_data (message.CompilerMessage m) = with_reason (codes "compiler-message") (compiler_message_data m)
-message_data (message.BuildScriptExecuted s) = with_reason (codes "build-script-executed") (build_script_data s)
+message_data (message.BuildScriptExecuted s) =
+    with_reason (codes "build-script-executed") (build_script_data s)
 message_data (message.BuildFinished b) = with_reason (codes "build-finished") (build_finished_data b)
 message_data (message.TextLine line) = string line
 
@@ -80,7 +81,8 @@ or_line line (Err place) = message.TextLine line
 unfoldable pub message_of : List ℕ → Message
 message_of line = or_line line (document message_at line)
 
--- what is written of a message is a document that a text can hold, and every text of it is read as the message
+-- what is written of a message is a document that a text can hold, and every text of it is read as the
+-- message
 pub record HasTexts (m : Message) : Type 0 where
   pub nests : depth (message_data m) ≤ max_depth
   pub clean : has_float (message_data m) ≡ false

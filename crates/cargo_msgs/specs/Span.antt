@@ -39,7 +39,11 @@ expansion_row inner d = do
   span ← required_member (codes "span") inner ms
   macro_decl_name ← required_member (codes "macro_decl_name") text_at ms
   def_site_span ← optional_member (codes "def_site_span") inner ms
-  Ok (roll-DiagnosticSpanMacroExpansion (record { span = span; macro_decl_name = macro_decl_name; def_site_span = def_site_span }))
+  Ok (roll-DiagnosticSpanMacroExpansion (record {
+    span = span;
+    macro_decl_name = macro_decl_name;
+    def_site_span = def_site_span;
+  }))
 
 -- one level of a span, where the spans of its expansion are read by `inner`
 unfoldable pub span_row : (Data → Reading DiagnosticSpan) → Data → Reading DiagnosticSpan
@@ -56,7 +60,8 @@ span_row inner d = do
   text ← required_member (codes "text") (list_at line_at) ms
   label ← optional_member (codes "label") text_at ms
   suggested_replacement ← optional_member (codes "suggested_replacement") text_at ms
-  suggestion_applicability ← optional_member (codes "suggestion_applicability") (text_form_at applicability_of) ms
+  suggestion_applicability ← optional_member (codes "suggestion_applicability")
+      (text_form_at applicability_of) ms
   expansion ← optional_member (codes "expansion") (expansion_row inner) ms
   Ok (roll-DiagnosticSpan (record {
     file_name = file_name;

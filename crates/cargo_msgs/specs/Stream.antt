@@ -88,13 +88,15 @@ is_item_fault (Some (Err ReadFault)) = true
 is_item_fault (Some (Err OutOfMemory)) = false
 
 -- a reader gave these lines of a source, and at most one more
-pub record GaveOneMore (first left : Option (List ℕ)) (lines : List (Option (List ℕ))) (reader : Reader) : Type 0 where
+pub record GaveOneMore (first left : Option (List ℕ)) (lines : List (Option (List ℕ))) (reader : Reader)
+    : Type 0 where
   pub more : List (Option (List ℕ))
   pub few : length more ≤ 1
   pub gave : GaveLines first left (lines ++ more) reader
 
 -- what a call answers: what it means, whether it is the last, and that no fault is forgotten
-pub record AnswersItem {S : Type 0} (result : Option Item) (old new : Stream S) (before now : ℕ) : Type 0 where
+pub record AnswersItem {S : Type 0} (result : Option Item) (old new : Stream S) (before now : ℕ)
+    : Type 0 where
   pub told : TellsItem result old new before now
   pub fails : old.has_failed ≡ false → new.has_failed ≡ is_fatal result
   pub later : before ≤ now

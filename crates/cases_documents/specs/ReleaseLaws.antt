@@ -20,12 +20,25 @@ release-round_trips = table-round_trips _ release_data 2 λ ms.
     and_then (required_member-kept text-round_trips none within (codes "name")) λ name name_h.
     and_then (required_member-kept version-round_trips none within (codes "version")) λ version version_h.
     and_then (required_member-kept number-round_trips none within (codes "size")) λ size size_h.
-    and_then (optional_member-kept text-round_trips none within (λ x. refl) (codes "summary")) λ summary summary_h.
-    and_then (optional_member-kept bare-round_trips none within (λ x. refl) (codes "rust-version")) λ rust_version rust_version_h.
-    and_then (default_member-kept flag-round_trips none within (codes "yanked") false (record { again = refl; clean = λ _. refl; nests = omega arith })) λ yanked yanked_h.
+    and_then (optional_member-kept text-round_trips none within (λ x. refl) (codes "summary"))
+    λ summary summary_h.
+    and_then (optional_member-kept bare-round_trips none within (λ x. refl) (codes "rust-version"))
+    λ rust_version rust_version_h.
+    and_then
+    (default_member-kept flag-round_trips none within (codes "yanked") false (record {
+      again = refl;
+      clean = λ _. refl;
+      nests = omega arith;
+    })) λ yanked yanked_h.
     and_then (list_member-kept text-round_trips none some within (codes "tags")) λ tags tags_h.
-    and_then (map_member-kept requirement-round_trips none some within (codes "dependencies")) λ dependencies dependencies_h.
-    and_then (default_member-kept any-round_trips none within (codes "extra") null (record { again = refl; clean = λ _. refl; nests = omega arith })) λ extra extra_h.
+    and_then (map_member-kept requirement-round_trips none some within (codes "dependencies"))
+    λ dependencies dependencies_h.
+    and_then
+    (default_member-kept any-round_trips none within (codes "extra") null (record {
+      again = refl;
+      clean = λ _. refl;
+      nests = omega arith;
+    })) λ extra extra_h.
     let written =
     set_member-written (codes "extra") extra_h
     (set_member-written (codes "dependencies") dependencies_h
@@ -38,7 +51,9 @@ release-round_trips = table-round_trips _ release_data 2 λ ms.
     (set_member-written (codes "name") name_h (no_members-written _ _)))))))))
     in
     at_last (record {
-      again = rw (version_h.again, summary_h.again, rust_version_h.again, tags_h.again, dependencies_h.again) refl;
+      again =
+          rw (version_h.again, summary_h.again, rust_version_h.again, tags_h.again, dependencies_h.again)
+          refl;
       clean = written.clean;
       nests = omega (arith, written.nests);
     })

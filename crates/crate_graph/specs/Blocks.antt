@@ -31,15 +31,18 @@ IsMoved p n = Contains p.nodes n
 abbrev pub IsOther : Block → Ranking → ℕ → Type 0
 IsOther p old n = (n < length old.nodes) × (IsMoved p n → ⊥)
 
--- the nodes that move stand directly below the one that is named; they keep their order, and the others theirs
+-- the nodes that move stand directly below the one that is named; they keep their order, and the others
+-- theirs
 pub record MovesBlock (p : Block) (old new : Ranking) : Type 0 where
   pub order : IsOrder new
   pub count : length new.nodes ≡ length old.nodes
   pub moved : (m n : ℕ) → IsMoved p m → IsMoved p n → slice_index old.ranks m < slice_index old.ranks n
       → slice_index new.ranks m < slice_index new.ranks n
-  pub others : (m n : ℕ) → IsOther p old m → IsOther p old n → slice_index old.ranks m < slice_index old.ranks n
+  pub others : (m n : ℕ) → IsOther p old m → IsOther p old n
+      → slice_index old.ranks m < slice_index old.ranks n
       → slice_index new.ranks m < slice_index new.ranks n
   pub up : (m n : ℕ) → IsMoved p m → IsOther p old n → slice_index old.ranks p.below ≤ slice_index old.ranks n
       → slice_index new.ranks m < slice_index new.ranks n
-  pub down : (m n : ℕ) → IsOther p old m → IsMoved p n → slice_index old.ranks m < slice_index old.ranks p.below
+  pub down : (m n : ℕ) → IsOther p old m → IsMoved p n
+      → slice_index old.ranks m < slice_index old.ranks p.below
       → slice_index new.ranks m < slice_index new.ranks n

@@ -38,7 +38,10 @@ end_text (Some step) = step_text step
 unfoldable pub back_text : List Step → List ℕ
 back_text path = join_by step_text (codes " -> ") (reverse path)
 
--- a refused dependency as it is printed: the first crate of its path, the last one, and the path from the last to the first
+-- a refused dependency as it is printed: the first crate of its path, the last one, and the path from the
+-- last to the first
 abbrev pub cyclic_text : List Step → List ℕ
-cyclic_text path = codes "cyclic deps: " ++ (end_text (slice_get path 0) ++ (codes " -> " ++ (end_text (slice_get path (length path - 1))
+cyclic_text path =
+    codes "cyclic deps: "
+    ++ (end_text (slice_get path 0) ++ (codes " -> " ++ (end_text (slice_get path (length path - 1))
     ++ (codes ", alternative path: " ++ back_text path))))

@@ -24,7 +24,8 @@ dependency_row krate = map target_of krate.basic.dependencies
 abbrev pub edges : List CrateBuilder → List (List ℕ)
 edges crates = map dependency_row crates
 
--- what every graph keeps: no more crates than the limit, no dependency that leads out of it, no cycle, and clean paths
+-- what every graph keeps: no more crates than the limit, no dependency that leads out of it, no cycle, and
+-- clean paths
 pub record IsWellMadeGraph (crates : List CrateBuilder) (limit : ℕ) : Type 0 where
   pub fits : limit < 2 ^ 32
   pub within : length crates ≤ limit
@@ -55,14 +56,17 @@ pub record AddsCrate (old new : Graph) (krate : CrateBuilder) : Type 0 where
 
 -- the crate with one more dependency, behind those that it had
 abbrev pub with_dependency : CrateBuilder → Dependency (Idx CrateTag) → CrateBuilder
-with_dependency krate dep = record krate { basic = record krate.basic { dependencies = krate.basic.dependencies ++ dep ∷ [] } }
+with_dependency krate dep =
+    record krate { basic = record krate.basic { dependencies = krate.basic.dependencies ++ dep ∷ [] } }
 
 -- the crate of a number has one more dependency, and all other crates are as they were
 abbrev pub HasDependency : List CrateBuilder → List CrateBuilder → ℕ → Dependency (Idx CrateTag) → Type 0
-HasDependency old new from dep = (krate : CrateBuilder) → slice_get old from ≡ Some krate → new ≡ slice_set old from (with_dependency krate dep)
+HasDependency old new from dep =
+    (krate : CrateBuilder) → slice_get old from ≡ Some krate
+    → new ≡ slice_set old from (with_dependency krate dep)
 
--- the new graph has the dependency, and all else of its crates and its limit is that of the old one; of the ranks only
--- those from the source's up to the target's may change
+-- the new graph has the dependency, and all else of its crates and its limit is that of the old one; of the
+-- ranks only those from the source's up to the target's may change
 pub record AddsDependency (old new : Graph) (from : ℕ) (dep : Dependency (Idx CrateTag)) : Type 0 where
   pub limit : new.limit ≡ old.limit
   pub crates : HasDependency old.crates new.crates from dep

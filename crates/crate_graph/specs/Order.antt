@@ -1,4 +1,5 @@
--- An order of the nodes of a graph: each node has a rank, and each edge leads from a higher rank to a lower one.
+-- An order of the nodes of a graph: each node has a rank, and each edge leads from a higher rank to a lower
+-- one.
 use Rattle.std.specs.Prelude.{◌≡◌, ℕ, zero, suc, ◌<◌, ◌^◌, ◌==◌, List, [], ◌∷◌, ◌++◌, Option, Some, None, length, map, slice_index, if◌then◌else◌}
 use Rattle.std.specs.List.{range_with_len}
 use Rattle.graph_base.specs.Edges.{HasEdge, IsInRange}
@@ -33,8 +34,10 @@ pub record IsOrder (order : Ranking) : Type 0 where
   pub long : length order.ranks ≡ length order.nodes
   pub ranks_within : (n : ℕ) → n < length order.nodes → slice_index order.ranks n < length order.nodes
   pub nodes_within : (r : ℕ) → r < length order.nodes → slice_index order.nodes r < length order.nodes
-  pub node_of_rank : (n : ℕ) → n < length order.nodes → slice_index order.nodes (slice_index order.ranks n) ≡ n
-  pub rank_of_node : (r : ℕ) → r < length order.nodes → slice_index order.ranks (slice_index order.nodes r) ≡ r
+  pub node_of_rank : (n : ℕ) → n < length order.nodes
+      → slice_index order.nodes (slice_index order.ranks n) ≡ n
+  pub rank_of_node : (r : ℕ) → r < length order.nodes
+      → slice_index order.ranks (slice_index order.nodes r) ≡ r
 
 -- each edge leads from a higher rank to a lower one
 abbrev pub Descends : List ℕ → List (List ℕ) → Type 0

@@ -21,10 +21,12 @@ renumbered_crate new krate = record krate { basic = renamed_crate (renumbered_id
 -- the crates from n on that are kept, by the new numbers
 abbrev pub kept_crates : List ℕ → ℕ → List CrateBuilder → List CrateBuilder
 kept_crates keep n [] = []
-kept_crates keep n (c ∷ cs) = if is_named keep n then renumbered_crate (kept_below keep) c ∷ kept_crates keep (suc n) cs else kept_crates keep (suc n) cs
+kept_crates keep n (c ∷ cs) =
+    if is_named keep n then renumbered_crate (kept_below keep) c ∷ kept_crates keep (suc n) cs
+    else kept_crates keep (suc n) cs
 
--- the new graph has the named crates alone, numbered anew in their order, which keep the order of their ranks, and the
--- same limit
+-- the new graph has the named crates alone, numbered anew in their order, which keep the order of their
+-- ranks, and the same limit
 pub record KeepsNamed (old new : Graph) (keep : List ℕ) : Type 0 where
   pub limit : new.limit ≡ old.limit
   pub crates : new.crates ≡ kept_crates keep 0 old.crates

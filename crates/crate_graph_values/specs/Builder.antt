@@ -13,5 +13,12 @@ abbrev pub workspace_of : CrateBuilder → CrateWorkspaceData
 workspace_of krate = krate.ws_data
 
 -- the crate of such data, such conditional compilation and environment, and such a workspace
-abbrev pub crate_of_parts : CrateData (Idx CrateTag) → ExtraCrateData → List CfgAtom → List (List ℕ × List ℕ) → CrateWorkspaceData → CrateBuilder
-crate_of_parts basic extra cfgs env workspace = record { basic = basic; extra = extra; cfg_options = cfgs; env = env; ws_data = workspace }
+abbrev pub crate_of_parts : CrateData (Idx CrateTag) → ExtraCrateData → List CfgAtom → List (List ℕ × List ℕ)
+    → CrateWorkspaceData → CrateBuilder
+crate_of_parts basic extra cfgs env workspace = record {
+  basic = basic;
+  extra = extra;
+  cfg_options = cfgs;
+  env = env;
+  ws_data = workspace;
+}

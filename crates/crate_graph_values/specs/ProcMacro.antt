@@ -18,7 +18,9 @@ abbrev pub reason : ProcMacroLoadingError → List ℕ
 reason Disabled = codes "proc-macro expansion is disabled"
 reason FailedToBuild = codes "proc-macro failed to build"
 reason ExpectedProcMacroArtifact = codes "proc-macro crate did not build proc-macro artifact"
-reason MissingDylibPath = codes "proc-macro crate built but the dylib path is missing, this indicates a problem with your build system."
+reason MissingDylibPath =
+    codes
+    "proc-macro crate built but the dylib path is missing, this indicates a problem with your build system."
 reason NotYetBuilt = codes "proc-macro not yet built"
 reason NoProcMacros = codes "proc macro library has no proc macros"
 reason (ProcMacroSrvError text) = codes "proc macro server error: " ++ text

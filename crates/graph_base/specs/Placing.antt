@@ -23,7 +23,10 @@ pub record CanRelink (next prev : List ℕ) (node mark : ℕ) : Type 0 where
 -- the node stands directly before the mark, and the others keep their order
 pub record PutsBefore (node mark : ℕ) (old new : List ℕ) : Type 0 where
   pub long : length new ≡ length old
-  pub others : (p q : ℕ) → p < length old → q < length old → p ≢ node → q ≢ node → slice_index old p < slice_index old q
+  pub others : (p q : ℕ) → p < length old → q < length old → p ≢ node → q ≢ node
+      → slice_index old p < slice_index old q
       → slice_index new p < slice_index new q
-  pub over : (p : ℕ) → IsPosition old p → p ≢ node → slice_index old p < slice_index old mark → slice_index new p < slice_index new node
-  pub under : (p : ℕ) → p < length old → p ≢ node → slice_index old mark ≤ slice_index old p → slice_index new node < slice_index new p
+  pub over : (p : ℕ) → IsPosition old p → p ≢ node → slice_index old p < slice_index old mark
+      → slice_index new p < slice_index new node
+  pub under : (p : ℕ) → p < length old → p ≢ node → slice_index old mark ≤ slice_index old p
+      → slice_index new node < slice_index new p

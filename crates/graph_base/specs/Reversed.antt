@@ -12,7 +12,8 @@ pub record IsGraph (rows : List (List ℕ)) : Type 0 where
   pub short : length rows < 2 ^ 32
   pub in_range : IsInRange rows
 
--- two graphs have the same nodes, and an edge leads from b to a in the one exactly where one leads from a to b in the other
+-- two graphs have the same nodes, and an edge leads from b to a in the one exactly where one leads from a to
+-- b in the other
 pub record IsReversed (back g : List (List ℕ)) : Type 0 where
   pub nodes : length back ≡ length g
   pub edges : (a b : ℕ) → HasEdge back b a ↔ HasEdge g a b

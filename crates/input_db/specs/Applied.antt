@@ -1,5 +1,5 @@
--- A change made step by step, except for its crates: the roots in order, each with its files, then the lists of
--- roots, then the texts in order.
+-- A change made step by step, except for its crates: the roots in order, each with its files, then the lists
+-- of roots, then the texts in order.
 use Rattle.std.specs.Prelude.{ℕ, suc, List, [], ◌∷◌, Option, Some, None}
 use Rattle.std.specs.List.{fold}
 use Rattle.std.specs.Option.{unwrap_or}

@@ -76,7 +76,8 @@ root_given root = stored_root root (root_durability root)
 
 -- the root of a number: the one that is given, or the one that was there. No root goes
 abbrev pub root_after : List SourceRoot → FileTables → ℕ → Option SourceRootInput
-root_after roots old number = option_or (option_map root_given (slice_get roots number)) (source_root_at old number)
+root_after roots old number =
+    option_or (option_map root_given (slice_get roots number)) (source_root_at old number)
 
 -- the place of a file by the last root that has it, of those that are given, numbered from here on
 abbrev pub place_given : ℕ → List SourceRoot → ℕ → Option FileSourceRootInput
@@ -107,12 +108,15 @@ pub record IsChanged (change : FileChange) (old new : Database) : Type 0 where
   pub local : new.local ≡ local_after change.roots old.local
   pub library : new.library ≡ library_after change.roots old.library
   pub nonce : new.nonce ≡ old.nonce
-  pub roots : (number : ℕ) → source_root_at new.files number ≡ root_after (given_roots change) old.files number
+  pub roots : (number : ℕ)
+      → source_root_at new.files number ≡ root_after (given_roots change) old.files number
   pub places : (file : ℕ) → file_root_of new.files file ≡ place_after (given_roots change) old.files file
-  pub texts : (file : ℕ) → text_of_file new.files file ≡ text_after change.files_changed old.files new.files file
+  pub texts : (file : ℕ)
+      → text_of_file new.files file ≡ text_after change.files_changed old.files new.files file
 
 -- the crates of a graph are set in a database, where one is given, and the answer gives their numbers there
-abbrev pub SetsCrates : (Id → Id → Ordering) → Option Graph → Database → Database → Option (tree.BTreeMap Id ℕ) → Type 0
+abbrev pub SetsCrates : (Id → Id → Ordering) → Option Graph → Database → Database
+    → Option (tree.BTreeMap Id ℕ) → Type 0
 SetsCrates cmp None old new ids = (ids ≡ None) × (new ≡ old)
 SetsCrates cmp (Some graph) old new None = ⊥
 SetsCrates cmp (Some graph) old new (Some ids) = IsSetInSteps cmp graph.crates old new ids

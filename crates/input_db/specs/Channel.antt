@@ -13,5 +13,6 @@ pre_release version = version.3
 -- the channel that the pre-release of a crate's toolchain names, where the crate has one
 abbrev pub channel_in : Table → ℕ → Option ReleaseChannel
 channel_in crates krate =
-    option_and_then (λ workspace. option_and_then (λ version. channel_of (pre_release version)) workspace.toolchain)
+    option_and_then
+    (λ workspace. option_and_then (λ version. channel_of (pre_release version)) workspace.toolchain)
     (option_map (λ input. input.workspace_data) (input_in crates krate))

@@ -94,7 +94,8 @@ with_files db files = record db { files = files }
 abbrev pub with_lists : Database → LocalRoots → LibraryRoots → Database
 with_lists db local library = record db { local = local; library = library }
 
--- how many writes there were when an identity's crate is given an input: one more where the crate is new, or had another
+-- how many writes there were when an identity's crate is given an input: one more where the crate is new, or
+-- had another
 abbrev pub writes_after : ℕ → Option CrateInput → CrateInput → ℕ
 writes_after writes None input = next_count writes
 writes_after writes (Some old) input = if input_eq old input then writes else next_count writes

@@ -74,14 +74,18 @@ progress_after crates db order = fold (finish crates) (initial_progress crates d
 abbrev pub with_new_list : Database → List ℕ → Database
 with_new_list db crates = if pointwise nat_eq db.listed crates then db else with_crate_list db crates Medium
 
--- the crates of a graph are set in a database, which is what finishing them one after the other makes of it: so what
--- `IsSetInDb` does not name is as it was, and the list and its durability are stored exactly where the list differs
-pub record IsSetInSteps (cmp : Id → Id → Ordering) (crates : List CrateBuilder) (old new : Database) (ids : tree.BTreeMap Id ℕ) : Type 0 where
+-- the crates of a graph are set in a database, which is what finishing them one after the other makes of it:
+-- so what `IsSetInDb` does not name is as it was, and the list and its durability are stored exactly where
+-- the list differs
+pub record IsSetInSteps (cmp : Id → Id → Ordering) (crates : List CrateBuilder) (old new : Database)
+    (ids : tree.BTreeMap Id ℕ) : Type 0 where
   pub set : IsSetInDb cmp crates old new ids
   pub numbers : set.numbers ≡ (progress_after crates old set.order).finished.numbers
-  pub steps : new ≡ with_new_list (progress_after crates old set.order).db (listed_crates set.order set.numbers)
+  pub steps :
+      new ≡ with_new_list (progress_after crates old set.order).db (listed_crates set.order set.numbers)
 
 -- a graph that was set last, and whose crates have each a number of its own, leaves the database as it is
 abbrev pub LeavesWhatWasSet : (Id → Id → Ordering) → List CrateBuilder → Database → Database → Type 0
-LeavesWhatWasSet cmp crates old new = (earlier : Database) (ids : tree.BTreeMap Id ℕ) (last : IsSetInSteps cmp crates earlier old ids)
+LeavesWhatWasSet cmp crates old new =
+    (earlier : Database) (ids : tree.BTreeMap Id ℕ) (last : IsSetInSteps cmp crates earlier old ids)
     → HaveOwnNumbers last.set.order last.set.numbers → new ≡ old

@@ -1,7 +1,7 @@
--- What distinguishes the crates of a database, and the table of all crates that it was ever given: each identity
--- once, with what the database holds of its crate. The place of an entry is the number of its crate.
--- From the way in which a language server's inputs are made of a crate graph: the first crate of a root file is known by that
--- file alone, and each further one by its data and its conditional compilation as well.
+-- What distinguishes the crates of a database, and the table of all crates that it was ever given: each
+-- identity once, with what the database holds of its crate. The place of an entry is the number of its crate.
+-- From the way in which a language server's inputs are made of a crate graph: the first crate of a root file
+-- is known by that file alone, and each further one by its data and its conditional compilation as well.
 use Rattle.std.specs.Prelude.{◌≡◌, ℕ, ◌<◌, ◌≤◌, ◌^◌, Bool, List, [], Option, Some, None, if◌then◌else◌, length, map, position}
 use Rattle.std.specs.Prelude.{slice_get, slice_index_or}
 use Rattle.std.specs.List.{All, position_or_len}
@@ -22,7 +22,8 @@ use Rattle.input_db.specs.declared.crate_input.CrateInput.{CrateInput}
 use Rattle.input_db.specs.declared.crate_input.UniqueCrateData.{UniqueCrateData}
 use Rattle.input_db_files.specs.declared.durability.Durability.TheVariants.{Medium}
 
--- the `==` of identities: true exactly of the same root file with the same data and atoms, as the laws of this crate say
+-- the `==` of identities: true exactly of the same root file with the same data and atoms, as the laws of
+-- this crate say
 abbrev pub unique_eq : UniqueCrateData → UniqueCrateData → Bool
 unique_eq = (identities.eq-value).it
 
@@ -75,9 +76,11 @@ named_in krate = map (λ dep. dep.crate_id) krate.dependencies
 abbrev pub names_of : UniqueCrateData → List ℕ
 names_of unique = option_map_or (λ pair. named_in pair.0) unique.disambiguator []
 
--- the crate data of an identity, where it has some, runs procedural macros in a clean path, as every `AbsPathBuf` is
+-- the crate data of an identity, where it has some, runs procedural macros in a clean path, as every
+-- `AbsPathBuf` is
 abbrev pub HasCleanIdentity : UniqueCrateData → Type 0
-HasCleanIdentity unique = (krate : CrateData ℕ) (cfgs : List CfgAtom) → unique.disambiguator ≡ Some (krate, cfgs)
+HasCleanIdentity unique =
+    (krate : CrateData ℕ) (cfgs : List CfgAtom) → unique.disambiguator ≡ Some (krate, cfgs)
     → IsClean krate.proc_macro_cwd
 
 -- the crate data of an input runs procedural macros in a clean path
@@ -112,7 +115,8 @@ with_entry table unique input = insert_entry unique_eq table unique input
 abbrev pub crate_edges : Table → List (List ℕ)
 crate_edges table = map (λ entry. named_in entry.1.crate_data) table
 
--- crates are numbered within 32 bits; an identity names older crates alone; an input names crates of the table
+-- crates are numbered within 32 bits; an identity names older crates alone; an input names crates of the
+-- table
 pub record IsTable (table : Table) : Type 0 where
   pub few : length table < 2 ^ 32
   pub older : (krate : ℕ) (unique : UniqueCrateData) → slice_get (keys_of table) krate ≡ Some unique
@@ -120,12 +124,14 @@ pub record IsTable (table : Table) : Type 0 where
   pub present : (krate : ℕ) (input : CrateInput) → input_in table krate ≡ Some input
       → All (λ named. named < length table) (named_in input.crate_data)
 
--- an identity's crate is given an input: it is the one that the identity had, or greater than all before, and every other
--- identity keeps its crate, and every other crate its input
-pub record PutsCrate (old new : Table) (unique : UniqueCrateData) (input : CrateInput) (krate : ℕ) : Type 0 where
+-- an identity's crate is given an input: it is the one that the identity had, or greater than all before, and
+-- every other identity keeps its crate, and every other crate its input
+pub record PutsCrate (old new : Table) (unique : UniqueCrateData) (input : CrateInput) (krate : ℕ)
+    : Type 0 where
   pub named : crate_in new unique ≡ Some krate
   pub had : (n : ℕ) → crate_in old unique ≡ Some n → krate ≡ n
   pub greater : crate_in old unique ≡ None → length old ≤ krate
   pub held : input_in new krate ≡ Some input
-  pub identities : (other : UniqueCrateData) (n : ℕ) → crate_in old other ≡ Some n → crate_in new other ≡ Some n
+  pub identities : (other : UniqueCrateData) (n : ℕ) → crate_in old other ≡ Some n
+      → crate_in new other ≡ Some n
   pub inputs : (other : ℕ) → (other ≡ krate → ⊥) → input_in new other ≡ input_in old other

@@ -9,7 +9,8 @@ use Rattle.input_db.specs.Identity.{input_in}
 -- the source root of a crate's root file, where it has one
 abbrev pub source_root_of : Database → ℕ → Option ℕ
 source_root_of db krate =
-    option_and_then (λ crate_data. option_map (λ place. place.source_root_id) (file_root_of db.files crate_data.root_file_id))
+    option_and_then
+    (λ crate_data. option_map (λ place. place.source_root_id) (file_root_of db.files crate_data.root_file_id))
     (option_map (λ input. input.crate_data) (input_in db.crates krate))
 
 -- the root file of each crate that there is now is in a source root
@@ -26,4 +27,5 @@ crates_in_root db root = filter (is_in_root db root) db.listed
 
 -- the crates whose root files are in the source root of a file, where it has one
 abbrev pub crates_beside : Database → ℕ → List ℕ
-crates_beside db file = option_map_or (λ place. crates_in_root db place.source_root_id) (file_root_of db.files file) []
+crates_beside db file =
+    option_map_or (λ place. crates_in_root db place.source_root_id) (file_root_of db.files file) []

@@ -57,7 +57,8 @@ file_root_of files file = map.get files.file_roots file
 -- the source root that a file is in, where it is there
 abbrev pub root_of_file : FileTables → ℕ → Option SourceRoot
 root_of_file files file =
-    option_and_then (λ place. option_map (λ input. input.source_root) (source_root_at files place.source_root_id))
+    option_and_then
+    (λ place. option_map (λ input. input.source_root) (source_root_at files place.source_root_id))
     (file_root_of files file)
 
 -- how durable the text of a file is to be: by the root that it is in, where that is there

@@ -52,7 +52,8 @@ abbrev mutual
   -- members
   pub members_stored : Members → Gv
   members_stored no_members = gnil
-  members_stored (member k d ms) = gcons (gcons (gnum 1) (gcons (text_code.code k) (stored d))) (members_stored ms)
+  members_stored (member k d ms) =
+      gcons (gcons (gnum 1) (gcons (text_code.code k) (stored d))) (members_stored ms)
 
 mutual
   -- values that are stored alike are equal
@@ -67,7 +68,8 @@ mutual
 
   items_inj : (xs ys : Items) → items_stored xs ≡ items_stored ys → xs ≡ ys
   items_inj no_items no_items p = refl
-  items_inj (item d ds) (item e es) p = λ i. item (stored_inj d e (ap (λ g. rest (first g)) p) i) (items_inj ds es (ap rest p) i)
+  items_inj (item d ds) (item e es) p =
+      λ i. item (stored_inj d e (ap (λ g. rest (first g)) p) i) (items_inj ds es (ap rest p) i)
   items_inj _ _ p = absurd (omega (arith, ap (λ g. num (first (first g))) p))
 
   members_inj : (xs ys : Members) → members_stored xs ≡ members_stored ys → xs ≡ ys

@@ -1,4 +1,5 @@
--- a whole document: `syntax` where its text is no JSON, `float` where it holds a float, else what its table makes of it
+-- a whole document: `syntax` where its text is no JSON, `float` where it holds a float, else what its table
+-- makes of it
 use Rattle.std.specs.Prelude.{◌≡◌, if◌then◌else◌, ℕ, List, codes, Ok, Err}
 use Rattle.std.specs.Str.{is_utf8}
 use Rattle.serde_json.specs.Data.{Data}

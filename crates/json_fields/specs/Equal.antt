@@ -1,4 +1,5 @@
--- when two JSON values are equal: the same kind, whole numbers by value, floats as numbers, and all within alike
+-- when two JSON values are equal: the same kind, whole numbers by value, floats as numbers, and all within
+-- alike
 use Rattle.std.specs.Prelude.{◌≡◌, ◌&&◌, Bool, true, false, Float, refl, nat_eq}
 use Rattle.std.proofs.lemmas.Bool.{false≢true}
 use Rattle.std.specs.Bool.{beq}
@@ -23,7 +24,9 @@ num_eq = eq_of_both (on as_integer (option_eq int_eq)) (on float_part (eq_by_cmp
 
 -- equality of numbers is an equivalence
 pub num_eq-equiv : IsEquivalence num_eq
-num_eq-equiv = and_equiv (on_equiv as_integer (options_equiv int_eq_equiv)) (on_equiv float_part (eq_by_cmp_equiv nan_last))
+num_eq-equiv =
+    and_equiv (on_equiv as_integer (options_equiv int_eq_equiv))
+    (on_equiv float_part (eq_by_cmp_equiv nan_last))
 
 abbrev mutual
   -- equal values
@@ -49,7 +52,8 @@ abbrev mutual
   members_eq _ _ = false
 
 -- two equal firsts and two equal rests
-both_congr : (a b c d e f : Bool) → (a && d) ≡ true → (a ≡ true → b ≡ c) → (d ≡ true → e ≡ f) → (b && e) ≡ (c && f)
+both_congr : (a b c d e f : Bool) → (a && d) ≡ true → (a ≡ true → b ≡ c) → (d ≡ true → e ≡ f)
+    → (b && e) ≡ (c && f)
 both_congr true b c true e f h p q = λ i. p refl i && q refl i
 both_congr true b c false e f h p q = absurd (false≢true h)
 both_congr false b c d e f h p q = absurd (false≢true h)
@@ -69,7 +73,8 @@ mutual
 
   members_eq-refl : (xs : Members) → members_eq xs xs ≡ true
   members_eq-refl no_members = refl
-  members_eq-refl (member k d ms) = λ i. nat_list_eq_equiv.refl k i && (data_eq-refl d i && members_eq-refl ms i)
+  members_eq-refl (member k d ms) =
+      λ i. nat_list_eq_equiv.refl k i && (data_eq-refl d i && members_eq-refl ms i)
 
 mutual
   data_eq-symm : (x y : Data) → data_eq x y ≡ data_eq y x
@@ -88,7 +93,8 @@ mutual
 
   members_eq-symm : (xs ys : Members) → members_eq xs ys ≡ members_eq ys xs
   members_eq-symm no_members no_members = refl
-  members_eq-symm (member k d ms) (member l e ns) = λ i. nat_list_eq_equiv.symm k l i && (data_eq-symm d e i && members_eq-symm ms ns i)
+  members_eq-symm (member k d ms) (member l e ns) =
+      λ i. nat_list_eq_equiv.symm k l i && (data_eq-symm d e i && members_eq-symm ms ns i)
   members_eq-symm _ _ = refl
 
 mutual
@@ -110,14 +116,16 @@ mutual
   items_eq-congr no_items no_items zs h = refl
   items_eq-congr (item d ds) (item e es) no_items h = refl
   items_eq-congr (item d ds) (item e es) (item f fs) h =
-      both_congr (data_eq d e) (data_eq d f) (data_eq e f) (items_eq ds es) (items_eq ds fs) (items_eq es fs) h (data_eq-congr d e f) (items_eq-congr ds es fs)
+      both_congr (data_eq d e) (data_eq d f) (data_eq e f) (items_eq ds es) (items_eq ds fs) (items_eq es fs)
+      h (data_eq-congr d e f) (items_eq-congr ds es fs)
   items_eq-congr _ _ _ h = absurd (false≢true h)
 
   members_eq-congr : (xs ys zs : Members) → members_eq xs ys ≡ true → members_eq xs zs ≡ members_eq ys zs
   members_eq-congr no_members no_members zs h = refl
   members_eq-congr (member j c ls) (member k d ms) no_members h = refl
   members_eq-congr (member j c ls) (member k d ms) (member l e ns) h =
-      both_congr (pointwise nat_eq j k) (pointwise nat_eq j l) (pointwise nat_eq k l) _ _ _ h (nat_list_eq_equiv.congr j k l)
+      both_congr (pointwise nat_eq j k) (pointwise nat_eq j l) (pointwise nat_eq k l) _ _ _ h
+      (nat_list_eq_equiv.congr j k l)
       (λ g. both_congr (data_eq c d) (data_eq c e) (data_eq d e) (members_eq ls ms) (members_eq ls ns) (members_eq ms ns) g (data_eq-congr c d e) (members_eq-congr ls ms ns))
   members_eq-congr _ _ _ h = absurd (false≢true h)
 

@@ -67,7 +67,8 @@ option_at reads (object ms) = under Some (reads (object ms))
 -- the items of a list from position n on, by position
 abbrev pub items_from : {T : Type 0} → (Data → Reading T) → ℕ → Items → Reading (List T)
 items_from reads n no_items = Ok []
-items_from reads n (item d ds) = below_position n (reads d) >>= λ x. under (λ xs. x ∷ xs) (items_from reads (suc n) ds)
+items_from reads n (item d ds) =
+    below_position n (reads d) >>= λ x. under (λ xs. x ∷ xs) (items_from reads (suc n) ds)
 
 -- a list, whose items are read by position
 abbrev pub list_at : {T : Type 0} → (Data → Reading T) → Data → Reading (List T)
@@ -81,7 +82,8 @@ list_at reads (object ms) = Err []
 -- the values of an object by their keys, which ascend
 abbrev pub members_from : {T : Type 0} → (Data → Reading T) → Members → Reading (List (List ℕ × T))
 members_from reads no_members = Ok []
-members_from reads (member k d ms) = below_key k (reads d) >>= λ x. under (λ es. (k, x) ∷ es) (members_from reads ms)
+members_from reads (member k d ms) =
+    below_key k (reads d) >>= λ x. under (λ es. (k, x) ∷ es) (members_from reads ms)
 
 -- an object as a map, whose values are read by ascending key
 abbrev pub map_at : {T : Type 0} → (Data → Reading T) → Data → Reading (List (List ℕ × T))

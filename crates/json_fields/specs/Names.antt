@@ -10,4 +10,5 @@ value_named name_of (x ∷ xs) text = if bytes_eq text (name_of x) then Ok x els
 -- the first of the values whose name the text is, else what `unknown` makes of the text
 abbrev pub value_named_or : {T : Type 0} → (T → List ℕ) → List T → (List ℕ → T) → List ℕ → T
 value_named_or name_of [] unknown text = unknown text
-value_named_or name_of (x ∷ xs) unknown text = if bytes_eq text (name_of x) then x else value_named_or name_of xs unknown text
+value_named_or name_of (x ∷ xs) unknown text =
+    if bytes_eq text (name_of x) then x else value_named_or name_of xs unknown text

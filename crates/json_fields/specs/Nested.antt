@@ -5,7 +5,8 @@ use Rattle.serde_json.specs.Find.{get_member}
 use Rattle.json_fields.specs.Outcome.{Gives, Reading}
 use Rattle.json_fields.specs.declared.place.ReadError.{ReadError}
 
--- a table of at most n levels: each is read by `row`, given how what is inside is read; what is deeper is a miss
+-- a table of at most n levels: each is read by `row`, given how what is inside is read; what is deeper is a
+-- miss
 unfoldable pub within_levels : {T : Type 0} → ((Data → Reading T) → Data → Reading T) → ℕ → Data → Reading T
 within_levels row zero d = Err []
 within_levels row (suc n) d = row (within_levels row n) d

@@ -1,4 +1,5 @@
--- what a reading gives, the place of a miss, and what a caller may rest on: the project's rule for field tables
+-- what a reading gives, the place of a miss, and what a caller may rest on: the project's rule for field
+-- tables
 use Rattle.std.specs.Prelude.{◌≡◌, ◌==◌, if◌then◌else◌, ℕ, List, [], ◌∷◌, ◌++◌, codes, decimal, false, Result, Ok, Err}
 use Rattle.serde_json.specs.Data.{Data}
 use Rattle.serde_json.specs.Written.{has_float}

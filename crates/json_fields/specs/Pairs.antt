@@ -7,7 +7,8 @@ use Rattle.json_fields.specs.Outcome.{Reading, ◌>>=◌, below_position}
 abbrev pub two_items : {A B : Type 0} → (Data → Reading A) → (Data → Reading B) → Items → Reading (A × B)
 two_items first second no_items = Err []
 two_items first second (item d no_items) = Err []
-two_items first second (item d (item e no_items)) = below_position 0 (first d) >>= λ x. below_position 1 (second e) >>= λ y. Ok (x, y)
+two_items first second (item d (item e no_items)) =
+    below_position 0 (first d) >>= λ x. below_position 1 (second e) >>= λ y. Ok (x, y)
 two_items first second (item d (item e (item f ds))) = Err []
 
 -- a list of exactly two, whose items are read by position

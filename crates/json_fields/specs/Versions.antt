@@ -1,4 +1,5 @@
--- versions, requirements and bare versions as tables read and write them: Semantic Versioning as `semver` reads it
+-- versions, requirements and bare versions as tables read and write them: Semantic Versioning as `semver`
+-- reads it
 use Rattle.std.specs.Prelude.{◌≡◌, ◌==◌, ◌||◌, ◌++◌, if◌then◌else◌, ℕ, List, [], codes, count_by, find, Option, Some, None, Result, Ok, Err}
 use Rattle.serde_json.specs.Data.{Data}
 use Rattle.semver.specs.Identifiers.{parts_text}

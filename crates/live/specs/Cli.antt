@@ -44,7 +44,8 @@ FailsFor start error live left held = (s : State) → start ≡ Some s → Fails
 
 -- it fails with an error of this status, from each state that the session held before, and the error's text
 -- was told on the second output: all of it, unless its faults rose or memory ran out
-pub record FailsAs (words : List (String Global)) (status : ℕ) (lives : Live × Live) (left : Option (List ℕ)) (outputs : StreamBytes × StreamBytes) (faults : Counts) : Type 0 where
+pub record FailsAs (words : List (String Global)) (status : ℕ) (lives : Live × Live) (left : Option (List ℕ))
+    (outputs : StreamBytes × StreamBytes) (faults : Counts) : Type 0 where
   pub error : LiveError
   pub reports : status_of error ≡ status
   pub answer : Result (Unit {0}) SinkError
@@ -53,31 +54,38 @@ pub record FailsAs (words : List (String Global)) (status : ℕ) (lives : Live �
 
 -- the source gave at most one byte more than the words' limit
 abbrev pub TakesFor : List (String Global) → StreamBytes → Type 0
-TakesFor words left = (config : LiveConfig) → command_of (texts_of words) ≡ Some (Run config) → TakesAtMost (config.limits.bytes + 1) left
+TakesFor words left =
+    (config : LiveConfig) → command_of (texts_of words) ≡ Some (Run config)
+    → TakesAtMost (config.limits.bytes + 1) left
 
 -- what a program does whatever its session held: the source gave at most one byte more than the words' limit,
 -- and names stay
-pub record KeepsAlways (words : List (String Global)) (status : ℕ) (lives : Live × Live) (left : StreamBytes) : Type 0 where
+pub record KeepsAlways (words : List (String Global)) (status : ℕ) (lives : Live × Live) (left : StreamBytes)
+    : Type 0 where
   pub taken : TakesFor words left
   pub names : KeepsNames (status ≡ 1) lives.0 lives.1
 
--- wrong words: status 2 only and always where the words give no command, unless memory ran out, and then all is as it was
+-- wrong words: status 2 only and always where the words give no command, unless memory ran out, and then all
+-- is as it was
 pub record UsageExactly (command : Option Command) (status : ℕ) (Untouched : Type 0) : Type 0 where
   pub only : status ≡ 2 → command ≡ None
   pub always : command ≡ None → (status ≡ 2) ⊎ (status ≡ 1)
   pub untouched : command ≡ None → Untouched
 
 -- the same of the error of a call
-pub record UsageError (command : Option Command) (result : Result (Unit {0}) LiveError) (Untouched : Type 0) : Type 0 where
+pub record UsageError (command : Option Command) (result : Result (Unit {0}) LiveError) (Untouched : Type 0)
+    : Type 0 where
   pub only : IsErrOf result Usage → command ≡ None
   pub always : command ≡ None → IsErrOf result Usage ⊎ IsErrOf result OutOfMemory
   pub untouched : command ≡ None → Untouched
 
--- what a call completes where neither its source nor its sink failed: the session from the state that the words give
+-- what a call completes where neither its source nor its sink failed: the session from the state that the
+-- words give
 abbrev pub CompletesFor : Option State → List ℕ → Result (Unit {0}) LiveError → Type 0
 CompletesFor start all result = (s : State) → start ≡ Some s → Completes (session s all).refusal result
 
--- the status of a session without faults: 0 where it has no refusal, else that refusal's status, or out of memory
+-- the status of a session without faults: 0 where it has no refusal, else that refusal's status, or out of
+-- memory
 abbrev pub StatusOf : Option LiveError → ℕ → Type 0
 StatusOf None status = (status ≡ 0) ⊎ (status ≡ 1)
 StatusOf (Some error) status = (status ≡ status_of error) ⊎ (status ≡ 1)

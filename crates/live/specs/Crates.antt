@@ -1,5 +1,6 @@
--- What a database says of a project's crates after a flush, under the numbers that they have there: the list names each crate once and
--- after its dependencies, and a wanted edge is missing exactly where it would close a cycle.
+-- What a database says of a project's crates after a flush, under the numbers that they have there: the list
+-- names each crate once and after its dependencies, and a wanted edge is missing exactly where it would close
+-- a cycle.
 use Rattle.std.specs.Prelude.{◌≡◌, ◌↔◌, ℕ, ◌<◌, List, [], length, map, nat_eq, slice_get, slice_index_or, Option, Some, None, Ok}
 use Rattle.std.specs.List.{Contains, IsDistinct}
 use Rattle.std.specs.Option.{option_and_then, option_map}
@@ -40,7 +41,12 @@ renamed_dep numbers dep = record dep { target = database_number numbers dep.targ
 
 -- a dependency as a database has it
 abbrev pub dep_held : Dependency ℕ → Dep
-dep_held dep = record { name = dep.name; target = dep.crate_id; prelude = prelude_of dep; sysroot = is_of_sysroot dep }
+dep_held dep = record {
+  name = dep.name;
+  target = dep.crate_id;
+  prelude = prelude_of dep;
+  sysroot = is_of_sysroot dep;
+}
 
 -- what a database holds of a crate: the file that it begins in, and its dependencies
 abbrev pub crate_held : CrateInput → ℕ × List Dep
@@ -50,7 +56,8 @@ crate_held input = (input.crate_data.root_file_id, map dep_held input.crate_data
 abbrev pub crate_renamed : List ℕ → Crate → ℕ × List Dep
 crate_renamed numbers krate = (krate.root, map (renamed_dep numbers) krate.deps)
 
--- the crates of a project are those that a database lists: each has a number there, under which the database holds it
+-- the crates of a project are those that a database lists: each has a number there, under which the database
+-- holds it
 pub record AreInDatabase (db : Database) (numbers : List ℕ) (crates : List Crate) : Type 0 where
   pub every : length numbers ≡ length crates
   pub listed : (krate : ℕ) → Contains db.listed krate ↔ Contains numbers krate
@@ -68,7 +75,9 @@ pub record HasDepIn (table : Table) (numbers : List ℕ) (e : Edge) : Type 0 whe
 -- a wanted edge is a dependency exactly where its target does not reach its source
 abbrev pub LacksCyclesIn : List Edge → Database → List ℕ → Type 0
 LacksCyclesIn edges db numbers = (e : Edge) → Contains edges e
-    → HasDepIn db.crates numbers e ↔ (Reaches (crate_edges db.crates) (database_number numbers e.dep.target) (database_number numbers e.source) → ⊥)
+    → HasDepIn db.crates numbers e
+    ↔ (Reaches (crate_edges db.crates) (database_number numbers e.dep.target) (database_number numbers e.source)
+    → ⊥)
 
 -- a database shows the crates that a project has by these files
 pub record ShowsProject (db : Database) (p : ProjectContent) (files : List (ℕ × PathContent)) : Type 0 where

@@ -11,13 +11,15 @@ abbrev pub counted_on : ℕ → LiveError → LiveError
 counted_on lines (Script line) = Script (lines + line)
 counted_on lines error = error
 
--- an outcome is that of a first text and then of a second: the pages of both, and the state and the refusal of the second
+-- an outcome is that of a first text and then of a second: the pages of both, and the state and the refusal
+-- of the second
 pub record IsJoined (first second both : Outcome) : Type 0 where
   pub pages : both.pages ≡ first.pages ++ second.pages
   pub state : both.state ≡ second.state
   pub refusal : both.refusal ≡ option_map (counted_on first.lines) second.refusal
 
--- where the first of two texts is empty or ends in a newline and its session has no refusal, and both are within the byte limit
+-- where the first of two texts is empty or ends in a newline and its session has no refusal, and both are
+-- within the byte limit
 pub record AreJoinable (s : State) (first second : List ℕ) : Type 0 where
   pub whole : partial_line first ≡ []
   pub accepted : (session s first).refusal ≡ None

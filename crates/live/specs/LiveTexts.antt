@@ -1,4 +1,5 @@
--- The texts of the files that live, beside the table of files: a row for each path, in order of first mention.
+-- The texts of the files that live, beside the table of files: a row for each path, in order of first
+-- mention.
 use Rattle.std.specs.Prelude.{◌≡◌, ℕ, ◌+◌, Bool, true, List, [], ◌∷◌, ◌++◌, Option, Some, None, fold, map, slice_get, if◌then◌else◌}
 use Rattle.std.proofs.Common.{set}
 use Rattle.std.specs.Option.{option_and_then}
@@ -26,12 +27,14 @@ abbrev pub with_row_text : List (Option (List ℕ)) → Option ℕ → Bool → 
 with_row_text rows None is_changed text = rows ++ (if is_changed then text else None) ∷ []
 with_row_text rows (Some number) is_changed text = if is_changed then set rows number text else rows
 
--- the files whose texts stand in rows, by the paths of their numbers, which count from here on; a path behind the rows has no file
+-- the files whose texts stand in rows, by the paths of their numbers, which count from here on; a path behind
+-- the rows has no file
 abbrev pub files_kept : ℕ → List PathContent → List (Option (List ℕ)) → List LiveFile
 files_kept number [] rows = []
 files_kept number (place ∷ places) [] = []
 files_kept number (place ∷ places) (None ∷ rows) = files_kept (number + 1) places rows
-files_kept number (place ∷ places) (Some text ∷ rows) = record { number = number; path = place; text = text } ∷ files_kept (number + 1) places rows
+files_kept number (place ∷ places) (Some text ∷ rows) =
+    record { number = number; path = place; text = text } ∷ files_kept (number + 1) places rows
 
 -- the text in the row of a number
 abbrev pub row_text : List (Option (List ℕ)) → ℕ → Option (List ℕ)
@@ -68,6 +71,7 @@ pub record AddsMark (old new : Files) (rows rows' : List (Option (List ℕ))) (m
   pub limit : new.limit ≡ old.limit
   pub numbers : KeepsNumbers old new
   pub keeps : (marks : List Mark) → KeepsTexts old rows marks → KeepsTexts new rows' (mark ∷ marks)
-  pub brings : (known : ℕ → Option (List ℕ)) (marks : List Mark) → Follows old marks → BringsTo old known marks
+  pub brings : (known : ℕ → Option (List ℕ)) (marks : List Mark) → Follows old marks
+      → BringsTo old known marks
       → BringsTo new known (mark ∷ marks)
   pub texts : all_pass is_utf8 old.batch ≡ true → all_pass is_utf8 new.batch ≡ true

@@ -30,7 +30,8 @@ pub record AddsMarkTo (old new : Live) (mark : Mark) : Type 0 where
 
 -- an answer is recorded; the rest is as it was
 abbrev pub AddsAnswer : Live → Live → CommandLine → Output → Type 0
-AddsAnswer old new line output = new ≡ record old { answers = with_answer (question_of line) output old.answers }
+AddsAnswer old new line output =
+    new ≡ record old { answers = with_answer (question_of line) output old.answers }
 
 -- what a load of a session keeps, as the session has it
 abbrev pub sources_kept : Live → List ℕ → Sources

@@ -1,5 +1,6 @@
--- The page of a flush, by the files that live and the project, if one was loaded: no database is in it. The entries are those of the crates
--- that the project has by these files; the sets are those of the project's roots in order, and behind them the last set.
+-- The page of a flush, by the files that live and the project, if one was loaded: no database is in it. The
+-- entries are those of the crates that the project has by these files; the sets are those of the project's
+-- roots in order, and behind them the last set.
 use Rattle.std.specs.Prelude.{ℕ, List, [], map, nat_eq, Option, Some, None, Result, Ok}
 use Rattle.std.specs.Map.{lookup}
 use Rattle.std.specs.Option.{option_map}
@@ -14,7 +15,8 @@ use Rattle.pm_lower_crates.specs.Lowering.{Crate}
 use Rattle.pm_lower_crates.specs.declared.lower_error.LowerError.{LowerError}
 use Rattle.vfs_core.specs.VfsPath.{PathContent}
 
--- a file that lives: its number, which is the place of its path among those of which the events spoke, its path and its text
+-- a file that lives: its number, which is the place of its path among those of which the events spoke, its
+-- path and its text
 pub record LiveFile : Type 0 where
   pub number : ℕ
   pub path : PathContent
@@ -59,7 +61,10 @@ crates_of_flush flush = crates_by flush.project (numbers_of_flush flush)
 
 -- a crate as its entry sees it
 abbrev pub node_seen : Crate → Node
-node_seen krate = record { root_file = krate.root; dependencies = map (λ dep. (dep.name, dep.target)) krate.deps }
+node_seen krate = record {
+  root_file = krate.root;
+  dependencies = map (λ dep. (dep.name, dep.target)) krate.deps;
+}
 
 -- the entries of crates
 abbrev pub entries : Flush → List Crate → List CrateEntry
@@ -67,4 +72,5 @@ entries flush crates = entries_of (path_by (numbers_of_flush flush)) (map node_s
 
 -- the page of a flush with these crates
 unfoldable pub page : Flush → List Crate → List ℕ
-page flush crates = placed.page_of_entries (roots_by flush.project) (paths_of_flush flush) (entries flush crates)
+page flush crates =
+    placed.page_of_entries (roots_by flush.project) (paths_of_flush flush) (entries flush crates)

@@ -1,5 +1,6 @@
--- What a flush does to a session before its page is written: the files are placed by the roots of the project, and the crates that the
--- project has by them are set. Without a project no root places them, and no crate is given.
+-- What a flush does to a session before its page is written: the files are placed by the roots of the
+-- project, and the crates that the project has by them are set. Without a project no root places them, and no
+-- crate is given.
 use Rattle.std.specs.Prelude.{◌≡◌, ◌⊎◌, ℕ, List, [], Option, Some, None, Result, Ok, Err, map}
 use Rattle.std.specs.declared.cmp.Ordering.{Ordering}
 use Rattle.vfs_core.specs.Files.{existing_files}
@@ -21,8 +22,8 @@ use Rattle.live.specs.Page.{crates_by, roots_by}
 
 -- ---- the graph
 
--- a graph has the crates of a project by these files, each begins in one of them, and a wanted edge is a dependency exactly where its
--- target does not reach its source
+-- a graph has the crates of a project by these files, each begins in one of them, and a wanted edge is a
+-- dependency exactly where its target does not reach its source
 pub record IsProjectGraph (p : ProjectContent) (files : List (ℕ × PathContent)) (graph : Graph) : Type 0 where
   pub crates : project_crates p files ≡ Ok (map crate_seen graph.crates)
   pub begins : BeginIn files graph.crates
@@ -35,7 +36,8 @@ IsGraphBy (Some p) files None = ⊥
 IsGraphBy (Some p) files (Some graph) = IsProjectGraph p files graph
 
 -- a call gives that graph, or the refusal of the project's crates
-abbrev pub GivesGraph : Option ProjectContent → List (ℕ × PathContent) → Result (Option Graph) LowerError → Type 0
+abbrev pub GivesGraph : Option ProjectContent → List (ℕ × PathContent) → Result (Option Graph) LowerError
+    → Type 0
 GivesGraph p files (Ok graph) = IsGraphBy p files graph
 GivesGraph p files (Err error) = Refuses error (crates_by p files)
 

@@ -55,10 +55,12 @@ pub record WereWhole (lines : List (List ℕ)) (left : StreamBytes) : Type 0 whe
   pub read : Consumes left.0 left.1 bytes
   pub whole : whole_lines bytes ≡ lines
 
--- what a run leaves that failed with no refusal of its session: it took some first lines of the script whole, and the next one may have
--- failed. The state of these lines is held, as the failed line leaves it; their pages were appended, and then a front of those of the
--- failed line, not all of them after a write fault. A read fault comes between two lines, after all that were whole in the bytes taken
-pub record LeavesRun (s : State) (all : List ℕ) (error : LiveError) (live : Live) (left held : StreamBytes) : Type 0 where
+-- what a run leaves that failed with no refusal of its session: it took some first lines of the script whole,
+-- and the next one may have failed. The state of these lines is held, as the failed line leaves it; their
+-- pages were appended, and then a front of those of the failed line, not all of them after a write fault. A
+-- read fault comes between two lines, after all that were whole in the bytes taken
+pub record LeavesRun (s : State) (all : List ℕ) (error : LiveError) (live : Live) (left held : StreamBytes)
+    : Type 0 where
   pub taken : List (List ℕ)
   pub next : Option (List ℕ)
   pub first : IsFrontOf (taken ++ next_lines next) (lines_within s.config.limits.bytes all)
@@ -72,7 +74,8 @@ pub record LeavesRun (s : State) (all : List ℕ) (error : LiveError) (live : Li
   pub read : error ≡ ReadFault → (next ≡ None) × WereWhole taken left
 
 -- an error ends a run: it ends the session, and where it is no refusal this is what the run leaves
-pub record EndsRun (s : State) (all : List ℕ) (error : LiveError) (live : Live) (left held : StreamBytes) : Type 0 where
+pub record EndsRun (s : State) (all : List ℕ) (error : LiveError) (live : Live) (left held : StreamBytes)
+    : Type 0 where
   pub fails : Fails (session s all) error live held
   pub leaves : ¬ IsRefusal error → LeavesRun s all error live left held
 
@@ -104,8 +107,8 @@ pub record IsFaultless (reads writes : Counts) : Type 0 where
   pub read : ¬ Rose reads.0 reads.1
   pub written : ¬ Rose writes.0 writes.1
 
--- what a run answers where neither a source nor a sink failed: success where the session has no refusal, else that refusal,
--- unless memory ran out
+-- what a run answers where neither a source nor a sink failed: success where the session has no refusal, else
+-- that refusal, unless memory ran out
 abbrev pub Completes : Option LiveError → Result (Unit {0}) LiveError → Type 0
 Completes refusal (Ok done) = refusal ≡ None
 Completes refusal (Err error) = (error ≡ OutOfMemory) ⊎ (refusal ≡ Some error)

@@ -34,9 +34,9 @@ use Rattle.live.specs.declared.fault.LiveError.TheVariants.{NoCargoProject, Scri
 use Rattle.live.specs.Fault.{of_build_error, of_lower_error, of_project_error}
 use Rattle.live.specs.Page.{Flush, LiveFile, crates_of_flush, page}
 
--- what a session knows: its configuration, what was said of files (newest first), the answers that were recorded, by their questions,
--- the project that was loaded last with what its last build gave, if one was loaded, what the last flush brought into the database, if there was one, and whether it has
--- ended
+-- what a session knows: its configuration, what was said of files (newest first), the answers that were
+-- recorded, by their questions, the project that was loaded last with what its last build gave, if one was
+-- loaded, what the last flush brought into the database, if there was one, and whether it has ended
 pub record State : Type 0 where
   pub config : LiveConfig
   pub marks : List Mark
@@ -67,7 +67,9 @@ refuses s error = record { state = s; pages = []; refusal = Some error }
 
 -- whether a path has a number, or there is room for one more
 abbrev pub has_room : State → PathContent → Bool
-has_room s path = list_any (vfs_path_eq path) (mentioned_paths s.marks) || nat_lt (length (mentioned_paths s.marks)) s.config.limits.paths
+has_room s path =
+    list_any (vfs_path_eq path) (mentioned_paths s.marks)
+    || nat_lt (length (mentioned_paths s.marks)) s.config.limits.paths
 
 -- what is said of a path that has room
 abbrev pub mark_turn : State → PathContent → MarkKind → Turn
@@ -83,11 +85,17 @@ answer_turn s line output = takes (record s { answers = with_answer (question_of
 
 -- what a load keeps: the configuration, the answers and the files that live at that load, and its path
 abbrev pub sources_of : State → List ℕ → Sources
-sources_of s path = record { config = s.config; answers = s.answers; files = kept_files (live_files s.marks); path = path }
+sources_of s path = record {
+  config = s.config;
+  answers = s.answers;
+  files = kept_files (live_files s.marks);
+  path = path;
+}
 
 -- a load of what was read, or of its refusal, which leaves the state as it was
 abbrev pub loaded_turn : State → Sources → Result ProjectWorkspace ProjectError → Turn
-loaded_turn s sources (Ok workspace) = takes (record s { project = Some (record { sources = sources; workspace = workspace }) }) []
+loaded_turn s sources (Ok workspace) =
+    takes (record s { project = Some (record { sources = sources; workspace = workspace }) }) []
 loaded_turn s sources (Err error) = refuses s (of_project_error error)
 
 -- a load is judged by what it keeps alone
@@ -101,11 +109,13 @@ abbrev pub of_building : Reading ProjectContent → Result ProjectContent LiveEr
 of_building (Ok project) = Ok project
 of_building (Err error) = Err (of_build_error error)
 
--- a build is one of the project that is loaded, which must have a Cargo workspace, and the outputs after it are its own alone
+-- a build is one of the project that is loaded, which must have a Cargo workspace, and the outputs after it
+-- are its own alone
 abbrev pub project_after_build : Option ProjectContent → Output → Result ProjectContent LiveError
 project_after_build None output = Err NoCargoProject
 project_after_build (Some project) output =
-    if has_cargo_workspace project.workspace.kind then of_building (built_project project output) else Err NoCargoProject
+    if has_cargo_workspace project.workspace.kind then of_building (built_project project output)
+    else Err NoCargoProject
 
 -- a build that gives this project, or its refusal, which leaves the state as it was
 abbrev pub built_turn : State → Result ProjectContent LiveError → Turn
@@ -120,7 +130,8 @@ build_turn s output = built_turn s (project_after_build s.project output)
 
 -- the file of a numbered path, where it lives
 abbrev pub live_file : List Mark → ℕ × PathContent → Option LiveFile
-live_file marks place = option_map (λ text. record { number = place.0; path = place.1; text = text }) (live_text marks place.1)
+live_file marks place =
+    option_map (λ text. record { number = place.0; path = place.1; text = text }) (live_text marks place.1)
 
 -- the files that live, by number
 abbrev pub numbered_files : List Mark → List LiveFile
@@ -130,7 +141,8 @@ numbered_files marks = filter_map (live_file marks) (enumerate_from 0 (mentioned
 abbrev pub flush_of : State → Flush
 flush_of s = record { files = numbered_files s.marks; project = s.project }
 
--- a flush with crates writes one page, and is the last flush from then on; one that has none is refused, and ends the session
+-- a flush with crates writes one page, and is the last flush from then on; one that has none is refused, and
+-- ends the session
 abbrev pub flushed_turn : State → Flush → Result (List Crate) LowerError → Turn
 flushed_turn s flush (Ok crates) = takes (record s { flushed = Some flush }) (page flush crates ∷ [])
 flushed_turn s flush (Err error) = refuses (ended_state s) (of_lower_error error)
@@ -184,7 +196,12 @@ start s = record { state = s; pages = []; lines = 0; refusal = None }
 
 -- one turn after these lines
 abbrev pub then_turn : Outcome → Turn → Outcome
-then_turn o t = record { state = t.state; pages = o.pages ++ t.pages; lines = o.lines + 1; refusal = t.refusal }
+then_turn o t = record {
+  state = t.state;
+  pages = o.pages ++ t.pages;
+  lines = o.lines + 1;
+  refusal = t.refusal;
+}
 
 -- one more line; none is taken after a refusal
 abbrev pub take_line_after : Option LiveError → Outcome → List ℕ → Outcome
@@ -211,4 +228,5 @@ session s bytes =
 
 -- the lines of a script within a limit of bytes: of a longer one those whose newline is within it
 unfoldable pub lines_within : ℕ → List ℕ → List (List ℕ)
-lines_within limit bytes = if nat_le (length bytes) limit then lines_of bytes else whole_lines (take limit bytes)
+lines_within limit bytes =
+    if nat_le (length bytes) limit then lines_of bytes else whole_lines (take limit bytes)

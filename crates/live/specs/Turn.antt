@@ -28,8 +28,9 @@ use Rattle.live.specs.Written.{AppendsFront, AppendsPages, AppendsProperFront, C
 
 -- ---- a state that is held
 
--- the database of a session shows what the last flush brought into it, and the changes of files since then bring its texts to
--- those that live, each of which is a text. It lists no crates as long as no project was loaded
+-- the database of a session shows what the last flush brought into it, and the changes of files since then
+-- bring its texts to those that live, each of which is a text. It lists no crates as long as no project was
+-- loaded
 pub record IsCurrent (live : Live) (s : State) : Type 0 where
   pub brings : BringsTo live.files (texts_known live.db) s.marks
   pub valid : all_pass is_utf8 live.files.batch ≡ true
@@ -49,8 +50,8 @@ KeepsFlush paths None (Some flush) = ⊥
 KeepsFlush paths (Some last) None = ⊥
 KeepsFlush paths (Some last) (Some flush) = IsLast paths last flush
 
--- a session holds a state: its files and their texts are those of the marks, it has the answers, the project and the last flush, and
--- until it ends its database is current
+-- a session holds a state: its files and their texts are those of the marks, it has the answers, the project
+-- and the last flush, and until it ends its database is current
 pub record Holds (live : Live) (s : State) : Type 0 where
   pub config : live.config ≡ s.config
   pub limit : live.files.limit ≡ s.config.limits.paths
@@ -67,7 +68,14 @@ HasEnded live = live.ended ≡ true
 
 -- before the first event: the configuration is that of no words
 abbrev pub first_state : State
-first_state = record { config = first_config; marks = []; answers = []; project = None; flushed = None; ended = false }
+first_state = record {
+  config = first_config;
+  marks = [];
+  answers = [];
+  project = None;
+  flushed = None;
+  ended = false;
+}
 
 -- ---- one step
 
@@ -83,14 +91,16 @@ pub record RefusesTurn (t : Turn) (error : LiveError) (live : Live) (held : Stre
   pub holds : Holds live t.state
   pub appended : AppendsPages held t.pages
 
--- an error ends a turn: a front of its pages was appended, not all of them after a write fault, and a refusal is the turn's own
+-- an error ends a turn: a front of its pages was appended, not all of them after a write fault, and a refusal
+-- is the turn's own
 pub record FailsTurn (t : Turn) (error : LiveError) (live : Live) (held : StreamBytes) : Type 0 where
   pub written : AppendsFront held t.pages
   pub cut : error ≡ WriteFault → AppendsProperFront held t.pages
   pub refused : IsRefusal error → RefusesTurn t error live held
 
 -- and the session holds the state that the failure leaves
-pub record EndsTurn (t : Turn) (left : State) (error : LiveError) (live : Live) (held : StreamBytes) : Type 0 where
+pub record EndsTurn (t : Turn) (left : State) (error : LiveError) (live : Live) (held : StreamBytes)
+    : Type 0 where
   pub fails : FailsTurn t error live held
   pub holds : Holds live left
 
@@ -103,11 +113,13 @@ pub record MissesLine (s : State) (error : LiveError) (live : Live) (held : Stre
 -- an error ends the line of this number: its turn, or the line was not read
 abbrev pub EndsLine : State → ℕ → List ℕ → LiveError → Live → StreamBytes → Type 0
 EndsLine s number line error live held =
-    EndsTurn (turn_of s number (event line)) (state_after_line s (event line)) error live held ⊎ MissesLine s error live held
+    EndsTurn (turn_of s number (event line)) (state_after_line s (event line)) error live held
+    ⊎ MissesLine s error live held
 
 -- an error of a step: the turn failed with it, or the session had ended and nothing was done
 abbrev pub FailsStep : State → Event → StepError → Live → StreamBytes → Type 0
-FailsStep s event (Refused error) live held = EndsTurn (turn s event) (state_after_failure s event) error live held
+FailsStep s event (Refused error) live held =
+    EndsTurn (turn s event) (state_after_failure s event) error live held
 FailsStep s event Ended live held = Holds live s × Appends held.0 held.1 []
 
 -- the result of a step as that of its turn
@@ -116,9 +128,11 @@ HasStepCause (Ok done) writes = HasWriteCause (Ok done) turn_statuses writes
 HasStepCause (Err (Refused error)) writes = HasWriteCause {T = Unit {0}} (Err error) turn_statuses writes
 HasStepCause (Err Ended) writes = writes.0 ≤ writes.1
 
--- a flush takes at most one probe more for each file that exists than the text by which it is placed has bytes
+-- a flush takes at most one probe more for each file that exists than the text by which it is placed has
+-- bytes
 abbrev pub CountsFlush : Live → Live → Type 0
-CountsFlush old new = RaisesAtMost (most_probes (existing_files old.files)) old.probes.ledger new.probes.ledger
+CountsFlush old new =
+    RaisesAtMost (most_probes (existing_files old.files)) old.probes.ledger new.probes.ledger
 
 -- names stay: each path that had a number has it still, and each identity its crate, unless memory ran out at
 -- a flush, which ends the session
@@ -141,8 +155,8 @@ pub record LeavesAsWas (event : Event) (failed : Bool) (Memory : Type 0) (old ne
   pub going : failed ≡ false → new.ended ≡ old.ended
   pub ends : failed ≡ true → event ≡ FlushEvent → HasEnded new
 
--- after a flush the database shows the shape of the files that live, by the roots of the project; its list names each crate once and
--- after its dependencies, and its crates are those of the project
+-- after a flush the database shows the shape of the files that live, by the roots of the project; its list
+-- names each crate once and after its dependencies, and its crates are those of the project
 pub record ShowsShape (live : Live) (s : State) : Type 0 where
   pub shows : image live.db live.files ≡ shape_of_flush (flush_of s)
   pub order : ListsInOrder live.db

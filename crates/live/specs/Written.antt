@@ -34,9 +34,10 @@ pub record AppendsProperFront (held : StreamBytes) (pages : List (List ℕ)) : T
   pub short : count < length (concat pages)
   pub front : Appends held.0 held.1 (take count (concat pages))
 
--- an error has one of these statuses, the limit of bytes is none that it names, and the sink's count of faults, which does not fall,
--- rose where it is a write fault
-pub record HasWriteCause {T : Type 0} (result : Result T LiveError) (statuses : List ℕ) (writes : Counts) : Type 0 where
+-- an error has one of these statuses, the limit of bytes is none that it names, and the sink's count of
+-- faults, which does not fall, rose where it is a write fault
+pub record HasWriteCause {T : Type 0} (result : Result T LiveError) (statuses : List ℕ) (writes : Counts)
+    : Type 0 where
   pub later : writes.0 ≤ writes.1
   pub only : IfErr result (λ error. IsOneOf statuses (status_of error))
   pub write : IsErrOf result WriteFault → Rose writes.0 writes.1
@@ -44,7 +45,8 @@ pub record HasWriteCause {T : Type 0} (result : Result T LiveError) (statuses : 
 
 -- what became of a line of text on an output: all of it was written, with its newline; or a front of it,
 -- where memory ran out, or a write failed, whose fault was counted
-pub record TellsLine (answer : Result (Unit {0}) SinkError) (text : List ℕ) (held : StreamBytes) (faults : Counts) : Type 0 where
+pub record TellsLine (answer : Result (Unit {0}) SinkError) (text : List ℕ) (held : StreamBytes)
+    (faults : Counts) : Type 0 where
   pub whole : OnOk answer (Appends held.0 held.1 (text ++ 10 ∷ []))
   pub cut : OnErr answer (AppendsPart held.0 held.1 (text ++ 10 ∷ []))
   pub cause : WritesHaveCause faults.0 faults.1 answer

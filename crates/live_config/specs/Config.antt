@@ -16,7 +16,8 @@ use Rattle.pm_cargo_config.specs.declared.features.CargoFeatures.{CargoFeatures}
 use Rattle.pm_cargo_config.specs.declared.features.CargoFeatures.TheVariants.{All, Selected}
 use Rattle.base_text.specs.declared.tool.Tools.{Tools}
 
--- a configuration that a session can have: neither a toolchain's libraries nor sources of the compiler are read yet
+-- a configuration that a session can have: neither a toolchain's libraries nor sources of the compiler are
+-- read yet
 pub record Fits (config : LiveConfig) : Type 0 where
   pub limits : FitsLimits config.limits
   pub sysroot : config.cargo.sysroot ≡ None

@@ -1,4 +1,5 @@
--- The table of options, and what words give by it: in any order, each option at most once but those that add to a list or a map.
+-- The table of options, and what words give by it: in any order, each option at most once but those that add
+-- to a list or a map.
 use Rattle.std.specs.Prelude.{ℕ, ◌≤◌, Bool, true, false, ◌&&◌, ◌||◌, String, IfSome, is_some, map, string_bytes, List, [], ◌∷◌, Option, Some, None, codes, if◌then◌else◌}
 use Rattle.std.specs.Option.{option_and_then, option_map}
 use Rattle.std.specs.declared.alloc.Global.{Global}
@@ -70,13 +71,16 @@ with_limit given Bytes text =
 with_limit given Paths text =
     option_map (λ n. record given { paths = n }) (set_once given.paths (number_up_to greatest.paths text))
 with_limit given Packages text =
-    option_map (λ n. record given { packages = n }) (set_once given.packages (number_up_to greatest.packages text))
+    option_map (λ n. record given { packages = n })
+    (set_once given.packages (number_up_to greatest.packages text))
 with_limit given Targets text =
-    option_map (λ n. record given { targets = n }) (set_once given.targets (number_up_to greatest.targets text))
+    option_map (λ n. record given { targets = n })
+    (set_once given.targets (number_up_to greatest.targets text))
 with_limit given Crates text =
     option_map (λ n. record given { crates = n }) (set_once given.crates (number_up_to greatest.crates text))
 
--- what an option with its value makes of those that were given before, where it may be given. The value of a flag is empty
+-- what an option with its value makes of those that were given before, where it may be given. The value of a
+-- flag is empty
 unfoldable pub with_option : Given → LiveOption → List ℕ → Option Given
 with_option given Target value =
     option_map (λ target. record given { target = target }) (set_once given.target (Some value))
@@ -87,10 +91,13 @@ with_option given NoDefaultFeatures value =
     option_map (λ flag. record given { features = record given.features { no_default = flag } })
     (with_flag given.features.no_default)
 with_option given AllFeatures value =
-    option_map (λ flag. record given { features = record given.features { all = flag } }) (with_flag given.features.all)
-with_option given NoDeps value = option_map (λ flag. record given { no_deps = flag }) (with_flag given.no_deps)
+    option_map (λ flag. record given { features = record given.features { all = flag } })
+    (with_flag given.features.all)
+with_option given NoDeps value =
+    option_map (λ flag. record given { no_deps = flag }) (with_flag given.no_deps)
 with_option given ExtraInclude value =
-    option_map (λ paths. record given { extra_includes = paths }) (with_option_path given.extra_includes value)
+    option_map (λ paths. record given { extra_includes = paths })
+    (with_option_path given.extra_includes value)
 with_option given Env value = option_map (λ env. record given { env = env }) (with_extra given.env value)
 with_option given ProcessEnv value =
     option_map (λ env. record given { process_env = env }) (with_process given.process_env value)
@@ -102,8 +109,8 @@ abbrev pub by_form : {T : Type 0} → OptionForm → T → T → T
 by_form Flag as_flag as_valued = as_flag
 by_form Valued as_flag as_valued = as_valued
 
--- the options that words give beside these, in any order, where an option may wait for its value: a value is the next word,
--- whatever it begins with
+-- the options that words give beside these, in any order, where an option may wait for its value: a value is
+-- the next word, whatever it begins with
 abbrev pub options_from : Given → Option LiveOption → List (List ℕ) → Option Given
 options_from given None [] = Some given
 options_from given (Some option) [] = None

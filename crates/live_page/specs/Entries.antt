@@ -1,5 +1,6 @@
--- The entries of crates, which name crates and files by paths alone: a crate by the path of its root file, with its
--- dependencies. From the rule that a page shows what the crates of a graph are, and nothing of how a database numbers them.
+-- The entries of crates, which name crates and files by paths alone: a crate by the path of its root file,
+-- with its dependencies. From the rule that a page shows what the crates of a graph are, and nothing of how a
+-- database numbers them.
 use Rattle.std.specs.Prelude.{ℕ, List, Option, map, slice_get}
 use Rattle.std.specs.Cmp.Lexicographic.{slice_cmp}
 use Rattle.std.specs.List.{dedup, filter_map}
@@ -24,8 +25,8 @@ use Rattle.live_page.specs.declared.crate_entry.DependencyEntry.{DependencyEntry
 abbrev pub Paths : Type 0
 Paths = ℕ → Option (List ℕ)
 
--- what the entry of a crate is made of: the crate's root file, and its dependencies, each by its name and the number of the crate that
--- it is on
+-- what the entry of a crate is made of: the crate's root file, and its dependencies, each by its name and the
+-- number of the crate that it is on
 pub record Node : Type 0 where
   pub root_file : ℕ
   pub dependencies : List (List ℕ × ℕ)
@@ -48,10 +49,12 @@ dependency_entry root dep = option_map (λ path. record { name = dep.0; root = p
 abbrev pub dependency_entries : (ℕ → Option (List ℕ)) → List (List ℕ × ℕ) → List DependencyEntry
 dependency_entries root deps = sorted dependency_cmp (filter_map (dependency_entry root) deps)
 
--- the entry of a crate, where its root file has a path, by the paths of files and of the root files of other crates
+-- the entry of a crate, where its root file has a path, by the paths of files and of the root files of other
+-- crates
 abbrev pub entry_of : Paths → (ℕ → Option (List ℕ)) → Node → Option CrateEntry
 entry_of paths root node =
-    option_map (λ path. record { root = path; deps = dependency_entries root node.dependencies }) (paths node.root_file)
+    option_map (λ path. record { root = path; deps = dependency_entries root node.dependencies })
+    (paths node.root_file)
 
 -- entries in order, and equal ones once
 abbrev pub distinct_entries : List CrateEntry → List CrateEntry
@@ -65,7 +68,8 @@ root_path paths node = option_and_then (λ n. paths n.root_file) node
 
 -- the entries of crates
 abbrev pub entries_of : Paths → List Node → List CrateEntry
-entries_of paths nodes = distinct_entries (filter_map (entry_of paths (λ place. root_path paths (slice_get nodes place))) nodes)
+entries_of paths nodes =
+    distinct_entries (filter_map (entry_of paths (λ place. root_path paths (slice_get nodes place))) nodes)
 
 -- a dependency by its name and its number
 abbrev pub named_number : {Number : Type 0} → (Number → ℕ) → Dependency Number → List ℕ × ℕ
@@ -73,7 +77,10 @@ named_number number dep = (dep.name, number dep.crate_id)
 
 -- crate data as entries see it
 abbrev pub node_by : {Number : Type 0} → (Number → ℕ) → CrateData Number → Node
-node_by number krate = record { root_file = krate.root_file_id; dependencies = map (named_number number) krate.dependencies }
+node_by number krate = record {
+  root_file = krate.root_file_id;
+  dependencies = map (named_number number) krate.dependencies;
+}
 
 -- a crate of a graph as entries see it
 abbrev pub entry_node : CrateBuilder → Node
@@ -91,7 +98,8 @@ root_file_path paths table krate = root_path paths (node_in table krate)
 
 -- the entry of a crate of a database
 abbrev pub entry_in : Paths → Table → ℕ → Option CrateEntry
-entry_in paths table krate = option_and_then (entry_of paths (root_file_path paths table)) (node_in table krate)
+entry_in paths table krate =
+    option_and_then (entry_of paths (root_file_path paths table)) (node_in table krate)
 
 -- the entries of the crates that a database lists
 abbrev pub entries_listed : Paths → Database → List CrateEntry
@@ -100,7 +108,8 @@ entries_listed paths db = distinct_entries (filter_map (entry_in paths db.crates
 -- the path of a file in its source root
 abbrev pub path_in : FileTables → Paths
 path_in files file =
-    option_and_then (λ root. option_map (λ path. path.text) (path_of (set_of_root root) file)) (root_of_file files file)
+    option_and_then (λ root. option_map (λ path. path.text) (path_of (set_of_root root) file))
+    (root_of_file files file)
 
 -- the entries that a database shows: those of the crates that it lists, by the paths in its source roots
 abbrev pub entries_shown : Database → List CrateEntry

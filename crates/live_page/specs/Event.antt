@@ -1,5 +1,5 @@
--- The event table: which event a script line is. A line that is no JSON of at most 127 levels, that holds a float anywhere, or
--- whose shape is not in the table is no event.
+-- The event table: which event a script line is. A line that is no JSON of at most 127 levels, that holds a
+-- float anywhere, or whose shape is not in the table is no event.
 use Rattle.std.specs.Prelude.{◌≡◌, ℕ, false, List, [], Option, Some, None, Result, Ok, Err, codes, slice_index, ◌==◌, if◌then◌else◌}
 use Rattle.std.specs.Str.{bytes_eq}
 use Rattle.serde_json.specs.Data.{Data, Members}
@@ -17,7 +17,8 @@ use Rattle.live_page.specs.declared.event.EventError.TheVariants.{Refused, OutOf
 -- the real path of an absolute text
 abbrev pub real_path : List ℕ → Reading PathContent
 real_path text =
-    if slice_index text 0 == 47 then Ok (record { is_virtual = false; text = path_text (normal text) }) else Err []
+    if slice_index text 0 == 47 then Ok (record { is_virtual = false; text = path_text (normal text) })
+    else Err []
 
 -- the real path under the key `path`
 unfoldable pub path_under : Members → Reading PathContent

@@ -17,9 +17,12 @@ paths_at roots paths number = filter (λ path. place_of (root_lists roots) path 
 
 -- a set as the page shows it
 abbrev pub set_data_at : List FileRoot → List PathContent → ℕ → Data
-set_data_at roots paths number = set_data (sorted_texts (map (λ path. path.text) (paths_at roots paths number))) (is_local_at roots number)
+set_data_at roots paths number =
+    set_data (sorted_texts (map (λ path. path.text) (paths_at roots paths number))) (is_local_at roots number)
 
 -- the page of these entries, and of these paths by their sets
 unfoldable pub page_of_entries : List FileRoot → List PathContent → List CrateEntry → List ℕ
 page_of_entries roots paths entries =
-    compact_text (page_data (items_of (map entry_data entries)) (items_of (map (set_data_at roots paths) (set_numbers roots)))) ++ 10 ∷ []
+    compact_text
+    (page_data (items_of (map entry_data entries)) (items_of (map (set_data_at roots paths) (set_numbers roots))))
+    ++ 10 ∷ []

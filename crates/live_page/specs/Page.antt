@@ -1,4 +1,5 @@
--- The page that a database shows: the compact JSON text of one object and a newline, with keys in ascending order.
+-- The page that a database shows: the compact JSON text of one object and a newline, with keys in ascending
+-- order.
 use Rattle.std.specs.Prelude.{ℕ, Bool, not, Option, List, [], ◌∷◌, ◌++◌, codes, map}
 use Rattle.std.specs.Ordering.{nat_cmp}
 use Rattle.std.specs.Cmp.Lexicographic.{slice_cmp}
@@ -24,7 +25,8 @@ texts_data (t ∷ ts) = item (string t) (texts_data ts)
 
 -- a dependency of a crate: its name, and the root of the crate that it names
 abbrev pub dependency_entry_data : DependencyEntry → Data
-dependency_entry_data dep = object (member (codes "name") (string dep.name) (member (codes "root") (string dep.root) no_members))
+dependency_entry_data dep =
+    object (member (codes "name") (string dep.name) (member (codes "root") (string dep.root) no_members))
 
 -- an entry: its dependencies, and its root
 abbrev pub entry_data : CrateEntry → Data
@@ -34,11 +36,14 @@ entry_data entry =
 
 -- a set: its files, and whether it is local
 abbrev pub set_data : List (List ℕ) → Bool → Data
-set_data files is_local = object (member (codes "files") (array (texts_data files)) (member (codes "local") (boolean is_local) no_members))
+set_data files is_local =
+    object
+    (member (codes "files") (array (texts_data files)) (member (codes "local") (boolean is_local) no_members))
 
 -- the whole page: the crates' entries and the sets
 abbrev pub page_data : Items → Items → Data
-page_data crates sets = object (member (codes "crates") (array crates) (member (codes "sets") (array sets) no_members))
+page_data crates sets =
+    object (member (codes "crates") (array crates) (member (codes "sets") (array sets) no_members))
 
 -- texts in ascending order of their bytes
 abbrev pub sorted_texts : List (List ℕ) → List (List ℕ)
@@ -68,9 +73,11 @@ paths_shown root = filter_map (path_shown root) (files_in root)
 abbrev pub set_shown : SourceRoot → Data
 set_shown root = set_data (sorted_texts (paths_shown root)) (not root.is_library)
 
--- the data of the page that a database shows: the entries of the crates that it lists, and the sets of its source roots
+-- the data of the page that a database shows: the entries of the crates that it lists, and the sets of its
+-- source roots
 abbrev pub data_shown : Database → Data
-data_shown db = page_data (items_of (map entry_data (entries_shown db))) (items_of (map set_shown (roots_listed db)))
+data_shown db =
+    page_data (items_of (map entry_data (entries_shown db))) (items_of (map set_shown (roots_listed db)))
 
 -- the page that a database shows
 unfoldable pub page_of : Database → List ℕ

@@ -26,10 +26,12 @@ pub record ReadsWithin (room count : ℕ) (left left' : Option (List ℕ)) (piec
   pub piece_is : piece ≡ take room bytes
   pub end : count ≡ 0 → IsAtEnd left'
 
--- what a call does to its source: it is read once, and not at all where there was no memory; of what it gave those within the
--- room are the piece
-abbrev pub ReadsOnceWithin : {S : Type 0} → (S → Option (List ℕ) → S → Type 0) → ℕ → Result ℕ LineError → List ℕ → S → S → Type 0
-ReadsOnceWithin gives room (Ok count) piece old new = (bytes : List ℕ) × gives old (Some bytes) new × (length bytes ≡ count) × (piece ≡ take room bytes)
+-- what a call does to its source: it is read once, and not at all where there was no memory; of what it gave
+-- those within the room are the piece
+abbrev pub ReadsOnceWithin : {S : Type 0} → (S → Option (List ℕ) → S → Type 0) → ℕ → Result ℕ LineError
+    → List ℕ → S → S → Type 0
+ReadsOnceWithin gives room (Ok count) piece old new =
+    (bytes : List ℕ) × gives old (Some bytes) new × (length bytes ≡ count) × (piece ≡ take room bytes)
 ReadsOnceWithin gives room (Err ReadFault) piece old new = gives old None new
 ReadsOnceWithin gives room (Err TooMany) piece old new = ⊥
 ReadsOnceWithin gives room (Err OutOfMemory) piece old new = new ≡ old

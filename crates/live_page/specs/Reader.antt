@@ -7,8 +7,8 @@ use Rattle.base_text.specs.Reader.{IsCut}
 use Rattle.live_page.specs.declared.lines.LineError.{LineError}
 use Rattle.live_page.specs.declared.lines.LineError.TheVariants.{ReadFault, TooMany, OutOfMemory, Ended}
 
--- of the bytes within the limit those that wait to be given, and how many more there is room for; whether a byte past the
--- limit was taken, whether the source reported its end, and whether a call was refused
+-- of the bytes within the limit those that wait to be given, and how many more there is room for; whether a
+-- byte past the limit was taken, whether the source reported its end, and whether a call was refused
 pub record ScriptReader : Type 0 where
   pub waiting : List ℕ
   pub room : ℕ
@@ -25,9 +25,10 @@ abbrev pub IsPast : Bool → ℕ → List ℕ → Type 0
 IsPast false room beyond = beyond ≡ []
 IsPast true room beyond = (length beyond ≡ 1) × (room ≡ 0)
 
--- a reader gave these lines of a source, which had `first` to read and has `left` now: the bytes that were taken are those of
--- the lines, those that wait, and at most one past the limit
-pub record GaveScriptLines (limit : ℕ) (first left : Option (List ℕ)) (given : List (List ℕ)) (reader : ScriptReader) : Type 0 where
+-- a reader gave these lines of a source, which had `first` to read and has `left` now: the bytes that were
+-- taken are those of the lines, those that wait, and at most one past the limit
+pub record GaveScriptLines (limit : ℕ) (first left : Option (List ℕ)) (given : List (List ℕ))
+    (reader : ScriptReader) : Type 0 where
   pub front : List ℕ
   pub beyond : List ℕ
   pub taken : Consumes first left (front ++ (reader.waiting ++ beyond))
@@ -37,7 +38,8 @@ pub record GaveScriptLines (limit : ℕ) (first left : Option (List ℕ)) (given
   pub cut : IsCut reader.is_done front (reader.waiting ++ beyond) left
 
 -- the lines after an answer: one more where it has one
-abbrev pub script_lines_after : {Z : Type 0} → List (List ℕ) → Result (Option (Vec ℕ Z)) LineError → List (List ℕ)
+abbrev pub script_lines_after : {Z : Type 0} → List (List ℕ) → Result (Option (Vec ℕ Z)) LineError
+    → List (List ℕ)
 script_lines_after given (Ok (Some line)) = given ++ line.items ∷ []
 script_lines_after given (Ok None) = given
 script_lines_after given (Err error) = given
@@ -67,7 +69,8 @@ pub record BreaksScript (new : ScriptReader) (before now : ℕ) : Type 0 where
   pub uncut : has_newline new.waiting ≡ false
 
 -- what an answer means: a line is one step on, no line is the end, and an error has its cause
-abbrev pub TellsScriptLine : {Z : Type 0} → Result (Option (Vec ℕ Z)) LineError → ScriptReader → ScriptReader → ℕ → ℕ → Type 0
+abbrev pub TellsScriptLine : {Z : Type 0} → Result (Option (Vec ℕ Z)) LineError → ScriptReader → ScriptReader
+    → ℕ → ℕ → Type 0
 TellsScriptLine (Ok (Some line)) old new before now = bytes_ahead new < bytes_ahead old
 TellsScriptLine (Ok None) old new before now = new.is_done ≡ true
 TellsScriptLine (Err ReadFault) old new before now = BreaksScript new before now
@@ -76,7 +79,8 @@ TellsScriptLine (Err OutOfMemory) old new before now = Unit {0}
 TellsScriptLine (Err Ended) old new before now = old.has_ended ≡ true
 
 -- what a call answers: what it means, whether it was refused, and that no fault is forgotten
-pub record AnswersScriptLine {Z : Type 0} (result : Result (Option (Vec ℕ Z)) LineError) (old new : ScriptReader) (before now : ℕ) : Type 0 where
+pub record AnswersScriptLine {Z : Type 0} (result : Result (Option (Vec ℕ Z)) LineError)
+    (old new : ScriptReader) (before now : ℕ) : Type 0 where
   pub told : TellsScriptLine result old new before now
   pub refused : new.has_ended ≡ is_err result
   pub later : before ≤ now

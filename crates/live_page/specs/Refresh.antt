@@ -1,5 +1,6 @@
--- What a flush brings into a database: the sets of files as source roots, those changes whose file has a root, and the crates of a graph, where
--- one is given. From the way in which rust-analyzer hands changes to its database.
+-- What a flush brings into a database: the sets of files as source roots, those changes whose file has a
+-- root, and the crates of a graph, where one is given. From the way in which rust-analyzer hands changes to
+-- its database.
 use Rattle.std.specs.Prelude.{◌≡◌, ℕ, List, [], Option, Some, None, map, nat_eq, slice_get, if◌then◌else◌}
 use Rattle.std.specs.BTreeMap as tree
 use Rattle.std.specs.List.{IsDistinct, filter}
@@ -40,7 +41,8 @@ abbrev pub changes_taken : FileTables → List SourceRoot → List (ℕ × Chang
 changes_taken files roots batch =
     map (λ entry. (entry.0, text_left entry.1.change)) (filter (λ entry. fits_file files roots entry.0) batch)
 
--- no crate is new or changed: the crates of a database, those that there are now, and the count of writes are as they were
+-- no crate is new or changed: the crates of a database, those that there are now, and the count of writes are
+-- as they were
 pub record KeepsDatabaseCrates (old new : Database) : Type 0 where
   pub crates : new.crates ≡ old.crates
   pub listed : new.listed ≡ old.listed
@@ -61,7 +63,8 @@ GivesCrates cmp (Some graph) old new = SetsGraph cmp graph old new
 
 -- each identity that has a crate in a table keeps it, and each crate its identity
 pub record KeepsIdentities (old new : Table) : Type 0 where
-  pub crates : (unique : UniqueCrateData) (krate : ℕ) → crate_in old unique ≡ Some krate → crate_in new unique ≡ Some krate
+  pub crates : (unique : UniqueCrateData) (krate : ℕ) → crate_in old unique ≡ Some krate
+      → crate_in new unique ≡ Some krate
   pub identities : (krate : ℕ) (unique : UniqueCrateData) → slice_get (uniques_in old) krate ≡ Some unique
       → slice_get (uniques_in new) krate ≡ Some unique
 
@@ -81,7 +84,8 @@ pub record GivesChanges (batch : List (ℕ × ChangedFile)) (old new : Database)
   pub changed : IsChanged change old new
   pub crates : KeepsDatabaseCrates old new
 
--- the sets of the files that exist by these roots, and those changes whose file is in one or has a root already, are in the database
+-- the sets of the files that exist by these roots, and those changes whose file is in one or has a root
+-- already, are in the database
 pub record Refreshes (roots : List FileRoot) (files : Files) (old new : Database) : Type 0 where
   pub sets : List FileSetContent
   pub partition : IsPartition (root_lists roots) (existing_files files) sets

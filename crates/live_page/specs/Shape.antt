@@ -31,8 +31,8 @@ pub record FileShape : Type 0 where
   pub text : Option (List ℕ)
   pub place : Option FileSourceRootInput
 
--- what does not hang on the table of files: the numbers of the local roots and of the libraries, and these roots in order of
--- their numbers
+-- what does not hang on the table of files: the numbers of the local roots and of the libraries, and these
+-- roots in order of their numbers
 pub record BaseShape : Type 0 where
   pub local : List ℕ
   pub library : List ℕ
@@ -71,7 +71,8 @@ base_shape roots paths = record {
 
 -- the source root of a path's file: that of its set
 abbrev pub place_shape : List FileRoot → PathContent → FileSourceRootInput
-place_shape roots path = let number = place_of (root_lists roots) path in stored_place number (durability_at roots number)
+place_shape roots path =
+    let number = place_of (root_lists roots) path in stored_place number (durability_at roots number)
 
 -- a file that lives
 abbrev pub file_shape : List FileRoot → PathContent × List ℕ → FileShape
@@ -116,4 +117,7 @@ base_image db = record {
 
 -- and of the files that exist
 abbrev pub image : Database → Files → Shape
-image db files = record { base = base_image db; files = files_sorted (map (file_image db) (existing_files files)) }
+image db files = record {
+  base = base_image db;
+  files = files_sorted (map (file_image db) (existing_files files));
+}

@@ -1,5 +1,5 @@
--- The source roots that the files of roots become: one for each root, in order, and one for the files that fit none of them. From the
--- way in which rust-analyzer makes source roots of a project's roots.
+-- The source roots that the files of roots become: one for each root, in order, and one for the files that
+-- fit none of them. From the way in which rust-analyzer makes source roots of a project's roots.
 use Rattle.std.specs.Prelude.{ℕ, Bool, List, map, if◌then◌else◌}
 use Rattle.std.specs.List.{enumerate_from}
 use Rattle.input_db_files.specs.SourceRoot.{library_root, local_root}

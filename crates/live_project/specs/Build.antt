@@ -1,5 +1,5 @@
--- A build of a session's project: what it gives replaces what an earlier build gave, and nothing else changes. From the rule that the
--- outputs of a project are those of its last build alone.
+-- A build of a session's project: what it gives replaces what an earlier build gave, and nothing else
+-- changes. From the rule that the outputs of a project are those of its last build alone.
 use Rattle.std.specs.Prelude.{◌≡◌, Ok}
 use Rattle.base_text_outside.specs.declared.command.Output.{Output}
 use Rattle.pm_tools.specs.Outputs.{BuildScripts}
@@ -15,6 +15,9 @@ with_build p scripts = record p { workspace = with_build_scripts p.workspace scr
 abbrev pub built_project : ProjectContent → Output → Reading ProjectContent
 built_project p output = project_outputs p.workspace output >>= λ scripts. Ok (with_build p scripts)
 
--- a build replaces the one before it: what is built of a project that was built is what is built of the project before
+-- a build replaces the one before it: what is built of a project that was built is what is built of the
+-- project before
 abbrev pub IsBuiltAlone : Type 0
-IsBuiltAlone = (p between : ProjectContent) (first second : Output) → built_project p first ≡ Ok between → built_project between second ≡ built_project p second
+IsBuiltAlone =
+    (p between : ProjectContent) (first second : Output) → built_project p first ≡ Ok between
+    → built_project between second ≡ built_project p second

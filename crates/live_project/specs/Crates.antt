@@ -1,5 +1,6 @@
--- The crates that a project has by the files that live, which each have a number: rows, edges and columns are those of `project_lowering`.
--- Which targets have a crate goes by these files alone, and the limit is that of the configuration that the load kept.
+-- The crates that a project has by the files that live, which each have a number: rows, edges and columns are
+-- those of `project_lowering`. Which targets have a crate goes by these files alone, and the limit is that of
+-- the configuration that the load kept.
 use Rattle.std.specs.Prelude.{◌≡◌, ℕ, List, [], fold, nat_eq, Some, Result, if◌then◌else◌}
 use Rattle.std.specs.List.{All}
 use Rattle.std.specs.Map.{lookup}
@@ -38,4 +39,5 @@ project_edges p files = wanted_by p (files_by_path files)
 
 -- each crate of a graph begins in one of these files
 abbrev pub BeginIn : List (ℕ × PathContent) → List CrateBuilder → Type 0
-BeginIn files crates = All (λ krate. (path : PathContent) × (lookup (nat_eq krate.basic.root_file_id) files ≡ Some path)) crates
+BeginIn files crates =
+    All (λ krate. (path : PathContent) × (lookup (nat_eq krate.basic.root_file_id) files ≡ Some path)) crates

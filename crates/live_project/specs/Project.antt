@@ -1,5 +1,6 @@
--- A project of a session: what its load kept, and what was read of it. The rules of reading are those of `read_project`; a load reads the
--- manifest that its path names. From rust-analyzer's `ProjectManifest::from_manifest_file` and `ProjectWorkspace::load`.
+-- A project of a session: what its load kept, and what was read of it. The rules of reading are those of
+-- `read_project`; a load reads the manifest that its path names. From rust-analyzer's
+-- `ProjectManifest::from_manifest_file` and `ProjectWorkspace::load`.
 use Rattle.std.specs.Prelude.{◌≡◌, refl, ℕ, ◌+◌, ◌<◌, ◌^◌, List, length, codes, Option, Some, None, Result, Ok, Err, if◌then◌else◌}
 use Rattle.std.specs.Coded.{Coded, code_by, coded×}
 use Rattle.std.specs.Option.{option_and_then}
@@ -58,7 +59,8 @@ of_loading (Err error) = Err (of_load_error error)
 -- what is read of a manifest, where the path names one
 abbrev pub read_named : Sources → Option ProjectManifest → Result ProjectWorkspace ProjectError
 read_named s None = Err (BadManifest s.path)
-read_named s (Some manifest) = of_loading (read_project manifest s.config.cargo s.config.limits (means_of_sources s))
+read_named s (Some manifest) =
+    of_loading (read_project manifest s.config.cargo s.config.limits (means_of_sources s))
 
 -- what a load reads of what it keeps, or its first refusal
 unfoldable pub read_sources : Sources → Result ProjectWorkspace ProjectError
@@ -73,7 +75,8 @@ Refuses (Refused error) reading = reading ≡ Err (Refused error)
 Refuses OutOfMemory reading = Unit {0}
 
 -- a call gives the project of what is read of what it keeps, or the refusal
-abbrev pub Loads : Sources → Result ProjectWorkspace ProjectError → Result ProjectContent ProjectError → Type 0
+abbrev pub Loads : Sources → Result ProjectWorkspace ProjectError → Result ProjectContent ProjectError
+    → Type 0
 Loads s reading (Ok project) = (project.sources ≡ s) × (reading ≡ Ok project.workspace)
 Loads s reading (Err error) = Refuses error reading
 
@@ -104,7 +107,8 @@ project_error_name OutOfMemory = codes "OutOfMemory"
 
 -- ---- what every project keeps
 
--- no crates of the compiler were read beside it, and there are few enough roots for a flush, which gives each a number of 32 bits
+-- no crates of the compiler were read beside it, and there are few enough roots for a flush, which gives each
+-- a number of 32 bits
 pub record IsLoaded (p : ProjectContent) : Type 0 where
   pub no_rustc : HasNoRustc p.workspace
   pub few : length (roots_of_project p.workspace) + 1 < 2 ^ 32

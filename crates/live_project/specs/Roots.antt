@@ -1,5 +1,6 @@
--- The roots that place the files of a project: its own, by their directories with each `..` resolved. Which directories are left out of
--- them plays no part, as in rust-analyzer's `ProjectFolders` once files are partitioned.
+-- The roots that place the files of a project: its own, by their directories with each `..` resolved. Which
+-- directories are left out of them plays no part, as in rust-analyzer's `ProjectFolders` once files are
+-- partitioned.
 use Rattle.std.specs.Prelude.{ℕ, List, map}
 use Rattle.base_text_paths.specs.Paths.{normal, path_text}
 use Rattle.vfs_sets.specs.declared.file_root.FileRoot.{FileRoot}

@@ -1,5 +1,6 @@
--- What a load is made with and keeps: the configuration, the recorded answers, the files that live, and the path of the manifest. What
--- comes after the load never reaches them. From the rule that a load keeps its files, answers and configuration.
+-- What a load is made with and keeps: the configuration, the recorded answers, the files that live, and the
+-- path of the manifest. What comes after the load never reaches them. From the rule that a load keeps its
+-- files, answers and configuration.
 use Rattle.std.specs.Prelude.{List, ℕ, [], fold, if◌then◌else◌}
 use Rattle.pm_tools_ask.specs.Ask.{Means}
 use Rattle.base_text.specs.MemoryTree.{with_tree_file}

@@ -1,4 +1,5 @@
--- Which workspaces the law of their equality speaks of: paths are equal by their components, so those whose paths are clean, as the text of every path is.
+-- Which workspaces the law of their equality speaks of: paths are equal by their components, so those whose
+-- paths are clean, as the text of every path is.
 use Rattle.std.specs.List.{All}
 use Rattle.std.specs.Prelude.{IfSome}
 use Rattle.base_text_paths.specs.Paths.{IsClean}

@@ -1,4 +1,5 @@
--- What is asked of a workspace: by its paths, by the names of its packages and by their features. The rules are those of rust-analyzer's `CargoWorkspace`.
+-- What is asked of a workspace: by its paths, by the names of its packages and by their features. The rules
+-- are those of rust-analyzer's `CargoWorkspace`.
 use Rattle.std.specs.Prelude.{ℕ, ◌==◌, Bool, ◌&&◌, ◌||◌, false, List, [], ◌∷◌, ◌++◌, map, filter, flat_map, bytes_eq, codes, not, slice_get, if◌then◌else◌, Option, Some, None}
 use Rattle.std.specs.List.{count_by, find, list_any}
 use Rattle.std.specs.Map.{keys_of}
@@ -41,7 +42,8 @@ is_on w manifest d = option_map_or (has_manifest manifest) (slice_get w.packages
 
 -- the manifests of the packages that depend on a package that has the manifest
 abbrev pub dependent_manifests : Workspace → List ℕ → List (List ℕ)
-dependent_manifests w manifest = map (λ p. p.manifest) (filter (λ p. list_any (is_on w manifest) p.dependencies) w.packages)
+dependent_manifests w manifest =
+    map (λ p. p.manifest) (filter (λ p. list_any (is_on w manifest) p.dependencies) w.packages)
 
 -- the manifest of the workspace's root
 abbrev pub root_manifest : Workspace → List ℕ
@@ -54,7 +56,9 @@ manifests_or_root is_known root (first ∷ others) = Some (first ∷ others)
 
 -- the manifests above a manifest
 unfoldable pub parent_manifests : Workspace → List ℕ → Option (List (List ℕ))
-parent_manifests w manifest = manifests_or_root (list_any (has_manifest manifest) w.packages) (root_manifest w) (dependent_manifests w manifest)
+parent_manifests w manifest =
+    manifests_or_root (list_any (has_manifest manifest) w.packages) (root_manifest w)
+    (dependent_manifests w manifest)
 
 -- ---- names
 
@@ -66,7 +70,8 @@ name_count w name = count_by (λ p. bytes_eq p.name name) w.packages
 abbrev pub is_unique : Workspace → List ℕ → Bool
 is_unique w name = name_count w name == 1
 
--- what names a package on Cargo's command line: its name, with its version unless exactly one package has the name
+-- what names a package on Cargo's command line: its name, with its version unless exactly one package has the
+-- name
 abbrev pub package_flag : Workspace → PackageData → List ℕ
 package_flag w p = if is_unique w p.name then p.name else p.name ++ (codes ":" ++ parts_text p.version)
 

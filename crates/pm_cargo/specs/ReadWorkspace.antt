@@ -1,4 +1,5 @@
--- How a document of `cargo metadata` is read as a workspace. The checks come in the order of the lines, and the first refusal counts. The rule is that of rust-analyzer's `CargoWorkspace::new`.
+-- How a document of `cargo metadata` is read as a workspace. The checks come in the order of the lines, and
+-- the first refusal counts. The rule is that of rust-analyzer's `CargoWorkspace::new`.
 use Rattle.std.specs.Prelude.{ℕ, Bool, List, Ok}
 use Rattle.base_text_outside.specs.declared.limits.Limits.{Limits}
 use Rattle.cargo_meta.specs.declared.metadata.Metadata.{Metadata}
@@ -18,8 +19,9 @@ directories_of document = do
   build ← optional_path document.build_directory
   Ok (record { workspace_root = root; target_directory = target; build_directory = build })
 
--- the workspace of a document, of its manifest, with an environment: each directory must be absolute, and then the packages with
--- their targets and what the nodes give them are read; last each member gets the members that it depends on
+-- the workspace of a document, of its manifest, with an environment: each directory must be absolute, and
+-- then the packages with their targets and what the nodes give them are read; last each member gets the
+-- members that it depends on
 unfoldable pub read_workspace : Metadata → List ℕ → List (List ℕ × List ℕ) → Bool → Limits → Reading Workspace
 read_workspace document manifest env is_sysroot limits = do
   root ← absolute_path document.workspace_root

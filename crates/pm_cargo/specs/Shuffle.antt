@@ -1,4 +1,5 @@
--- Two documents of `cargo metadata` that differ in nothing but the order of their packages, their nodes, the entries of these, and their members.
+-- Two documents of `cargo metadata` that differ in nothing but the order of their packages, their nodes, the
+-- entries of these, and their members.
 use Rattle.std.specs.Prelude.{◌≡◌, ◌↔◌, ℕ, Bool, List, [], map, Ok}
 use Rattle.std.specs.List.{Contains}
 use Rattle.std.specs.declared.cmp.Ordering.{Ordering}
@@ -17,7 +18,8 @@ use Rattle.pm_cargo.specs.Workspace.{Workspace}
 abbrev pub by_node : Node → Node → Ordering
 by_node n m = text_cmp n.id.repr m.id.repr
 
--- a node as a workspace is read of it: its entries in the order of their packages, without the plain list of their ids, which is not read
+-- a node as a workspace is read of it: its entries in the order of their packages, without the plain list of
+-- their ids, which is not read
 abbrev pub with_sorted_entries : Node → Node
 with_sorted_entries node = record node { deps = sorted by_package node.deps; dependencies = [] }
 
@@ -25,7 +27,8 @@ with_sorted_entries node = record node { deps = sorted by_package node.deps; dep
 abbrev pub nodes_in_order : Metadata → List Node
 nodes_in_order document = map with_sorted_entries (sorted by_node (nodes_of document.resolve))
 
--- the documents are one but for the order of packages, nodes, entries and members; what has one id keeps its order
+-- the documents are one but for the order of packages, nodes, entries and members; what has one id keeps its
+-- order
 pub record IsShuffle (a b : Metadata) : Type 0 where
   pub packages : sorted by_id a.packages ≡ sorted by_id b.packages
   pub nodes : nodes_in_order a ≡ nodes_in_order b
@@ -36,5 +39,7 @@ pub record IsShuffle (a b : Metadata) : Type 0 where
 
 -- where both documents are read, with equal other arguments, the workspaces are equal
 abbrev pub IsReadAlike : Metadata → Metadata → Type 0
-IsReadAlike a b = (manifest : List ℕ) (env : List (List ℕ × List ℕ)) (is_sysroot : Bool) (limits : Limits) (w v : Workspace)
-    → read_workspace a manifest env is_sysroot limits ≡ Ok w → read_workspace b manifest env is_sysroot limits ≡ Ok v → w ≡ v
+IsReadAlike a b =
+    (manifest : List ℕ) (env : List (List ℕ × List ℕ)) (is_sysroot : Bool) (limits : Limits) (w v : Workspace)
+    → read_workspace a manifest env is_sysroot limits ≡ Ok w
+    → read_workspace b manifest env is_sysroot limits ≡ Ok v → w ≡ v

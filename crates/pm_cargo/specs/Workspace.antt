@@ -1,4 +1,5 @@
--- A Cargo workspace as plain data: packages in the order of their ids and targets in the order of their packages, each known by its place.
+-- A Cargo workspace as plain data: packages in the order of their ids and targets in the order of their
+-- packages, each known by its place.
 use Rattle.std.specs.Prelude.{ℕ, Bool, List, Option}
 use Rattle.pm_cargo_packages.specs.declared.package.PackageData.{PackageData}
 use Rattle.pm_cargo_packages.specs.declared.target.TargetData.{TargetData}

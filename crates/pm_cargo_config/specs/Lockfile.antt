@@ -1,4 +1,5 @@
--- How `cargo` is given the path of a lockfile: by a flag since 1.82.0, by a variable and an unstable option since 1.95.0, by a variable alone since 1.97.0.
+-- How `cargo` is given the path of a lockfile: by a flag since 1.82.0, by a variable and an unstable option
+-- since 1.95.0, by a variable alone since 1.97.0.
 use Rattle.std.specs.Prelude.{if◌then◌else◌, Option, Some, None}
 use Rattle.base_values.specs.Version.{Parts}
 use Rattle.pm_cargo_config.specs.Versions.{is_at_least}

@@ -6,7 +6,9 @@ use Rattle.base_text_outside.specs.declared.command.CommandLine.{CommandLine}
 abbrev pub with_last_variable : List ℕ → List ℕ → CommandLine → CommandLine
 with_last_variable name value line = record line { env = line.env ++ (name, Some value) ∷ [] }
 
--- a command whose `cargo` takes itself for one of the nightly channel, where that is wanted: that channel alone has unstable options
+-- a command whose `cargo` takes itself for one of the nightly channel, where that is wanted: that channel
+-- alone has unstable options
 abbrev pub with_channel : Bool → CommandLine → CommandLine
 with_channel is_wanted line =
-    if is_wanted then with_last_variable (codes "__CARGO_TEST_CHANNEL_OVERRIDE_DO_NOT_USE_THIS") (codes "nightly") line else line
+    if is_wanted then with_last_variable (codes "__CARGO_TEST_CHANNEL_OVERRIDE_DO_NOT_USE_THIS") (codes "nightly") line
+    else line

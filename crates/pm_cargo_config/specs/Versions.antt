@@ -1,4 +1,5 @@
--- From which version on something holds, in the order of Cargo's `semver`, where a pre-release comes before its release.
+-- From which version on something holds, in the order of Cargo's `semver`, where a pre-release comes before
+-- its release.
 use Rattle.std.specs.Prelude.{ℕ, Bool, false, ◌&&◌, nat_eq, List, [], codes, Option, Some, None}
 use Rattle.std.specs.List.{ends_with}
 use Rattle.std.specs.Ordering.{is_le}

@@ -1,4 +1,5 @@
--- What fetching metadata answers, by the answers of the runner: the full answer decides, and the light metadata stands in for one that is not ok.
+-- What fetching metadata answers, by the answers of the runner: the full answer decides, and the light
+-- metadata stands in for one that is not ok.
 use Rattle.std.specs.Prelude.{◌≡◌, ℕ, Bool, true, if◌then◌else◌, List, Option, Some, None, Result, Ok, Err}
 use Rattle.base_text_outside.specs.Runner.{answer_of}
 use Rattle.base_text_outside.specs.declared.command.CommandLine.{CommandLine}
@@ -28,7 +29,10 @@ pub record Fetch : Type 0 where
 
 -- the full question by the settings of a command without options, and by the options
 abbrev pub full_line : Settings → List (List ℕ) → CommandLine
-full_line set options = with_channel (has_unstable options) (metadata_command (record set { other_options = full_options options }))
+full_line set options =
+    with_channel (has_unstable options) (metadata_command (record set {
+      other_options = full_options options;
+    }))
 
 -- what is ready to be fetched, by those settings and options
 abbrev pub fetch_by : Settings → List (List ℕ) → Bool → List (Question × Output) → Fetch
@@ -41,7 +45,8 @@ fetch_by set options no_deps answers =
     }
 
 -- the light question is answered at once
-abbrev pub fetch_of : List ℕ → List ℕ → CargoMetadataConfig → ToolRoot → Bool → List (Question × Output) → Fetch
+abbrev pub fetch_of : List ℕ → List ℕ → CargoMetadataConfig → ToolRoot → Bool → List (Question × Output)
+    → Fetch
 fetch_of manifest dir config root no_deps answers =
     let line = light_question manifest dir config root in
     record {
@@ -63,7 +68,8 @@ light_in_place (Err e) error = Err error
 -- what is fetched where the full question has that output
 abbrev pub output_answer : Result Metadata Error → Output → FetchAnswer
 output_answer light output =
-    if output.ok then without_error (of_line (json_line output.out)) else light_in_place light (CargoMetadata output.err)
+    if output.ok then without_error (of_line (json_line output.out))
+    else light_in_place light (CargoMetadata output.err)
 
 -- what is fetched where the full question has that answer, if it has one
 abbrev pub of_full : Result Metadata Error → CommandLine → Option Output → FetchAnswer

@@ -25,7 +25,8 @@ options_of manifest config =
     ++ option_words (codes "--config") config.config_path
     ++ flag_word (is_rust_manifest manifest) (codes "-Zscript")
     ++ filter_words config.targets
-    ++ flag_word (list_any (needs_json_flag config.toolchain_version) config.targets) (codes "-Zjson-target-spec")
+    ++ flag_word (list_any (needs_json_flag config.toolchain_version) config.targets)
+    (codes "-Zjson-target-spec")
 
 -- an unstable option
 abbrev pub is_unstable_option : List ℕ → Bool

@@ -1,4 +1,5 @@
--- The questions for metadata: what `cargo` is asked, and where. The light question is for the members alone, the full one for all packages.
+-- The questions for metadata: what `cargo` is asked, and where. The light question is for the members alone,
+-- the full one for all packages.
 use Rattle.std.specs.Prelude.{ℕ, Bool, true, false, List, [], ◌∷◌, ◌++◌, codes, fold, Some, unwrap_or}
 use Rattle.base_values.specs.ByText.{with_value}
 use Rattle.base_text_outside.specs.declared.command.CommandLine.{CommandLine}
@@ -38,7 +39,8 @@ abbrev pub question_variables : Variables → Variables
 question_variables variables = with_variables variables ((codes "RUSTUP_AUTO_INSTALL", Some (codes "0")) ∷ [])
 
 -- a metadata question, with the word that limits it and the options that it ends with
-abbrev pub metadata_question : List (List ℕ) → List (List ℕ) → List ℕ → List ℕ → CargoMetadataConfig → ToolRoot → CommandLine
+abbrev pub metadata_question : List (List ℕ) → List (List ℕ) → List ℕ → List ℕ → CargoMetadataConfig
+    → ToolRoot → CommandLine
 metadata_question limit options manifest dir config root =
     let start = tool_command root Cargo dir config.extra_env in
     record {
@@ -57,9 +59,11 @@ metadata_question limit options manifest dir config root =
 
 -- the light question
 abbrev pub light_question : List ℕ → List ℕ → CargoMetadataConfig → ToolRoot → CommandLine
-light_question manifest dir config = metadata_question (codes "--no-deps" ∷ []) (options_of manifest config) manifest dir config
+light_question manifest dir config =
+    metadata_question (codes "--no-deps" ∷ []) (options_of manifest config) manifest dir config
 
--- the full question, before it is said whether the lockfile is kept: where unstable options are allowed, `cargo` takes itself for one of the nightly channel
+-- the full question, before it is said whether the lockfile is kept: where unstable options are allowed,
+-- `cargo` takes itself for one of the nightly channel
 abbrev pub full_question : List ℕ → List ℕ → CargoMetadataConfig → ToolRoot → CommandLine
 full_question manifest dir config root =
     let options = options_of manifest config in

@@ -1,4 +1,5 @@
--- The lines that a progress takes while the full question is asked: its start, what `cargo` wrote to its error stream, whether it failed, and its end.
+-- The lines that a progress takes while the full question is asked: its start, what `cargo` wrote to its
+-- error stream, whether it failed, and its end.
 use Rattle.std.specs.Prelude.{ℕ, Bool, false, ◌||◌, if◌then◌else◌, nat_eq, List, [], ◌∷◌, ◌++◌, codes, Option, Some, None}
 use Rattle.std.specs.List.{starts_with}
 use Rattle.std.specs.Str.Lines.{lines}
@@ -14,9 +15,11 @@ begins_error line = starts_with nat_eq line (codes "error") || starts_with nat_e
 
 -- the line as it is reported, shown or hidden
 abbrev pub reported_line : Bool → List ℕ → List ℕ
-reported_line is_hidden line = if is_hidden then codes "cargo metadata: ?" else codes "cargo metadata: " ++ line
+reported_line is_hidden line =
+    if is_hidden then codes "cargo metadata: ?" else codes "cargo metadata: " ++ line
 
--- the lines of an error stream as they are reported: each is hidden that begins an error or a warning, or follows a hidden one
+-- the lines of an error stream as they are reported: each is hidden that begins an error or a warning, or
+-- follows a hidden one
 unfoldable pub stream_lines : Bool → List (List ℕ) → List (List ℕ)
 stream_lines is_hidden [] = []
 stream_lines is_hidden (line ∷ more) =
@@ -37,7 +40,8 @@ answer_lines (Some output) = output_lines output
 
 -- the lines of a question that has this answer, if it has one
 abbrev pub question_lines : Option Output → List (List ℕ)
-question_lines answer = codes "cargo metadata: started" ∷ answer_lines answer ++ codes "cargo metadata: finished" ∷ []
+question_lines answer =
+    codes "cargo metadata: started" ∷ answer_lines answer ++ codes "cargo metadata: finished" ∷ []
 
 -- the lines while metadata is fetched: none where the light answer is enough
 abbrev pub fetch_lines : Fetch → Bool → List (Question × Output) → List (List ℕ)

@@ -15,7 +15,8 @@ Lists = List (Option (List (Idx PackageTag)))
 pub record AreClosures (graph : List (List ℕ)) (place : ℕ) (lists : Lists) : Type 0 where
   pub long : length lists ≡ length graph
   pub there : (k : ℕ) → k < place → slice_get lists k ≡ Some (Some (package_ids (closure graph k)))
-  pub right : (k : ℕ) (list : List (Idx PackageTag)) → slice_get lists k ≡ Some (Some list) → list ≡ package_ids (closure graph k)
+  pub right : (k : ℕ) (list : List (Idx PackageTag)) → slice_get lists k ≡ Some (Some list)
+      → list ≡ package_ids (closure graph k)
 
 -- the closure of a node, as places and as ids
 abbrev pub closure_list : List (List ℕ) → ℕ → ClosureList

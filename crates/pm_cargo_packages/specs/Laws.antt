@@ -1,4 +1,5 @@
--- Which values of packages and targets the laws of their equality speak of: paths are equal by their components, so those whose paths are clean, as the text of every path is.
+-- Which values of packages and targets the laws of their equality speak of: paths are equal by their
+-- components, so those whose paths are clean, as the text of every path is.
 use Rattle.base_text_paths.specs.Paths.{IsClean}
 use Rattle.pm_cargo_packages.specs.declared.package.PackageData.{PackageData}
 use Rattle.pm_cargo_packages.specs.declared.target.TargetData.{TargetData}

@@ -1,4 +1,5 @@
--- The kind of a target: documents of `cargo metadata` list several kinds, of which the first that is known counts.
+-- The kind of a target: documents of `cargo metadata` list several kinds, of which the first that is known
+-- counts.
 use Rattle.std.specs.Prelude.{true, false, List, [], ◌∷◌, Option, Some, None}
 use Rattle.cargo_meta_values.specs.declared.kinds.TargetKind as document
 use Rattle.cargo_meta_values.specs.declared.kinds.TargetKind.TheVariants as of

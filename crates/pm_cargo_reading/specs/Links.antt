@@ -24,7 +24,12 @@ features_at links place = flat_map (λ l. if number_of l.source == place then l.
 
 -- the package at a place with what links give it
 abbrev pub package_with_links : List Link → ℕ × PackageData → PackageData
-package_with_links links p = record p.1 { dependencies = p.1.dependencies ++ dependencies_at links p.0; active_features = p.1.active_features ++ features_at links p.0 }
+package_with_links links p =
+    record p.1 {
+      dependencies = p.1.dependencies ++ dependencies_at links p.0;
+      active_features = p.1.active_features
+          ++ features_at links p.0;
+    }
 
 -- the packages with what links give them
 unfoldable pub with_links : List Link → List PackageData → List PackageData
@@ -32,7 +37,10 @@ with_links links packages = map (package_with_links links) (enumerate_from 0 pac
 
 -- a package with what a link has for it
 abbrev pub package_with_link : Link → PackageData → PackageData
-package_with_link link p = record p { dependencies = p.dependencies ++ link.dependencies; active_features = p.active_features ++ link.features }
+package_with_link link p = record p {
+  dependencies = p.dependencies ++ link.dependencies;
+  active_features = p.active_features ++ link.features;
+}
 
 -- the packages with what one link gives them
 abbrev pub with_link : List PackageData → Link → List PackageData
@@ -42,7 +50,8 @@ with_link packages link = with_links (link ∷ []) packages
 unfoldable pub linked_packages : List PackageData → List Node → Reading (List PackageData)
 linked_packages packages nodes = links_of packages nodes >>= λ links. Ok (with_links links packages)
 
--- packages and targets of a document, of which the packages are taken first, and then have what the nodes give them
+-- packages and targets of a document, of which the packages are taken first, and then have what the nodes
+-- give them
 unfoldable pub linked_contents : List PackageId → Limits → List Package → List Node → Reading Contents
 linked_contents members limits packages nodes =
     contents_of members limits packages >>= λ contents.

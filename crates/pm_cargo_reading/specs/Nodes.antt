@@ -1,5 +1,5 @@
--- The nodes of a document of `cargo metadata`, which give packages their dependencies and active features. They are taken in
--- document order, each whole before the next.
+-- The nodes of a document of `cargo metadata`, which give packages their dependencies and active features.
+-- They are taken in document order, each whole before the next.
 use Rattle.std.specs.Prelude.{ℕ, suc, Bool, true, false, List, [], ◌∷◌, ◌++◌, map, filter, bytes_eq, if◌then◌else◌, Option, Some, None, Ok, Err}
 use Rattle.std.specs.List.{list_any}
 use Rattle.std.specs.Option.{option_map, option_or}
@@ -74,14 +74,19 @@ by_package d e = text_cmp d.pkg.repr e.pkg.repr
 abbrev pub with_kinds : ℕ → List ℕ → List DepKind → List PackageDependency
 with_kinds place name kinds = map (λ kind. record { pkg = package_id place; name = name; kind = kind }) kinds
 
--- the dependencies that an entry of a node gives: one for each kind. Its package must be known only where a kind is left
-abbrev pub dependencies_of_kinds : List PackageData → NodeDep → List DepKind → Reading (List PackageDependency)
+-- the dependencies that an entry of a node gives: one for each kind. Its package must be known only where a
+-- kind is left
+abbrev pub dependencies_of_kinds : List PackageData → NodeDep → List DepKind
+    → Reading (List PackageDependency)
 dependencies_of_kinds packages d [] = Ok []
-dependencies_of_kinds packages d (kind ∷ kinds) = known_place packages d.pkg.repr >>= λ place. Ok (with_kinds place d.name (kind ∷ kinds))
+dependencies_of_kinds packages d (kind ∷ kinds) =
+    known_place packages d.pkg.repr >>= λ place. Ok (with_kinds place d.name (kind ∷ kinds))
 
 -- one more entry of a node
-unfoldable pub take_dependency : List PackageData → List PackageDependency → NodeDep → Reading (List PackageDependency)
-take_dependency packages before d = dependencies_of_kinds packages d (kinds_of d.dep_kinds) >>= λ more. Ok (before ++ more)
+unfoldable pub take_dependency : List PackageData → List PackageDependency → NodeDep
+    → Reading (List PackageDependency)
+take_dependency packages before d =
+    dependencies_of_kinds packages d (kinds_of d.dep_kinds) >>= λ more. Ok (before ++ more)
 
 -- what a node gives: its package must be known, and then its dependencies, sorted by their packages' ids
 unfoldable pub link_of : List PackageData → Node → Reading Link

@@ -1,4 +1,5 @@
--- The packages and targets of a document of `cargo metadata`: taken in the order of their ids, each counted and checked before the next.
+-- The packages and targets of a document of `cargo metadata`: taken in the order of their ids, each counted
+-- and checked before the next.
 use Rattle.std.specs.Prelude.{◌≡◌, ◌<◌, ◌^◌, ℕ, ◌+◌, ◌-◌, Bool, ◌&&◌, true, false, List, [], ◌∷◌, ◌++◌, length, map, bytes_eq, codes, nat_lt, if◌then◌else◌, Option, Some, None, Ok, Err}
 use Rattle.std.specs.List.{list_any, range_with_len}
 use Rattle.std.specs.Option.{is_none, option_and_then, unwrap_or}
@@ -44,7 +45,8 @@ optional_path (Some text) = absolute_path text >>= λ path. Ok (Some path)
 
 -- the path of a manifest, which must be absolute and lie in a directory
 unfoldable pub absolute_manifest : List ℕ → Reading (List ℕ)
-absolute_manifest text = absolute_path text >>= λ path. if bytes_eq path (codes "/") then Err (NoParent path) else Ok path
+absolute_manifest text =
+    absolute_path text >>= λ path. if bytes_eq path (codes "/") then Err (NoParent path) else Ok path
 
 -- ---- targets
 
@@ -79,7 +81,9 @@ target_with_root place t root = record {
 -- one more target of the package at a place: it is counted, and then its root is checked
 unfoldable pub take_target : ℕ → ℕ → List ℕ → List TargetData → Target → Reading (List TargetData)
 take_target limit place manifest targets t =
-    if nat_lt (length targets) limit then (target_root manifest t >>= λ root. Ok (targets ++ target_with_root place t root ∷ [])) else Err (TooMany Targets)
+    if nat_lt (length targets) limit then (target_root manifest t
+    >>= λ root. Ok (targets ++ target_with_root place t root ∷ []))
+    else Err (TooMany Targets)
 
 -- ---- packages
 
@@ -102,9 +106,13 @@ is_listed members id = list_any (λ member. bytes_eq member.repr id.repr) member
 
 -- what the metadata table says under `rust-analyzer.rustc_private`, and no where that is no bool
 unfoldable pub rustc_private : Data → Bool
-rustc_private metadata = unwrap_or (option_and_then as_bool (option_and_then (get (codes "rustc_private")) (get (codes "rust-analyzer") metadata))) false
+rustc_private metadata =
+    unwrap_or
+    (option_and_then as_bool (option_and_then (get (codes "rustc_private")) (get (codes "rust-analyzer") metadata)))
+    false
 
--- a package with its manifest and its targets, before the nodes are taken: it has no dependencies and no active features yet
+-- a package with its manifest and its targets, before the nodes are taken: it has no dependencies and no
+-- active features yet
 abbrev pub unresolved_package : Bool → List ℕ → List (Idx TargetTag) → Package → PackageData
 unresolved_package is_member manifest targets p = record {
   version = p.version;
@@ -137,22 +145,32 @@ ids_between first end = map target_id (range_with_len first (end - first))
 -- the contents with a package and its targets, which follow the targets before
 abbrev pub with_package : List PackageId → Contents → List ℕ → Package → List TargetData → Contents
 with_package members contents manifest p targets = record {
-  packages = contents.packages ++ unresolved_package (is_listed members p.id) manifest (ids_between (length contents.targets) (length targets)) p ∷ [];
+  packages =
+      contents.packages
+      ++ unresolved_package (is_listed members p.id) manifest
+      (ids_between (length contents.targets) (length targets)) p
+      ∷ [];
   targets = targets;
 }
 
 -- one more package: it is counted, then its manifest is checked, then its targets are taken
 unfoldable pub take_package : List PackageId → Limits → Contents → Package → Reading Contents
 take_package members limits contents p =
-    if nat_lt (length contents.packages) limits.packages then (absolute_manifest p.manifest_path >>= λ manifest.
-    take_each (take_target limits.targets (length contents.packages) manifest) contents.targets p.targets >>= λ targets.
+    if nat_lt (length contents.packages) limits.packages then (absolute_manifest p.manifest_path
+    >>= λ manifest.
+    take_each (take_target limits.targets (length contents.packages) manifest) contents.targets p.targets
+    >>= λ targets.
     Ok (with_package members contents manifest p targets)) else Err (TooMany Packages)
 
 -- what is read of one more package, and all targets with its own, where none of them is refused
-pub record ArePartsOf (by : List PackageId × Limits) (contents : Contents) (p : Package) (targets : List TargetData) (parts : PackageParts) : Type 0 where
+pub record ArePartsOf (by : List PackageId × Limits) (contents : Contents) (p : Package)
+    (targets : List TargetData) (parts : PackageParts) : Type 0 where
   pub room : length contents.packages < by.1.packages
   pub manifest : absolute_manifest p.manifest_path ≡ Ok parts.manifest
-  pub taken : take_each (take_target by.1.targets (length contents.packages) parts.manifest) contents.targets p.targets ≡ Ok targets
+  pub taken :
+      take_each (take_target by.1.targets (length contents.packages) parts.manifest) contents.targets
+      p.targets
+      ≡ Ok targets
   pub few : length contents.packages + 1 < 2 ^ 32
   pub short : length targets < 2 ^ 32
   pub id : parts.id ≡ p.id
@@ -161,7 +179,8 @@ pub record ArePartsOf (by : List PackageId × Limits) (contents : Contents) (p :
 
 -- the packages of a document and their targets, in the order of the packages' ids
 unfoldable pub contents_of : List PackageId → Limits → List Package → Reading Contents
-contents_of members limits packages = take_each (take_package members limits) (record { packages = []; targets = [] }) (sorted by_id packages)
+contents_of members limits packages =
+    take_each (take_package members limits) (record { packages = []; targets = [] }) (sorted by_id packages)
 
 -- the order of packages of a workspace: that of the bytes of their ids
 abbrev pub by_package_id : PackageData → PackageData → Ordering

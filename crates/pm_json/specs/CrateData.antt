@@ -94,11 +94,30 @@ crate_at d = members_at d >>= crate_from
 
 -- what the first rows of a crate have
 abbrev pub stated_head : CrateData → CrateHead
-stated_head c = record { display_name = c.display_name; root_module = c.root_module; edition = c.edition; version = c.version; deps = c.deps; cfg_groups = c.cfg_groups; cfg = c.cfg; target = c.target }
+stated_head c = record {
+  display_name = c.display_name;
+  root_module = c.root_module;
+  edition = c.edition;
+  version = c.version;
+  deps = c.deps;
+  cfg_groups = c.cfg_groups;
+  cfg = c.cfg;
+  target = c.target;
+}
 
 -- what the others have
 abbrev pub stated_tail : CrateData → CrateTail
-stated_tail c = record { env = c.env; crate_attrs = c.crate_attrs; proc_macro_dylib_path = c.proc_macro_dylib_path; is_workspace_member = c.is_workspace_member; source = c.source; is_proc_macro = c.is_proc_macro; repository = c.repository; build = c.build; proc_macro_cwd = c.proc_macro_cwd }
+stated_tail c = record {
+  env = c.env;
+  crate_attrs = c.crate_attrs;
+  proc_macro_dylib_path = c.proc_macro_dylib_path;
+  is_workspace_member = c.is_workspace_member;
+  source = c.source;
+  is_proc_macro = c.is_proc_macro;
+  repository = c.repository;
+  build = c.build;
+  proc_macro_cwd = c.proc_macro_cwd;
+}
 
 -- the first eight members of a crate, put among members
 unfoldable pub crate_head_set : CrateHead → Members → Members

@@ -52,12 +52,21 @@ folder_of_parent root None = Err (NoParent root)
 
 -- the directories of a crate: those that are stated, else the one that its root module lies in
 abbrev pub folders_of : List ℕ → List ℕ → Option CrateSource → Reading Folders
-folders_of base root (Some source) = Ok (record { include = map (absolute_from base) source.include_dirs; exclude = map (absolute_from base) source.exclude_dirs })
+folders_of base root (Some source) =
+    Ok
+    (record {
+      include = map (absolute_from base) source.include_dirs;
+      exclude = map (absolute_from base) source.exclude_dirs;
+    })
 folders_of base root None = folder_of_parent root (parent_text root)
 
 -- what a build system knows of a crate
 abbrev pub stated_build : BuildData → Build
-stated_build stated = record { label = stated.label; build_file = stated.build_file; target_kind = target_kind_from stated.target_kind }
+stated_build stated = record {
+  label = stated.label;
+  build_file = stated.build_file;
+  target_kind = target_kind_from stated.target_kind;
+}
 
 -- what of a crate is read on the base
 unfoldable pub head_on_base : List ℕ → CrateData → Reading CrateHead
@@ -118,11 +127,30 @@ crate_with head tail = record {
 
 -- what of a crate is read on the base
 abbrev pub read_head : Crate → CrateHead
-read_head c = record { display_name = c.display_name; root_module = c.root_module; version = c.version; proc_macro_dylib_path = c.proc_macro_dylib_path; is_workspace_member = c.is_workspace_member; include = c.include; exclude = c.exclude; proc_macro_cwd = c.proc_macro_cwd }
+read_head c = record {
+  display_name = c.display_name;
+  root_module = c.root_module;
+  version = c.version;
+  proc_macro_dylib_path = c.proc_macro_dylib_path;
+  is_workspace_member = c.is_workspace_member;
+  include = c.include;
+  exclude = c.exclude;
+  proc_macro_cwd = c.proc_macro_cwd;
+}
 
 -- what of a crate is taken as it is stated
 abbrev pub taken_tail : Crate → CrateTail
-taken_tail c = record { edition = c.edition; deps = c.deps; cfg = c.cfg; target = c.target; env = c.env; crate_attrs = c.crate_attrs; is_proc_macro = c.is_proc_macro; repository = c.repository; build = c.build }
+taken_tail c = record {
+  edition = c.edition;
+  deps = c.deps;
+  cfg = c.cfg;
+  target = c.target;
+  env = c.env;
+  crate_attrs = c.crate_attrs;
+  is_proc_macro = c.is_proc_macro;
+  repository = c.repository;
+  build = c.build;
+}
 
 -- a crate of a document
 unfoldable pub project_crate : List ℕ → Groups → CrateData → Reading Crate
@@ -133,4 +161,6 @@ project_crate base groups stated = do
 -- the crates of a document in order, of which the first that is refused refuses all
 abbrev pub crates_on_base : List ℕ → Groups → List CrateData → Reading (List Crate)
 crates_on_base base groups [] = Ok []
-crates_on_base base groups (stated ∷ rest) = project_crate base groups stated >>= λ krate. under (λ crates. krate ∷ crates) (crates_on_base base groups rest)
+crates_on_base base groups (stated ∷ rest) =
+    project_crate base groups stated
+    >>= λ krate. under (λ crates. krate ∷ crates) (crates_on_base base groups rest)

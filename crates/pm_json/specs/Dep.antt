@@ -31,7 +31,9 @@ dep_at d = do
 
 -- the document of a dependency
 unfoldable pub dep_data : Dep → Data
-dep_data d = object (set_member (codes "name") (string d.name) (set_member (codes "crate") (number (unsigned d.krate.0)) no_members))
+dep_data d =
+    object
+    (set_member (codes "name") (string d.name) (set_member (codes "crate") (number (unsigned d.krate.0)) no_members))
 
 -- a dependency is not written as null
 pub dep_data-present : (d : Dep) → is_null (dep_data d) ≡ false

@@ -1,4 +1,5 @@
--- the closed tables of names: editions, kinds of target and kinds of runnable, as `rust-project.json` writes them
+-- the closed tables of names: editions, kinds of target and kinds of runnable, as `rust-project.json` writes
+-- them
 use Rattle.std.specs.Prelude.{ℕ, false, List, [], ◌∷◌, codes, Ok}
 use Rattle.serde_json.specs.Data.{Data}
 use Rattle.base_text_paths.specs.declared.edition.Edition.{Edition}
@@ -86,7 +87,9 @@ runnable_kind_text runnable.Unknown = codes "unknown"
 
 -- the kinds of runnable that are known
 abbrev pub runnable_kinds : List RunnableKind
-runnable_kinds = runnable.Check ∷ runnable.Run ∷ runnable.TestOne ∷ runnable.TestMod ∷ runnable.DocTestOne ∷ runnable.BenchOne ∷ runnable.Flycheck ∷ []
+runnable_kinds =
+    runnable.Check ∷ runnable.Run ∷ runnable.TestOne ∷ runnable.TestMod ∷ runnable.DocTestOne
+    ∷ runnable.BenchOne ∷ runnable.Flycheck ∷ []
 
 -- the kind of runnable that a text names, which is unknown where the text is another
 unfoldable pub runnable_kind_of : List ℕ → RunnableKind

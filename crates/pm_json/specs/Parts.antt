@@ -40,7 +40,9 @@ crate_source_at d = do
 
 -- their document
 unfoldable pub crate_source_data : CrateSource → Data
-crate_source_data s = object (set_member (codes "exclude_dirs") (list_data string s.exclude_dirs) (set_member (codes "include_dirs") (list_data string s.include_dirs) no_members))
+crate_source_data s =
+    object
+    (set_member (codes "exclude_dirs") (list_data string s.exclude_dirs) (set_member (codes "include_dirs") (list_data string s.include_dirs) no_members))
 
 -- they are not written as null
 pub source_data-present : (s : CrateSource) → is_null (crate_source_data s) ≡ false

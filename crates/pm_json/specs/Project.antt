@@ -1,4 +1,5 @@
--- a project, as rust-analyzer reads a `rust-project.json` on a base directory; its standard library may be a project of its own
+-- a project, as rust-analyzer reads a `rust-project.json` on a base directory; its standard library may be a
+-- project of its own
 use Rattle.std.specs.Prelude.{ℕ, if◌then◌else◌, nat_lt, List, length, Option, Some, None, Ok, Err}
 use Rattle.std.specs.Option.{option_map}
 use Rattle.base_text_outside.specs.declared.limits.Limit.TheVariants.{Crates}
@@ -15,7 +16,8 @@ use Rattle.pm_json.specs.declared.workspace_json_error.WorkspaceJsonError.TheVar
 abbrev pub OnBase : Type 0
 OnBase = Option (List ℕ) → List ℕ → Reading ProjectJson
 
--- the project of the standard library, read on the directory of its sources; with no such directory there is none
+-- the project of the standard library, read on the directory of its sources; with no such directory there is
+-- none
 abbrev pub sysroot_project_of : Option (List ℕ) → Option OnBase → Reading (Option ProjectJson)
 sysroot_project_of None inner = Ok None
 sysroot_project_of (Some source) None = Ok None
@@ -25,7 +27,8 @@ sysroot_project_of (Some source) (Some inner) = under Some (inner None source)
 unfoldable pub level_read : ProjectJsonData-F OnBase → OnBase
 level_read stated manifest base = do
   crates ← crates_on_base base stated.cfg_groups stated.crates
-  sysroot_project ← sysroot_project_of (option_map (absolute_from base) stated.sysroot_src) stated.sysroot_project
+  sysroot_project ← sysroot_project_of (option_map (absolute_from base) stated.sysroot_src)
+      stated.sysroot_project
   Ok (roll-ProjectJson (record {
     sysroot = option_map (absolute_from base) stated.sysroot;
     sysroot_src = option_map (absolute_from base) stated.sysroot_src;
@@ -38,7 +41,8 @@ level_read stated manifest base = do
 
 -- the same, where the level has no more crates than the limit
 unfoldable pub level_within_limit : ℕ → ProjectJsonData-F OnBase → OnBase
-level_within_limit limit stated manifest base = if nat_lt limit (length stated.crates) then Err (TooMany Crates) else level_read stated manifest base
+level_within_limit limit stated manifest base =
+    if nat_lt limit (length stated.crates) then Err (TooMany Crates) else level_read stated manifest base
 
 -- the project of a document, each of whose levels has no more crates than the limit
 abbrev pub project_of : ℕ → ProjectJsonData → OnBase

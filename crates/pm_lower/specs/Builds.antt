@@ -1,4 +1,5 @@
--- Builds of projects: what a build gives one project, or several, which may share one build; and a project with what a build gave. The rules are those of rust-analyzer's `ProjectWorkspace`.
+-- Builds of projects: what a build gives one project, or several, which may share one build; and a project
+-- with what a build gave. The rules are those of rust-analyzer's `ProjectWorkspace`.
 use Rattle.std.specs.Prelude.{◌≡◌, ◌⊎◌, ℕ, true, List, [], ◌∷◌, map, Option, Some, None, Result, Ok}
 use Rattle.std.specs.FinMap.{empty}
 use Rattle.std.specs.List.{flat_map}
@@ -55,7 +56,8 @@ abbrev pub project_outputs : ProjectWorkspace → Output → Reading BuildScript
 project_outputs p output = outputs_for (built_workspace p.kind) output
 
 -- what a build gives the workspace that it counts for, if there is one; without one nothing is asked
-abbrev pub build_for : CargoConfig → Toolchain → Option Parts → Means → Option Workspace → Reading BuildScripts
+abbrev pub build_for : CargoConfig → Toolchain → Option Parts → Means → Option Workspace
+    → Reading BuildScripts
 build_for config sysroot version means None = Ok no_scripts
 build_for config sysroot version means (Some cargo) = build_of config cargo sysroot version means
 
@@ -75,7 +77,8 @@ kind_workspaces (DetachedFile file script) = []
 abbrev pub workspaces_of : List ProjectWorkspace → List Workspace
 workspaces_of projects = flat_map (λ p. kind_workspaces p.kind) projects
 
--- what a build of all gives a kind of project: a project of cargo its packages' outputs, or the refusal, and any other nothing
+-- what a build of all gives a kind of project: a project of cargo its packages' outputs, or the refusal, and
+-- any other nothing
 abbrev pub kind_share : Reading SharedBuild → ProjectWorkspaceKind → Reading BuildScripts
 kind_share build (Cargo cargo error scripts rustc) = build >>= λ shared. Ok (scripts_for shared cargo)
 kind_share build (Json project) = Ok no_scripts
@@ -87,13 +90,16 @@ command_for_all config dir means Once = configured_question config.run_build_scr
 command_for_all config dir means PerWorkspace = None
 
 -- what builds of some projects give each of them: one build by this command, or else one build each
-abbrev pub builds_by : List ProjectWorkspace → CargoConfig → Means → Option CommandLine → List (Reading BuildScripts)
-builds_by projects config means (Some line) = map (λ p. kind_share (shared_build line (workspaces_of projects) means.answers) p.kind) projects
+abbrev pub builds_by : List ProjectWorkspace → CargoConfig → Means → Option CommandLine
+    → List (Reading BuildScripts)
+builds_by projects config means (Some line) =
+    map (λ p. kind_share (shared_build line (workspaces_of projects) means.answers) p.kind) projects
 builds_by projects config means None = map (project_build config means) projects
 
 -- what builds of some projects give each of them; a build of all is asked for in the directory
 abbrev pub all_builds : List ProjectWorkspace → CargoConfig → List ℕ → Means → List (Reading BuildScripts)
-all_builds projects config dir means = builds_by projects config means (command_for_all config dir means config.invocation_strategy)
+all_builds projects config dir means =
+    builds_by projects config means (command_for_all config dir means config.invocation_strategy)
 
 -- a call returns what each of the readings gives, in order, except that one may run out of memory
 abbrev pub GivesEach : {T : Type 0} → List (Result T BuildError) → List (Reading T) → Type 0
@@ -115,7 +121,8 @@ script_with_build scripts script = (script.0, scripts, script.2)
 abbrev pub kind_with_build_scripts : ProjectWorkspaceKind → BuildScripts → ProjectWorkspaceKind
 kind_with_build_scripts (Cargo cargo error before rustc) scripts = Cargo cargo error scripts rustc
 kind_with_build_scripts (Json project) scripts = Json project
-kind_with_build_scripts (DetachedFile file script) scripts = DetachedFile file (option_map (script_with_build scripts) script)
+kind_with_build_scripts (DetachedFile file script) scripts =
+    DetachedFile file (option_map (script_with_build scripts) script)
 
 -- a project with this in place of what a build gave it before
 abbrev pub with_build_scripts : ProjectWorkspace → BuildScripts → ProjectWorkspace

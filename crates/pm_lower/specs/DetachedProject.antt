@@ -1,4 +1,6 @@
--- A detached file as a load reads it, which is a Rust file that may hold its own manifest: what the tools say of it, and the project that cargo reads it as, where there is metadata. The order is that of rust-analyzer's `ProjectWorkspace::load_detached_file`.
+-- A detached file as a load reads it, which is a Rust file that may hold its own manifest: what the tools say
+-- of it, and the project that cargo reads it as, where there is metadata. The order is that of
+-- rust-analyzer's `ProjectWorkspace::load_detached_file`.
 use Rattle.std.specs.Prelude.{ℕ, false, List, Option, Some, None, Ok, Err}
 use Rattle.std.specs.Option.{option_map}
 use Rattle.base_text_outside.specs.declared.limits.Limits.{Limits}
@@ -29,23 +31,29 @@ abbrev pub metadata_or_none : FetchAnswer → Option (Metadata × Option Error)
 metadata_or_none (Ok metadata) = Some metadata
 metadata_or_none (Err error) = None
 
--- a workspace as the project of a file, with why the light metadata stood in, where it did; nothing is built yet
+-- a workspace as the project of a file, with why the light metadata stood in, where it did; nothing is built
+-- yet
 abbrev pub script_of : Option Error → Workspace → ScriptPart
 script_of error cargo = (cargo, no_scripts, option_map metadata_error_text error)
 
--- the project that cargo reads a file as, where there is metadata; its environment is the one that the printed configuration gives, and no variable is set behind it
-abbrev pub script_with : List ℕ → Option (List ℕ) → Limits → Means → Option (Metadata × Option Error) → Loading (Option ScriptPart)
+-- the project that cargo reads a file as, where there is metadata; its environment is the one that the
+-- printed configuration gives, and no variable is set behind it
+abbrev pub script_with : List ℕ → Option (List ℕ) → Limits → Means → Option (Metadata × Option Error)
+    → Loading (Option ScriptPart)
 script_with file printed limits means None = Ok None
 script_with file printed limits means (Some metadata) =
     of_reading (read_workspace metadata.0 file (config_env printed means) false limits) >>= λ cargo.
     Ok (Some (script_of metadata.1 cargo))
 
 -- a file as a kind of project, with what is fetched of it
-abbrev pub detached_kind : List ℕ → Option (List ℕ) → Limits → Means → Option (Metadata × Option Error) → Loading ProjectWorkspaceKind
-detached_kind file printed limits means metadata = script_with file printed limits means metadata >>= λ script. Ok (of.DetachedFile file script)
+abbrev pub detached_kind : List ℕ → Option (List ℕ) → Limits → Means → Option (Metadata × Option Error)
+    → Loading ProjectWorkspaceKind
+detached_kind file printed limits means metadata =
+    script_with file printed limits means metadata >>= λ script. Ok (of.DetachedFile file script)
 
 -- the project of a file, with what is fetched of it
-unfoldable pub detached_with : Toolchain → List ℕ → CargoConfig → ToolAnswers → Limits → Means → Option (Metadata × Option Error) → Loading ProjectWorkspace
+unfoldable pub detached_with : Toolchain → List ℕ → CargoConfig → ToolAnswers → Limits → Means
+    → Option (Metadata × Option Error) → Loading ProjectWorkspace
 detached_with sysroot file config answers limits means metadata =
     script_with file answers.config_file limits means metadata >>= λ script.
     Ok (project_of_workspace sysroot config answers (of.DetachedFile file script))
@@ -54,4 +62,5 @@ detached_with sysroot file config answers limits means metadata =
 unfoldable pub detached_project : Toolchain → List ℕ → CargoConfig → Limits → Means → Loading ProjectWorkspace
 detached_project sysroot file config limits means =
     let answers = tool_answers sysroot file NoTarget config means in
-    detached_with sysroot file config answers limits means (metadata_or_none (metadata_answer sysroot file config answers means))
+    detached_with sysroot file config answers limits means
+    (metadata_or_none (metadata_answer sysroot file config answers means))

@@ -1,4 +1,5 @@
--- Equality of projects except for what builds gave them. Each part is compared by the equality of its type. The rule is that of rust-analyzer's `ProjectWorkspace::eq_ignore_build_data`.
+-- Equality of projects except for what builds gave them. Each part is compared by the equality of its type.
+-- The rule is that of rust-analyzer's `ProjectWorkspace::eq_ignore_build_data`.
 use Rattle.std.specs.Prelude.{ℕ, Bool, ◌&&◌, false, true, List, bytes_eq, Option, Some, None, Result}
 use Rattle.std.specs.Cmp.Lexicographic.{pointwise}
 use Rattle.std.specs.Option.{option_eq}
@@ -22,16 +23,19 @@ use Rattle.pm_tools_ask.specs.contracts.sysroot.SysrootPartialEq.TheImpl as tool
 
 -- whether the crates of the compiler are equal with what their builds gave, or the reasons why there are none
 abbrev pub equal_rustc : RustcPart → RustcPart → Bool
-equal_rustc a b = result_eq (λ x y. workspaces.ghosts.eq x.0 y.0 && scripts.ghosts.eq x.1 y.1) (option_eq bytes_eq) a b
+equal_rustc a b =
+    result_eq (λ x y. workspaces.ghosts.eq x.0 y.0 && scripts.ghosts.eq x.1 y.1) (option_eq bytes_eq) a b
 
 -- whether two detached files are equal: one that cargo reads as no project is equal to none
 abbrev pub equal_scripts : List ℕ → List ℕ → Option ScriptPart → Option ScriptPart → Bool
-equal_scripts a b (Some script) (Some other_script) = path_eq a b && workspaces.ghosts.eq script.0 other_script.0
+equal_scripts a b (Some script) (Some other_script) =
+    path_eq a b && workspaces.ghosts.eq script.0 other_script.0
 equal_scripts a b script other_script = false
 
 -- whether two kinds of projects are equal, except for the builds and for why the light metadata stands in
 abbrev pub equal_kinds : ProjectWorkspaceKind → ProjectWorkspaceKind → Bool
-equal_kinds (Cargo a error scripts rustc) (Cargo b other_error other_scripts other_rustc) = workspaces.ghosts.eq a b && equal_rustc rustc other_rustc
+equal_kinds (Cargo a error scripts rustc) (Cargo b other_error other_scripts other_rustc) =
+    workspaces.ghosts.eq a b && equal_rustc rustc other_rustc
 equal_kinds (Json a) (Json b) = documents.ghosts.eq a b
 equal_kinds (DetachedFile a script) (DetachedFile b other_script) = equal_scripts a b script other_script
 equal_kinds a b = false
@@ -40,7 +44,8 @@ equal_kinds a b = false
 abbrev pub equal_targets : Result TargetData TargetLoadError → Result TargetData TargetLoadError → Bool
 equal_targets a b = result_eq machines.ghosts.eq errors.ghosts.eq a b
 
--- whether two projects are equal, except for builds, extra directories and whether crates are built for their tests
+-- whether two projects are equal, except for builds, extra directories and whether crates are built for their
+-- tests
 abbrev pub equal_except_builds : ProjectWorkspace → ProjectWorkspace → Bool
 equal_except_builds p q =
     equal_kinds p.kind q.kind

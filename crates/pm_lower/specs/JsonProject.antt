@@ -1,4 +1,5 @@
--- A JSON project as a load reads it: the project of the document, and what the compiler of its toolchain says in its directory. The order is that of rust-analyzer's `ProjectWorkspace::load`.
+-- A JSON project as a load reads it: the project of the document, and what the compiler of its toolchain says
+-- in its directory. The order is that of rust-analyzer's `ProjectWorkspace::load`.
 use Rattle.std.specs.Prelude.{ℕ, List, Ok}
 use Rattle.base_text_outside.specs.declared.limits.Limits.{Limits}
 use Rattle.pm_cargo_config.specs.declared.config.CargoConfig.{CargoConfig}
@@ -16,8 +17,10 @@ use Rattle.pm_tools_ask.specs.Ask.{Means}
 unfoldable pub inline_project : ProjectJson → CargoConfig → Means → ProjectWorkspace
 inline_project project config means =
     let sysroot = stated_sysroot project in
-    project_of_workspace sysroot config (compiler_answers sysroot (project_base project) config.target means) (of.Json project)
+    project_of_workspace sysroot config (compiler_answers sysroot (project_base project) config.target means)
+    (of.Json project)
 
 -- the project of a document's path
 unfoldable pub json_project : List ℕ → CargoConfig → Limits → Means → Loading ProjectWorkspace
-json_project path config limits means = json_content path limits means.files >>= λ project. Ok (inline_project project config means)
+json_project path config limits means =
+    json_content path limits means.files >>= λ project. Ok (inline_project project config means)

@@ -1,4 +1,5 @@
--- The lines by which loads and builds of projects say how far they have come. The texts are those of rust-analyzer's `ProjectWorkspace::load`.
+-- The lines by which loads and builds of projects say how far they have come. The texts are those of
+-- rust-analyzer's `ProjectWorkspace::load`.
 use Rattle.std.specs.Prelude.{ℕ, List, [], ◌∷◌, ◌++◌, codes, Option, Some, None, Ok, Err}
 use Rattle.std.specs.List.{flat_map}
 use Rattle.base_values.specs.Version.{Parts}
@@ -33,15 +34,18 @@ sysroot_line = codes "discovering sysroot"
 abbrev pub metadata_line : List ℕ
 metadata_line = codes "querying project metadata"
 
--- the lines behind the root that was located: none where there is none, else those of fetching its metadata, behind the second part
+-- the lines behind the root that was located: none where there is none, else those of fetching its metadata,
+-- behind the second part
 abbrev pub lines_of_root : Toolchain → CargoConfig → Means → Loading (List ℕ) → List (List ℕ)
 lines_of_root sysroot config means (Err error) = []
 lines_of_root sysroot config means (Ok manifest) =
-    metadata_line ∷ metadata_lines sysroot manifest config (tool_answers sysroot manifest FirstTarget config means) means
+    metadata_line
+    ∷ metadata_lines sysroot manifest config (tool_answers sysroot manifest FirstTarget config means) means
 
 -- the lines of a project of cargo: its root is located in the first part
 abbrev pub cargo_lines : Toolchain → List ℕ → CargoConfig → Means → List (List ℕ)
-cargo_lines sysroot manifest config means = sysroot_line ∷ lines_of_root sysroot config means (located_manifest sysroot manifest means)
+cargo_lines sysroot manifest config means =
+    sysroot_line ∷ lines_of_root sysroot config means (located_manifest sysroot manifest means)
 
 -- the lines of a document that was read: none where it is refused
 abbrev pub lines_of_document : Loading ProjectJson → List (List ℕ)
@@ -63,7 +67,8 @@ build_lines_for config sysroot version means (Some cargo) = build_lines config c
 
 -- the lines of a build of a project
 abbrev pub project_build_lines : CargoConfig → Means → ProjectWorkspace → List (List ℕ)
-project_build_lines config means p = build_lines_for config p.sysroot p.toolchain means (built_workspace p.kind)
+project_build_lines config means p =
+    build_lines_for config p.sysroot p.toolchain means (built_workspace p.kind)
 
 -- the lines of reading the output of a build for the workspace that it counts for, if there is one
 abbrev pub output_lines_for : Option Workspace → Output → List (List ℕ)
@@ -81,4 +86,5 @@ builds_lines_by projects config means None = flat_map (project_build_lines confi
 
 -- the lines of builds of some projects; a build of all is asked for in the directory
 abbrev pub all_build_lines : List ProjectWorkspace → CargoConfig → List ℕ → Means → List (List ℕ)
-all_build_lines projects config dir means = builds_lines_by projects config means (command_for_all config dir means config.invocation_strategy)
+all_build_lines projects config dir means =
+    builds_lines_by projects config means (command_for_all config dir means config.invocation_strategy)

@@ -13,14 +13,18 @@ use Rattle.pm_tools_ask.specs.Toolchain.{Toolchain}
 
 -- where both give a project, with everything else equal, the projects are equal
 abbrev pub IsLoadedAlike : Metadata → Metadata → Type 0
-IsLoadedAlike a b = (sysroot : Toolchain) (manifest : List ℕ) (config : CargoConfig) (answers : ToolAnswers) (limits : Limits) (means : Means)
+IsLoadedAlike a b =
+    (sysroot : Toolchain) (manifest : List ℕ) (config : CargoConfig) (answers : ToolAnswers) (limits : Limits)
+    (means : Means)
     (error : Option Error) (p q : ProjectWorkspace)
     → project_with sysroot manifest config answers limits means (a, error) ≡ Ok p
     → project_with sysroot manifest config answers limits means (b, error) ≡ Ok q → p ≡ q
 
 -- the same of the project that cargo reads a detached file as
 abbrev pub IsDetachedAlike : Metadata → Metadata → Type 0
-IsDetachedAlike a b = (sysroot : Toolchain) (file : List ℕ) (config : CargoConfig) (answers : ToolAnswers) (limits : Limits) (means : Means)
+IsDetachedAlike a b =
+    (sysroot : Toolchain) (file : List ℕ) (config : CargoConfig) (answers : ToolAnswers) (limits : Limits)
+    (means : Means)
     (error : Option Error) (p q : ProjectWorkspace)
     → detached_with sysroot file config answers limits means (Some (a, error)) ≡ Ok p
     → detached_with sysroot file config answers limits means (Some (b, error)) ≡ Ok q → p ≡ q

@@ -1,4 +1,6 @@
--- A Cargo project as a load reads it: which question is asked of what, and which refusal comes first. Each step is the definition of its own call in a lower crate. The order is that of rust-analyzer's `ProjectWorkspace::load`.
+-- A Cargo project as a load reads it: which question is asked of what, and which refusal comes first. Each
+-- step is the definition of its own call in a lower crate. The order is that of rust-analyzer's
+-- `ProjectWorkspace::load`.
 use Rattle.std.specs.Prelude.{ℕ, false, List, Option, None, Ok, Err}
 use Rattle.std.specs.Option.{option_map}
 use Rattle.base_text_outside.specs.declared.limits.Limits.{Limits}
@@ -26,13 +28,17 @@ abbrev pub kind_of_project : Option Error → Workspace → ProjectWorkspaceKind
 kind_of_project error cargo = of.Cargo cargo (option_map metadata_error_text error) no_scripts (Err None)
 
 -- the workspace of metadata, as a kind of project
-unfoldable pub kind_with : List ℕ → CargoConfig → ToolAnswers → Limits → Means → Metadata × Option Error → Loading ProjectWorkspaceKind
+unfoldable pub kind_with : List ℕ → CargoConfig → ToolAnswers → Limits → Means → Metadata × Option Error
+    → Loading ProjectWorkspaceKind
 kind_with manifest config answers limits means metadata =
-    of_reading (read_workspace metadata.0 manifest (environment answers.config_file config means) false limits) >>= λ cargo.
+    of_reading
+    (read_workspace metadata.0 manifest (environment answers.config_file config means) false limits)
+    >>= λ cargo.
     Ok (kind_of_project metadata.1 cargo)
 
 -- the project of a workspace
-abbrev pub project_of_workspace : Toolchain → CargoConfig → ToolAnswers → ProjectWorkspaceKind → ProjectWorkspace
+abbrev pub project_of_workspace : Toolchain → CargoConfig → ToolAnswers → ProjectWorkspaceKind
+    → ProjectWorkspace
 project_of_workspace sysroot config answers kind = record {
   kind = kind;
   sysroot = sysroot;
@@ -45,7 +51,8 @@ project_of_workspace sysroot config answers kind = record {
 }
 
 -- the project of metadata
-unfoldable pub project_with : Toolchain → List ℕ → CargoConfig → ToolAnswers → Limits → Means → Metadata × Option Error → Loading ProjectWorkspace
+unfoldable pub project_with : Toolchain → List ℕ → CargoConfig → ToolAnswers → Limits → Means
+    → Metadata × Option Error → Loading ProjectWorkspace
 project_with sysroot manifest config answers limits means metadata =
     kind_with manifest config answers limits means metadata >>= λ kind.
     Ok (project_of_workspace sysroot config answers kind)

@@ -1,4 +1,5 @@
--- What is asked of a project: its manifest, its root, how many packages it has, and which files other build systems build it by. The rules are those of rust-analyzer's `ProjectWorkspace`.
+-- What is asked of a project: its manifest, its root, how many packages it has, and which files other build
+-- systems build it by. The rules are those of rust-analyzer's `ProjectWorkspace`.
 use Rattle.std.specs.Prelude.{ℕ, ◌+◌, ◌-◌, ◌^◌, min, Bool, false, true, List, [], length, flat_map, Option, Some, None, Result, Ok, Err, unwrap_or}
 use Rattle.std.specs.Option.{option_map, option_to_list}
 use Rattle.base_text_paths.specs.Paths.{components_with_tail, path_text}
@@ -18,7 +19,8 @@ use Rattle.pm_tools_ask.specs.declared.rust_lib_src.RustLibSrcWorkspace.TheVaria
 abbrev pub RustcPart : Type 0
 RustcPart = Result (Workspace × BuildScripts) (Option (List ℕ))
 
--- the project that cargo reads a detached file as, with what its builds gave, and why the light metadata stands in for the full one, where it does
+-- the project that cargo reads a detached file as, with what its builds gave, and why the light metadata
+-- stands in for the full one, where it does
 abbrev pub ScriptPart : Type 0
 ScriptPart = Workspace × BuildScripts × Option (List ℕ)
 
@@ -34,7 +36,8 @@ kind_manifest (Cargo cargo error scripts rustc) = Some cargo.manifest_path
 kind_manifest (Json project) = document_path project
 kind_manifest (DetachedFile file script) = option_map (λ w. w.manifest_path) (script_workspace script)
 
--- the manifest of a kind of project, or what stands for it: the directory of a JSON project that no file describes, and a detached file itself
+-- the manifest of a kind of project, or what stands for it: the directory of a JSON project that no file
+-- describes, and a detached file itself
 abbrev pub kind_manifest_or_root : ProjectWorkspaceKind → List ℕ
 kind_manifest_or_root (Cargo cargo error scripts rustc) = cargo.manifest_path
 kind_manifest_or_root (Json project) = unwrap_or (document_path project) (project_base project)
@@ -91,7 +94,8 @@ package_count p = min (library_packages p.sysroot.workspace + kind_packages p.ki
 
 -- the file by which another build system builds a crate, if it does: its path is read on the root
 abbrev pub build_file_of : List ℕ → Crate → List (List ℕ)
-build_file_of root krate = option_to_list (option_map (λ build. path_text (components_with_tail root build.build_file)) krate.build)
+build_file_of root krate =
+    option_to_list (option_map (λ build. path_text (components_with_tail root build.build_file)) krate.build)
 
 -- those of the crates of a JSON project, in order
 abbrev pub json_buildfiles : ProjectJson → List (List ℕ)

@@ -1,4 +1,5 @@
--- The graph of a project's crates: the rule is the one of its kind. Sources of the standard library and of the compiler add no crates yet.
+-- The graph of a project's crates: the rule is the one of its kind. Sources of the standard library and of
+-- the compiler add no crates yet.
 use Rattle.std.specs.Prelude.{ℕ, List, Result, Ok, Err}
 use Rattle.crate_graph.specs.Graph.{Graph}
 use Rattle.crate_graph_values.specs.declared.workspace_data.CrateWorkspaceData.{CrateWorkspaceData}
@@ -22,17 +23,20 @@ abbrev pub shared_of : ProjectWorkspace → CrateWorkspaceData
 shared_of p = record { target = p.target; toolchain = p.toolchain }
 
 -- the crates of a kind of project, or why there are none
-abbrev pub kind_lowering : FileNumbers → ProjectWorkspaceKind → CrateWorkspaceData → ℕ → Result (List Crate) LowerError
+abbrev pub kind_lowering : FileNumbers → ProjectWorkspaceKind → CrateWorkspaceData → ℕ
+    → Result (List Crate) LowerError
 kind_lowering files (Cargo cargo error scripts rustc) shared limit = lowering files cargo shared limit
 kind_lowering files (Json project) shared limit = json.json_lowering files project shared limit
-kind_lowering files (DetachedFile file script) shared limit = detached.detached_lowering files file (script_workspace script) shared limit
+kind_lowering files (DetachedFile file script) shared limit =
+    detached.detached_lowering files file (script_workspace script) shared limit
 
 -- the crates of a project with these live files and at most so many crates, or why there are none
 abbrev pub project_lowering : FileNumbers → ℕ → ProjectWorkspace → Result (List Crate) LowerError
 project_lowering files limit p = kind_lowering files p.kind (shared_of p) limit
 
 -- a call gives the graph of these crates, with something beside it, or their refusal
-abbrev pub IsGraphOf : {Beside : Type 0} → ℕ → Result (Graph × Beside) LowerError → Result (List Crate) LowerError → Type 0
+abbrev pub IsGraphOf : {Beside : Type 0} → ℕ → Result (Graph × Beside) LowerError
+    → Result (List Crate) LowerError → Type 0
 IsGraphOf limit (Ok found) crates = HasCrates limit found.0 crates
 IsGraphOf limit (Err error) crates = Refuses error crates
 

@@ -1,4 +1,5 @@
--- The roots of a project: those of its packages, those of its toolchain's libraries, and those of the compiler's crates. The rules are those of rust-analyzer's `ProjectWorkspace::to_roots`.
+-- The roots of a project: those of its packages, those of its toolchain's libraries, and those of the
+-- compiler's crates. The rules are those of rust-analyzer's `ProjectWorkspace::to_roots`.
 use Rattle.std.specs.Prelude.{ℕ, false, IsErr, List, [], ◌∷◌, ◌++◌, Option, Some, None}
 use Rattle.std.specs.FinMap.{get}
 use Rattle.std.specs.Option.{option_and_then, option_to_list}
@@ -23,7 +24,8 @@ out_dir_at scripts number = option_and_then (λ output. output.out_dir) (get scr
 -- the roots of a detached file: its own, and then those of its project
 abbrev pub script_roots : List ℕ → Option ScriptPart → List (List ℕ) → List PackageRoot
 script_roots file None extra = detached.detached_roots file None (out_dir_at no_scripts) extra
-script_roots file (Some script) extra = detached.detached_roots file (Some script.0) (out_dir_at script.1) extra
+script_roots file (Some script) extra =
+    detached.detached_roots file (Some script.0) (out_dir_at script.1) extra
 
 -- the roots of a kind of project, with the extra directories
 abbrev pub kind_roots : ProjectWorkspaceKind → List (List ℕ) → List PackageRoot

@@ -1,4 +1,5 @@
--- What is known of a row's crate beside its root file and its dependencies. The rule is that of rust-analyzer's `add_target_crate_root`.
+-- What is known of a row's crate beside its root file and its dependencies. The rule is that of
+-- rust-analyzer's `add_target_crate_root`.
 use Rattle.std.specs.Prelude.{ℕ, List, [], Option, Some, None, if◌then◌else◌}
 use Rattle.semver.specs.Identifiers.{parts_text}
 use Rattle.base_text_outside.specs.declared.cfg.CfgAtom.{CfgAtom}
@@ -36,13 +37,15 @@ pub record Columns : Type 0 where
 abbrev pub lang_of : PackageData → LangCrateOrigin
 lang_of p = if p.is_local then lang_origin_of p.name else Dependency
 
--- outside a sysroot the crates of a local package are local, by its repository and its name, and those of any other a library's
+-- outside a sysroot the crates of a local package are local, by its repository and its name, and those of any
+-- other a library's
 unfoldable pub origin_of : Workspace → PackageData → CrateOrigin
 origin_of w p =
     if w.is_sysroot then Lang (lang_of p)
     else if p.is_local then Local p.repository (Some p.name) else Library p.repository p.name
 
--- the directory that a package's crates run in: of a member that of the workspace, and of any other package that of its manifest
+-- the directory that a package's crates run in: of a member that of the workspace, and of any other package
+-- that of its manifest
 unfoldable pub working_directory : Workspace → PackageData → List ℕ
 working_directory w p = if p.is_member then w.workspace_root else directory_of p.manifest
 

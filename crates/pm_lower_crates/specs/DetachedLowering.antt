@@ -1,5 +1,6 @@
--- The lowering of a detached file, which no manifest but its own describes: the file is a crate, unless Cargo reads it as a project; then
--- the crates are those of that project alone. The rule is that of rust-analyzer's `detached_file_to_crate_graph`.
+-- The lowering of a detached file, which no manifest but its own describes: the file is a crate, unless Cargo
+-- reads it as a project; then the crates are those of that project alone. The rule is that of rust-analyzer's
+-- `detached_file_to_crate_graph`.
 use Rattle.std.specs.Prelude.{ℕ, false, List, [], map, length, Option, None, Some, Result, Ok, Err, nat_lt, if◌then◌else◌}
 use Rattle.std.specs.Option.{option_map, option_to_list}
 use Rattle.base_text_outside.specs.declared.limits.Limit.TheVariants.{Crates}
@@ -57,8 +58,10 @@ within_limit limit crates = if nat_lt limit (length crates) then Err (TooMany Cr
 -- ---- with the project that Cargo reads it as
 
 -- the lowering of a file: that of its Cargo project alone, where it has one
-abbrev pub detached_lowering : FileNumbers → List ℕ → Option Workspace → CrateWorkspaceData → ℕ → Result (List cargo.Crate) LowerError
-detached_lowering files file None shared limit = within_limit limit (crates_of_file file shared (file_number files file))
+abbrev pub detached_lowering : FileNumbers → List ℕ → Option Workspace → CrateWorkspaceData → ℕ
+    → Result (List cargo.Crate) LowerError
+detached_lowering files file None shared limit =
+    within_limit limit (crates_of_file file shared (file_number files file))
 detached_lowering files file (Some w) shared limit = cargo.lowering files w shared limit
 
 -- the edges that its rows want: a file alone wants none

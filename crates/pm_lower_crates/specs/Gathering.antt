@@ -1,5 +1,5 @@
--- What code gathers on the way to a graph: rows as crates without dependencies, and edges without their ranks. The rules are those of
--- `Rows` and `WantedEdges`; no public clause names these.
+-- What code gathers on the way to a graph: rows as crates without dependencies, and edges without their
+-- ranks. The rules are those of `Rows` and `WantedEdges`; no public clause names these.
 use Rattle.std.specs.Prelude.{◌≡◌, ℕ, ◌+◌, ◌≤◌, Bool, true, false, List, [], ◌∷◌, ◌++◌, map, length, Option, slice_get}
 use Rattle.std.specs.List.{flat_map, range_with_len}
 use Rattle.std.specs.Option.{option_and_then, option_map, option_to_list}
@@ -29,13 +29,16 @@ AreFilesOf live w files = files ≡ map (files_of live w) w.packages
 
 -- a target with the file that its crate begins in, where there are both
 unfoldable pub found_target : Workspace → Option (Idx TargetTag) → Option ℕ → Option (TargetData × ℕ)
-found_target w id file = option_and_then (λ f. option_and_then (λ i. option_map (λ t. (t, f)) (slice_get w.targets (number_of i))) id) file
+found_target w id file =
+    option_and_then
+    (λ f. option_and_then (λ i. option_map (λ t. (t, f)) (slice_get w.targets (number_of i))) id) file
 
 -- the targets of a package from a place on that have a file, each with its place
 abbrev pub found_targets : Workspace → PackageData → ℕ → List (Option ℕ) → List (ℕ × TargetData × ℕ)
 found_targets w of place [] = []
 found_targets w of place (file ∷ files) =
-    option_to_list (option_map (λ t. (place, t.0, t.1)) (found_target w (slice_get of.targets place) file)) ++ found_targets w of (place + 1) files
+    option_to_list (option_map (λ t. (place, t.0, t.1)) (found_target w (slice_get of.targets place) file))
+    ++ found_targets w of (place + 1) files
 
 -- a package with its rows, numbered from n on, by the files that their crates begin in
 abbrev pub owner_by : Workspace → ℕ → PackageData → List (Option ℕ) → Owner
@@ -48,7 +51,8 @@ owners_by w n (p ∷ ps) [] = []
 owners_by w n (p ∷ ps) (f ∷ fs) = owner_by w n p f ∷ owners_by w (n + length (owner_by w n p f).rows) ps fs
 
 -- rows follow a graph's crates, with no dependencies, as far as its limit allows
-pub record AddsRows (w : Workspace) (shared : CrateWorkspaceData) (old new : Graph) (rows : List Row) : Type 0 where
+pub record AddsRows (w : Workspace) (shared : CrateWorkspaceData) (old new : Graph) (rows : List Row)
+    : Type 0 where
   pub limit : new.limit ≡ old.limit
   pub within : length old.crates ≤ old.limit → length new.crates ≤ old.limit
   pub crates : map crate_seen new.crates ≡ map crate_seen old.crates ++ map (crate_of_row w shared []) rows
@@ -61,7 +65,8 @@ to_own_library o = flat_map (to_library (library o.rows)) o.rows
 
 -- the edges of a package's rows to the library of a dependency's package
 abbrev pub to_dependency : Bool → List Owner → Owner → PackageDependency → List Edge
-to_dependency delayed owners from d = flat_map (to_owner delayed from d (slice_get owners (number_of d.pkg))) from.rows
+to_dependency delayed owners from d =
+    flat_map (to_owner delayed from d (slice_get owners (number_of d.pkg))) from.rows
 
 -- the edges of a package's dependencies, in their order
 unfoldable pub to_dependencies : Bool → List Owner → Owner → List Edge
@@ -69,7 +74,9 @@ to_dependencies delayed owners from = flat_map (to_dependency delayed owners fro
 
 -- all edges that are wanted between some packages
 abbrev pub edges_between : List Owner → List Edge
-edges_between owners = flat_map to_own_library owners ++ flat_map (to_dependencies false owners) owners ++ flat_map (to_dependencies true owners) owners
+edges_between owners =
+    flat_map to_own_library owners ++ flat_map (to_dependencies false owners) owners
+    ++ flat_map (to_dependencies true owners) owners
 
 -- each row's number is its place
 abbrev pub AreNumbered : List Row → Type 0

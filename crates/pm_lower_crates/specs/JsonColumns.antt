@@ -1,4 +1,5 @@
--- What is known of a row's crate beside its root file and its dependencies. The rule is that of rust-analyzer's `project_json_to_crate_graph`.
+-- What is known of a row's crate beside its root file and its dependencies. The rule is that of
+-- rust-analyzer's `project_json_to_crate_graph`.
 use Rattle.std.specs.Prelude.{ℕ, List, [], map, Option, Some, None}
 use Rattle.std.specs.Option.{unwrap_or}
 use Rattle.crate_graph.specs.Graph.{attribute}

@@ -1,5 +1,5 @@
--- What code gathers on the way to a graph: rows as crates without dependencies, and edges without their ranks. The rules are those of
--- `Rows` and `WantedEdges`; no public clause names these.
+-- What code gathers on the way to a graph: rows as crates without dependencies, and edges without their
+-- ranks. The rules are those of `Rows` and `WantedEdges`; no public clause names these.
 use Rattle.std.specs.Prelude.{◌≡◌, ◌≤◌, List, [], ◌++◌, map, length, Option}
 use Rattle.std.specs.List.{flat_map}
 use Rattle.crate_graph.specs.Graph.{Graph}
@@ -12,10 +12,12 @@ use Rattle.pm_lower_crates.specs.JsonRows.{JsonRow, rows_among}
 use Rattle.pm_lower_crates.specs.JsonWantedEdges.{to_row}
 
 -- rows follow a graph's crates, with no dependencies, as far as its limit allows
-pub record AddsJsonRows (project : ProjectJson) (shared : CrateWorkspaceData) (old new : Graph) (rows : List JsonRow) : Type 0 where
+pub record AddsJsonRows (project : ProjectJson) (shared : CrateWorkspaceData) (old new : Graph)
+    (rows : List JsonRow) : Type 0 where
   pub limit : new.limit ≡ old.limit
   pub within : length old.crates ≤ old.limit → length new.crates ≤ old.limit
-  pub crates : map crate_seen new.crates ≡ map crate_seen old.crates ++ map (json_crate_of_row project shared []) rows
+  pub crates :
+      map crate_seen new.crates ≡ map crate_seen old.crates ++ map (json_crate_of_row project shared []) rows
 
 -- the edges of a row to those of its crate's dependencies
 abbrev pub dependency_edges : List (Option JsonRow) → JsonRow → List Edge

@@ -1,6 +1,6 @@
--- The rows of a JSON project: the crates of its document that become crates of a graph, each where the file of its root module is live.
--- Rows are numbered through in the order of the document, and a row's number is that of its crate. The rule is that of rust-analyzer's
--- `project_json_to_crate_graph`.
+-- The rows of a JSON project: the crates of its document that become crates of a graph, each where the file
+-- of its root module is live. Rows are numbered through in the order of the document, and a row's number is
+-- that of its crate. The rule is that of rust-analyzer's `project_json_to_crate_graph`.
 use Rattle.std.specs.Prelude.{ℕ, ◌+◌, List, [], ◌∷◌, length, Option, slice_get}
 use Rattle.std.specs.List.{flat_map}
 use Rattle.std.specs.Option.{option_and_then, option_map, option_to_list}
@@ -29,7 +29,8 @@ json_row files n krate = option_map (row_in n krate) (file_number files krate.ro
 -- of each crate its row, if it has one, numbered from n on
 abbrev pub json_rows_from : FileNumbers → ℕ → List Crate → List (Option JsonRow)
 json_rows_from files n [] = []
-json_rows_from files n (c ∷ cs) = json_row files n c ∷ json_rows_from files (n + length (option_to_list (json_row files n c))) cs
+json_rows_from files n (c ∷ cs) =
+    json_row files n c ∷ json_rows_from files (n + length (option_to_list (json_row files n c))) cs
 
 -- of each crate of a project its row, if it has one, by the crate's place
 abbrev pub rows_by_place : FileNumbers → ProjectJson → List (Option JsonRow)
@@ -39,6 +40,7 @@ rows_by_place files project = json_rows_from files 0 (crates_in project)
 abbrev pub rows_among : List (Option JsonRow) → List JsonRow
 rows_among by_place = flat_map option_to_list by_place
 
--- the row of the crate at a place: there is none where the crate has none, and none where the document has no such crate
+-- the row of the crate at a place: there is none where the crate has none, and none where the document has no
+-- such crate
 abbrev pub json_row_at : List (Option JsonRow) → ℕ → Option JsonRow
 json_row_at by_place place = option_and_then (λ row. row) (slice_get by_place place)

@@ -1,4 +1,5 @@
--- What keeping edges makes of the crates of a graph: each has as its dependencies the edges that are kept of those wanted of it, by `KeptEdges`.
+-- What keeping edges makes of the crates of a graph: each has as its dependencies the edges that are kept of
+-- those wanted of it, by `KeptEdges`.
 use Rattle.std.specs.Prelude.{◌≡◌, ℕ, ◌+◌, List, [], ◌∷◌, length, map}
 use Rattle.crate_graph_values.specs.declared.builder.CrateBuilder.{CrateBuilder}
 use Rattle.pm_lower_crates.specs.KeptEdges.{AreKept, deps_of}

@@ -1,5 +1,5 @@
--- The edges that are kept of those wanted: in their order each, unless its target reaches its source over the edges kept before.
--- Each row reaches itself.
+-- The edges that are kept of those wanted: in their order each, unless its target reaches its source over the
+-- edges kept before. Each row reaches itself.
 use Rattle.std.specs.Prelude.{ℕ, ◌++◌, fold, if◌then◌else◌, List, [], ◌∷◌, map, filter, ◌==◌}
 use Rattle.graph_base.specs.EdgeList as graph
 use Rattle.graph_base.specs.Reach.{Reaches}
@@ -30,8 +30,10 @@ ClosesCycle count edges e = Reaches (graph.graph_of count (map ends edges)) e.de
 -- from the edges kept so far, over edges that come next, to the edges kept then
 pub data Keeps (count : ℕ) : List Edge → List Edge → List Edge → Type 0 where
   none : {kept : List Edge} → Keeps count kept [] kept
-  keeps : {kept more new : List Edge} {e : Edge} → (ClosesCycle count kept e → ⊥) → Keeps count (kept ++ e ∷ []) more new → Keeps count kept (e ∷ more) new
-  drops : {kept more new : List Edge} {e : Edge} → ClosesCycle count kept e → Keeps count kept more new → Keeps count kept (e ∷ more) new
+  keeps : {kept more new : List Edge} {e : Edge} → (ClosesCycle count kept e → ⊥)
+      → Keeps count (kept ++ e ∷ []) more new → Keeps count kept (e ∷ more) new
+  drops : {kept more new : List Edge} {e : Edge} → ClosesCycle count kept e → Keeps count kept more new
+      → Keeps count kept (e ∷ more) new
 
 -- the kept edges among those wanted
 abbrev pub AreKept : ℕ → List Edge → List Edge → Type 0

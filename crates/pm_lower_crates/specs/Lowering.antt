@@ -1,4 +1,5 @@
--- The lowering of a project: the crates of its graph, or why it has none. The rule is that of rust-analyzer's `ProjectWorkspace::to_crate_graph`.
+-- The lowering of a project: the crates of its graph, or why it has none. The rule is that of rust-analyzer's
+-- `ProjectWorkspace::to_crate_graph`.
 use Rattle.std.specs.Prelude.{◌≡◌, ◌↔◌, ℕ, List, map, length, Option, Some, None, Result, Ok, Err, nat_lt, slice_get, if◌then◌else◌}
 use Rattle.std.specs.List.{Contains, flat_map}
 use Rattle.base_text_outside.specs.declared.limits.Limit.TheVariants.{Crates}
@@ -30,7 +31,11 @@ pub record Crate : Type 0 where
 
 -- the crate of a row, which depends on others by the kept edges
 abbrev pub crate_of_row : Workspace → CrateWorkspaceData → List Edge → Row → Crate
-crate_of_row w shared kept row = record { root = row.file; columns = columns_of w shared row; deps = deps_of kept row.number }
+crate_of_row w shared kept row = record {
+  root = row.file;
+  columns = columns_of w shared row;
+  deps = deps_of kept row.number;
+}
 
 -- the crates of a part's rows
 abbrev pub crates_of_part : CrateWorkspaceData → List Edge → ProjectPart → List Crate
@@ -43,14 +48,16 @@ crates_of_rows shared parts = flat_map (crates_of_part shared (kept_edges (wante
 -- ---- lowering
 
 -- the first bad name refuses a project, and else it has its crates
-abbrev pub named_crates : CrateWorkspaceData → List ProjectPart → Option (List ℕ) → Result (List Crate) LowerError
+abbrev pub named_crates : CrateWorkspaceData → List ProjectPart → Option (List ℕ)
+    → Result (List Crate) LowerError
 named_crates shared parts (Some name) = Err (BadCrateName name)
 named_crates shared parts None = Ok (crates_of_rows shared parts)
 
 -- the crates of a project, unless it has more rows than the limit, or else a bad name
 abbrev pub lowered_parts : CrateWorkspaceData → ℕ → List ProjectPart → Result (List Crate) LowerError
 lowered_parts shared limit parts =
-    if nat_lt limit (length (rows_of_parts parts)) then Err (TooMany Crates) else named_crates shared parts (slice_get (bad_names parts) 0)
+    if nat_lt limit (length (rows_of_parts parts)) then Err (TooMany Crates)
+    else named_crates shared parts (slice_get (bad_names parts) 0)
 
 -- the lowering of a Cargo workspace
 unfoldable pub lowering : FileNumbers → Workspace → CrateWorkspaceData → ℕ → Result (List Crate) LowerError
@@ -64,7 +71,11 @@ dep_seen d = record { name = d.name; target = target_of d; prelude = prelude_of 
 
 -- the crate that a graph has
 abbrev pub crate_seen : CrateBuilder → Crate
-crate_seen krate = record { root = krate.basic.root_file_id; columns = columns_seen krate; deps = map dep_seen krate.basic.dependencies }
+crate_seen krate = record {
+  root = krate.basic.root_file_id;
+  columns = columns_seen krate;
+  deps = map dep_seen krate.basic.dependencies;
+}
 
 -- the graph has these crates and no others, in order, and the limit
 pub record HasCrates (limit : ℕ) (graph : Graph) (crates : Result (List Crate) LowerError) : Type 0 where
@@ -86,4 +97,5 @@ pub record HasDep (crates : List CrateBuilder) (e : Edge) : Type 0 where
 
 -- a wanted edge is a dependency exactly where its target does not reach its source
 abbrev pub LacksCyclesAlone : List Edge → List CrateBuilder → Type 0
-LacksCyclesAlone wanted crates = (e : Edge) → Contains wanted e → HasDep crates e ↔ (Reaches (edges crates) e.dep.target e.source → ⊥)
+LacksCyclesAlone wanted crates =
+    (e : Edge) → Contains wanted e → HasDep crates e ↔ (Reaches (edges crates) e.dep.target e.source → ⊥)

@@ -1,6 +1,7 @@
--- The rows of a project: the targets that become crates. A row is known by its part of the project, by the place of its package
--- there and by the place of its target among those of the package. Rows are numbered through in that order, and a row's number is
--- that of its crate. The rule is that of rust-analyzer's `cargo_to_crate_graph`.
+-- The rows of a project: the targets that become crates. A row is known by its part of the project, by the
+-- place of its package there and by the place of its target among those of the package. Rows are numbered
+-- through in that order, and a row's number is that of its crate. The rule is that of rust-analyzer's
+-- `cargo_to_crate_graph`.
 use Rattle.std.specs.Prelude.{ℕ, ◌+◌, Bool, true, false, not, ◌&&◌, ◌||◌, List, [], ◌∷◌, length, filter, Option, None, if◌then◌else◌, slice_get}
 use Rattle.std.specs.List.{enumerate_from, flat_map, last_or}
 use Rattle.std.specs.Option.{option_and_then, option_map, option_to_list}
@@ -65,15 +66,19 @@ root_file files w of target = if may_be_row w of target then file_number files t
 
 -- a target with the file that its crate begins in
 unfoldable pub live_target : FileNumbers → Workspace → PackageData → Idx TargetTag → Option (TargetData × ℕ)
-live_target files w of id = option_and_then (λ target. option_map (λ file. (target, file)) (root_file files w of target)) (slice_get w.targets (number_of id))
+live_target files w of id =
+    option_and_then (λ target. option_map (λ file. (target, file)) (root_file files w of target))
+    (slice_get w.targets (number_of id))
 
 -- the row of a target at a place, under a number
 abbrev pub row_at : PackageData → ℕ × TargetData × ℕ → ℕ → Row
 row_at of t n = record { number = n; of = of; place = t.0; target = t.1; file = t.2 }
 
 -- the targets of a package that have a row, each with its place and its file
-unfoldable pub live_targets : FileNumbers → Workspace → PackageData → List (ℕ × Idx TargetTag) → List (ℕ × TargetData × ℕ)
-live_targets files w of ids = flat_map (λ id. option_to_list (option_map (λ t. (id.0, t.0, t.1)) (live_target files w of id.1))) ids
+unfoldable pub live_targets : FileNumbers → Workspace → PackageData → List (ℕ × Idx TargetTag)
+    → List (ℕ × TargetData × ℕ)
+live_targets files w of ids =
+    flat_map (λ id. option_to_list (option_map (λ t. (id.0, t.0, t.1)) (live_target files w of id.1))) ids
 
 -- the rows of some targets, numbered from n on
 abbrev pub rows_from : PackageData → ℕ → List (ℕ × TargetData × ℕ) → List Row
@@ -82,12 +87,16 @@ rows_from of n (t ∷ ts) = row_at of t n ∷ rows_from of (n + 1) ts
 
 -- a package with its rows, numbered from n on
 unfoldable pub owner : FileNumbers → Workspace → ℕ → PackageData → Owner
-owner files w n of = record { of = of; rows = rows_from of n (live_targets files w of (enumerate_from 0 of.targets)) }
+owner files w n of = record {
+  of = of;
+  rows = rows_from of n (live_targets files w of (enumerate_from 0 of.targets));
+}
 
 -- packages with their rows, numbered from n on
 abbrev pub owners_from : FileNumbers → Workspace → ℕ → List PackageData → List Owner
 owners_from files w n [] = []
-owners_from files w n (p ∷ ps) = owner files w n p ∷ owners_from files w (n + length (owner files w n p).rows) ps
+owners_from files w n (p ∷ ps) =
+    owner files w n p ∷ owners_from files w (n + length (owner files w n p).rows) ps
 
 -- the rows of some packages
 abbrev pub rows_of : List Owner → List Row
@@ -103,7 +112,8 @@ library_at owners place = option_and_then (λ o. library o.rows) (slice_get owne
 
 -- ---- parts
 
--- a part of a project, by its number: 0 for a sysroot, 1 for the project itself. A Cargo workspace is one, with its packages and their rows
+-- a part of a project, by its number: 0 for a sysroot, 1 for the project itself. A Cargo workspace is one,
+-- with its packages and their rows
 pub data ProjectPart : Type 0 where
   cargo : ℕ → Workspace → List Owner → ProjectPart
 

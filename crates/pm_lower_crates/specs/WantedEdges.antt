@@ -1,5 +1,6 @@
--- The edges that rows want to other rows, each behind its rank. Ranks are lists of numbers and compared as such: the edges stand in
--- ascending order, and no two have one rank. The rule is that of rust-analyzer's `cargo_to_crate_graph`.
+-- The edges that rows want to other rows, each behind its rank. Ranks are lists of numbers and compared as
+-- such: the edges stand in ascending order, and no two have one rank. The rule is that of rust-analyzer's
+-- `cargo_to_crate_graph`.
 use Rattle.std.specs.Prelude.{ℕ, ◌+◌, Bool, true, false, not, ◌&&◌, List, [], ◌∷◌, ◌++◌, map, length, Option, Some, None, ◌==◌, slice_get, is_some, if◌then◌else◌}
 use Rattle.std.specs.List.{flat_map}
 use Rattle.base_text_paths.specs.Arena.{number_of}
@@ -11,8 +12,8 @@ use Rattle.pm_lower_crates.specs.Rows.{Owner, ProjectPart, Row, cargo, is_build_
 
 -- ---- edges
 
--- a dependency on the row of a number: the name under which code knows it, whether code names it with no `extern crate`, and whether
--- it comes with the language
+-- a dependency on the row of a number: the name under which code knows it, whether code names it with no
+-- `extern crate`, and whether it comes with the language
 pub record Dep : Type 0 where
   pub name : List ℕ
   pub target : ℕ
@@ -31,7 +32,10 @@ pub record RankedEdge : Type 0 where
 
 -- the edge between two rows of a project's own: it is prelude and does not come with the language
 abbrev pub edge : Row → List ℕ → Row → Edge
-edge from name to = record { source = from.number; dep = record { name = name; target = to.number; prelude = true; sysroot = false } }
+edge from name to = record {
+  source = from.number;
+  dep = record { name = name; target = to.number; prelude = true; sysroot = false };
+}
 
 -- ---- kinds of dependencies
 
@@ -61,13 +65,16 @@ uses_library lib row = not (row.place == lib.place) && not (is_build_script row.
 -- the edge of a row to its package's library, which is named by its target with an underscore for each dash
 abbrev pub to_library : Option Row → Row → List Edge
 to_library None row = []
-to_library (Some lib) row = if uses_library lib row then edge row (with_underscores lib.target.name) lib ∷ [] else []
+to_library (Some lib) row =
+    if uses_library lib row then edge row (with_underscores lib.target.name) lib ∷ [] else []
 
 -- ---- to the libraries of other packages
 
--- an edge is delayed where its dependency is a development one, the row a library, and both packages are members
+-- an edge is delayed where its dependency is a development one, the row a library, and both packages are
+-- members
 abbrev pub is_delayed : Owner → PackageDependency → Owner → Row → Bool
-is_delayed from dependency to row = is_dev dependency.kind && is_lib row.target.kind && from.of.is_member && to.of.is_member
+is_delayed from dependency to row =
+    is_dev dependency.kind && is_lib row.target.kind && from.of.is_member && to.of.is_member
 
 -- a row asks for a dependency where being a build script is the same as the dependency's being a build one
 abbrev pub is_for : PackageDependency → Row → Bool
@@ -76,7 +83,9 @@ is_for dependency row = agree (is_build_script row.target.kind) (is_build depend
 -- the edge of a row to the library of a dependency's package: a delayed one, or one that is not
 abbrev pub to_lib : Bool → Owner → PackageDependency → Owner → Row → Row → List Edge
 to_lib delayed from dependency to lib row =
-    if is_for dependency row && agree delayed (is_delayed from dependency to row) then edge row dependency.name lib ∷ [] else []
+    if is_for dependency row
+    && agree delayed (is_delayed from dependency to row) then edge row dependency.name lib ∷ []
+    else []
 
 -- the same where the package has a library, and else no edge
 abbrev pub to_package : Bool → Owner → PackageDependency → Owner → Option Row → Row → List Edge
@@ -105,12 +114,17 @@ last = 0
 
 -- (q, 1, p, 1, t, last): row (p, t) of part q to its package's library
 unfoldable pub first_edges : ℕ → ℕ → Owner → List RankedEdge
-first_edges q p o = flat_map (λ row. with_rank (q ∷ 1 ∷ p ∷ 1 ∷ row.place ∷ last ∷ []) (to_library (library o.rows) row)) o.rows
+first_edges q p o =
+    flat_map (λ row. with_rank (q ∷ 1 ∷ p ∷ 1 ∷ row.place ∷ last ∷ []) (to_library (library o.rows) row))
+    o.rows
 
 -- (q, step, p, d, t): row (p, t) of part q to the library of dependency d's package
 unfoldable pub later_edges : ℕ → ℕ → Bool → List Owner → ℕ → Owner → List RankedEdge
 later_edges q step delayed owners p o =
-    by_place (λ d dep. flat_map (λ row. with_rank (q ∷ step ∷ p ∷ d ∷ row.place ∷ []) (to_owner delayed o dep (slice_get owners (number_of dep.pkg)) row)) o.rows) 0 o.of.dependencies
+    by_place
+    (λ d dep. flat_map (λ row. with_rank (q ∷ step ∷ p ∷ d ∷ row.place
+    ∷ []) (to_owner delayed o dep (slice_get owners (number_of dep.pkg)) row)) o.rows)
+    0 o.of.dependencies
 
 -- all that the rows of a part want
 abbrev pub wanted_of_part : ProjectPart → List RankedEdge
@@ -129,9 +143,11 @@ wanted_edges parts = map (λ r. r.edge) (ranked_edges parts)
 
 -- ---- names
 
--- a dependency is badly named where its name holds a dash, its package has a library, and the package that depends on it has a row
+-- a dependency is badly named where its name holds a dash, its package has a library, and the package that
+-- depends on it has a row
 abbrev pub is_badly_named : List Owner → Owner → PackageDependency → Bool
-is_badly_named owners from d = not (length from.rows == 0) && is_some (library_at owners (number_of d.pkg)) && has_dash d.name
+is_badly_named owners from d =
+    not (length from.rows == 0) && is_some (library_at owners (number_of d.pkg)) && has_dash d.name
 
 -- the name of a dependency that is badly named
 abbrev pub bad_name_of : List Owner → Owner → PackageDependency → List (List ℕ)

@@ -1,4 +1,5 @@
--- What the compiler of a toolchain says in a directory, where no manifest of cargo is asked by: the questions and the answers are those of rust-analyzer's `toolchain_info` for a compiler alone.
+-- What the compiler of a toolchain says in a directory, where no manifest of cargo is asked by: the questions
+-- and the answers are those of rust-analyzer's `toolchain_info` for a compiler alone.
 use Rattle.std.specs.Prelude.{ℕ, List, [], ◌∷◌, codes, slice_get, Option, None, Result, Ok}
 use Rattle.std.specs.Option.{ok_or, option_map}
 use Rattle.base_text_outside.specs.declared.cfg.CfgAtom.{CfgAtom}
@@ -21,11 +22,14 @@ use Rattle.pm_tools_info.specs.declared.query_error.QueryError.TheVariants.{BadS
 
 -- the compiler's answer to these words, or the line of the question
 abbrev pub compiler_answer : Toolchain → List ℕ → List (List ℕ) → Means → Result (List ℕ) QueryError
-compiler_answer sysroot dir words means = answer_to means.answers (one_question (question sysroot Rustc dir words means))
+compiler_answer sysroot dir words means =
+    answer_to means.answers (one_question (question sysroot Rustc dir words means))
 
 -- the platform that it runs on
 abbrev pub compiler_host : Toolchain → List ℕ → Means → Result (List ℕ) QueryError
-compiler_host sysroot dir means = reading_of_answer (λ text. ok_or (host_of text) NoHost) (compiler_answer sysroot dir (codes "-vV" ∷ []) means)
+compiler_host sysroot dir means =
+    reading_of_answer (λ text. ok_or (host_of text) NoHost)
+    (compiler_answer sysroot dir (codes "-vV" ∷ []) means)
 
 -- the platforms that are built for: the given one, or else that one
 abbrev pub compiler_targets : Toolchain → List ℕ → Option (List ℕ) → Means → Result (List (List ℕ)) QueryError
@@ -34,11 +38,13 @@ compiler_targets sysroot dir target means = unless_given target (one_target (com
 -- its version, where its answer has one
 abbrev pub compiler_version : Toolchain → List ℕ → Means → Result (Option Parts) QueryError
 compiler_version sysroot dir means =
-    reading_of_answer (λ text. Ok (version_behind (codes "rustc ") text)) (compiler_answer sysroot dir (codes "--version" ∷ []) means)
+    reading_of_answer (λ text. Ok (version_behind (codes "rustc ") text))
+    (compiler_answer sysroot dir (codes "--version" ∷ []) means)
 
 -- the atoms that hold for a platform
 abbrev pub compiler_cfgs : Toolchain → List ℕ → Option (List ℕ) → Means → List CfgAtom
-compiler_cfgs sysroot dir target means = atoms_of_answer (compiler_answer sysroot dir (rustc_cfg_words target) means)
+compiler_cfgs sysroot dir target means =
+    atoms_of_answer (compiler_answer sysroot dir (rustc_cfg_words target) means)
 
 -- the machine of a platform, by a question that a stable compiler answers too
 abbrev pub compiler_machine : Toolchain → List ℕ → Option (List ℕ) → Means → Result TargetData QueryError
@@ -58,8 +64,10 @@ compiler_with sysroot dir means targets platform = record {
 
 -- what it says of the first of these platforms
 abbrev pub compiler_with_targets : Toolchain → List ℕ → Means → List (List ℕ) → ToolAnswers
-compiler_with_targets sysroot dir means targets = compiler_with sysroot dir means targets (slice_get targets 0)
+compiler_with_targets sysroot dir means targets =
+    compiler_with sysroot dir means targets (slice_get targets 0)
 
 -- what the compiler of a toolchain says in a directory, of the given platform or of its own
 unfoldable pub compiler_answers : Toolchain → List ℕ → Option (List ℕ) → Means → ToolAnswers
-compiler_answers sysroot dir target means = compiler_with_targets sysroot dir means (targets_or_none (compiler_targets sysroot dir target means))
+compiler_answers sysroot dir target means =
+    compiler_with_targets sysroot dir means (targets_or_none (compiler_targets sysroot dir target means))

@@ -1,4 +1,5 @@
--- The document of a JSON project as a load reads it: the file at the path, the document in it, and the crates of the document. The order is that of rust-analyzer's `ProjectWorkspace::load`.
+-- The document of a JSON project as a load reads it: the file at the path, the document in it, and the crates
+-- of the document. The order is that of rust-analyzer's `ProjectWorkspace::load`.
 use Rattle.std.specs.Prelude.{ℕ, List, codes, if◌then◌else◌, Option, Some, None, Ok, Err}
 use Rattle.std.specs.Option.{is_some}
 use Rattle.json_fields.specs.Document.{document}
@@ -45,14 +46,17 @@ abbrev pub without_toolchain : {T : Type 0} → Option (List ℕ) → T → Load
 without_toolchain None x = Ok x
 without_toolchain (Some member) x = Err (Json member)
 
--- the project of a document at a path: what it states is read on the directory of the path, and a toolchain is refused last
+-- the project of a document at a path: what it states is read on the directory of the path, and a toolchain
+-- is refused last
 unfoldable pub project_of_document : List ℕ → ℕ → ProjectJsonData → Loading ProjectJson
 project_of_document path limit stated =
-    of_json_reading (json.project_of limit stated (Some path) (directory_of path)) >>= λ project. without_toolchain (toolchain_member stated) project
+    of_json_reading (json.project_of limit stated (Some path) (directory_of path))
+    >>= λ project. without_toolchain (toolchain_member stated) project
 
 -- the project at a path
 unfoldable pub json_content : List ℕ → Limits → TreeFiles → Loading ProjectJson
-json_content path limits files = document_at files path >>= λ stated. project_of_document path limits.crates stated
+json_content path limits files =
+    document_at files path >>= λ stated. project_of_document path limits.crates stated
 
 -- the toolchain that a project states
 abbrev pub stated_sysroot : ProjectJson → Toolchain

@@ -1,4 +1,5 @@
--- What a load gives: a project, or the first refusal in the order of its questions; and what is printed of a refusal.
+-- What a load gives: a project, or the first refusal in the order of its questions; and what is printed of a
+-- refusal.
 use Rattle.std.specs.Prelude.{◌≡◌, ℕ, List, codes, Result, Ok, Err}
 use Rattle.cargo_meta_values.specs.declared.errors.Error as metadata
 use Rattle.cargo_meta_values.specs.declared.errors.Error.TheVariants as unread

@@ -1,4 +1,5 @@
--- The manifest of a workspace's root, as cargo locates it for the manifest that a load begins with. The table is that of `cargo locate-project`.
+-- The manifest of a workspace's root, as cargo locates it for the manifest that a load begins with. The table
+-- is that of `cargo locate-project`.
 use Rattle.std.specs.Prelude.{ℕ, List, [], ◌∷◌, codes, Option, Some, None, Ok, Err}
 use Rattle.std.specs.Option.{option_and_then}
 use Rattle.serde_json.specs.Data.{Data}
@@ -43,9 +44,11 @@ locate_question sysroot manifest means =
 
 -- the root that cargo locates, if it does
 unfoldable pub located_root : Toolchain → List ℕ → Means → Option (List ℕ)
-located_root sysroot manifest means = option_and_then root_named (serving_answer means.answers (locate_question sysroot manifest means))
+located_root sysroot manifest means =
+    option_and_then root_named (serving_answer means.answers (locate_question sysroot manifest means))
 
--- the manifest in place of the one that a load begins with: the root that was located, which must be absolute and lie in a directory
+-- the manifest in place of the one that a load begins with: the root that was located, which must be absolute
+-- and lie in a directory
 abbrev pub manifest_or_located : List ℕ → Option (List ℕ) → Loading (List ℕ)
 manifest_or_located manifest None = Ok manifest
 manifest_or_located manifest (Some root) = of_reading (absolute_manifest root)

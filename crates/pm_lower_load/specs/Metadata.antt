@@ -1,4 +1,5 @@
--- The metadata of a workspace as a load fetches it, and the environment of the workspace. The rules are those of rust-analyzer's `ProjectWorkspace::load`.
+-- The metadata of a workspace as a load fetches it, and the environment of the workspace. The rules are those
+-- of rust-analyzer's `ProjectWorkspace::load`.
 use Rattle.std.specs.Prelude.{ℕ, Bool, false, List, codes, fold, Option}
 use Rattle.base_text_outside.specs.declared.command.Output.{Output}
 use Rattle.base_text_outside.specs.declared.command.Question.{Question}
@@ -28,22 +29,32 @@ metadata_config config answers = record {
   toolchain_version = answers.toolchain;
 }
 
--- the metadata of the manifest's workspace, asked for in the manifest's directory by this command; the lockfile may change
-abbrev pub fetched_as : List ℕ → CargoMetadataConfig → ToolRoot → Bool → List (Question × Output) → FetchAnswer
-fetched_as manifest asked root no_deps answers = fetch_answer (fetch_of manifest (directory_of manifest) asked root no_deps answers) false answers
+-- the metadata of the manifest's workspace, asked for in the manifest's directory by this command; the
+-- lockfile may change
+abbrev pub fetched_as : List ℕ → CargoMetadataConfig → ToolRoot → Bool → List (Question × Output)
+    → FetchAnswer
+fetched_as manifest asked root no_deps answers =
+    fetch_answer (fetch_of manifest (directory_of manifest) asked root no_deps answers) false answers
 
 -- the lines while it is fetched so
-abbrev pub fetched_lines : List ℕ → CargoMetadataConfig → ToolRoot → Bool → List (Question × Output) → List (List ℕ)
-fetched_lines manifest asked root no_deps answers = fetch_lines (fetch_of manifest (directory_of manifest) asked root no_deps answers) false answers
+abbrev pub fetched_lines : List ℕ → CargoMetadataConfig → ToolRoot → Bool → List (Question × Output)
+    → List (List ℕ)
+fetched_lines manifest asked root no_deps answers =
+    fetch_lines (fetch_of manifest (directory_of manifest) asked root no_deps answers) false answers
 
 -- the metadata of the manifest's workspace
 unfoldable pub metadata_answer : Toolchain → List ℕ → CargoConfig → ToolAnswers → Means → FetchAnswer
-metadata_answer sysroot manifest config answers means = fetched_as manifest (metadata_config config answers) (tool_root sysroot means) config.no_deps means.answers
+metadata_answer sysroot manifest config answers means =
+    fetched_as manifest (metadata_config config answers) (tool_root sysroot means) config.no_deps
+    means.answers
 
 -- the lines while it is fetched
 unfoldable pub metadata_lines : Toolchain → List ℕ → CargoConfig → ToolAnswers → Means → List (List ℕ)
-metadata_lines sysroot manifest config answers means = fetched_lines manifest (metadata_config config answers) (tool_root sysroot means) config.no_deps means.answers
+metadata_lines sysroot manifest config answers means =
+    fetched_lines manifest (metadata_config config answers) (tool_root sysroot means) config.no_deps
+    means.answers
 
 -- the environment of the workspace: that of the printed configuration, and then what is configured
 unfoldable pub environment : Option (List ℕ) → CargoConfig → Means → Environment
-environment file config means = fold (λ env variable. with_variable variable.0 variable.1 env) (config_env file means) config.extra_env
+environment file config means =
+    fold (λ env variable. with_variable variable.0 variable.1 env) (config_env file means) config.extra_env

@@ -1,4 +1,5 @@
--- The roots of a Cargo workspace, one for each package: which directories its files are read from, and which are left out. The rules are those of rust-analyzer's `ProjectWorkspace::to_roots`.
+-- The roots of a Cargo workspace, one for each package: which directories its files are read from, and which
+-- are left out. The rules are those of rust-analyzer's `ProjectWorkspace::to_roots`.
 use Rattle.std.specs.Prelude.{ℕ, Bool, not, if◌then◌else◌, List, [], ◌∷◌, ◌++◌, map, filter, flat_map, slice_get, codes, Option}
 use Rattle.std.specs.List.{dedup, enumerate_from}
 use Rattle.std.specs.Option.{option_map, option_map_or, option_to_list}
@@ -35,24 +36,27 @@ outside_directory dir file = filter (is_outside dir) (option_to_list (normal_par
 
 -- such a directory of a target's root, by the directory of the target's package
 abbrev pub target_directory : Workspace → PackageData → Idx TargetTag → List (List ℕ)
-target_directory w p id = option_map_or (λ t. outside_directory (directory_of p.manifest) t.root) (slice_get w.targets (number_of id)) []
+target_directory w p id =
+    option_map_or (λ t. outside_directory (directory_of p.manifest) t.root)
+    (slice_get w.targets (number_of id)) []
 
 -- the directories of the roots of a package's targets that are outside of the package's directory
 abbrev pub outside_directories : Workspace → PackageData → List (List ℕ)
 outside_directories w p = flat_map (target_directory w p) p.targets
 
--- the directories that the files of a package are read from, in no order: its own, the one that its build wrote into, those of targets
--- outside, and for a local package the extra ones
+-- the directories that the files of a package are read from, in no order: its own, the one that its build
+-- wrote into, those of targets outside, and for a local package the extra ones
 abbrev pub read_directories : Workspace → Option (List ℕ) → List (List ℕ) → PackageData → List (List ℕ)
 read_directories w out_dir extra p =
-    directory_of p.manifest ∷ option_to_list out_dir ++ outside_directories w p ++ (if p.is_local then extra else [])
+    directory_of p.manifest ∷ option_to_list out_dir ++ outside_directories w p
+    ++ (if p.is_local then extra else [])
 
 -- paths in their order, each once
 abbrev pub ascending_paths : List (List ℕ) → List (List ℕ)
 ascending_paths paths = dedup path_eq (sorted path_cmp paths)
 
--- the names of the directories of a package that are left out: git's, that of the builds of a local package, and those of targets that are
--- only read of members
+-- the names of the directories of a package that are left out: git's, that of the builds of a local package,
+-- and those of targets that are only read of members
 abbrev pub excluded_names : PackageData → List (List ℕ)
 excluded_names p =
     codes ".git" ∷ []
@@ -69,6 +73,7 @@ package_root w out_dir extra p = record {
   exclude = map (directory_below (directory_of p.manifest)) (excluded_names p);
 }
 
--- the roots of the packages in their order; what a package's build wrote into is known by the package's number
+-- the roots of the packages in their order; what a package's build wrote into is known by the package's
+-- number
 abbrev pub roots_of : Workspace → (ℕ → Option (List ℕ)) → List (List ℕ) → List PackageRoot
 roots_of w out_dir extra = map (λ p. package_root w (out_dir p.0) extra p.1) (enumerate_from 0 w.packages)

@@ -1,4 +1,5 @@
--- What the tools of a toolchain say of a project before its metadata is fetched. Each answer is the definition of its own call in a lower crate. The order is that of rust-analyzer's `ProjectWorkspace::load`.
+-- What the tools of a toolchain say of a project before its metadata is fetched. Each answer is the
+-- definition of its own call in a lower crate. The order is that of rust-analyzer's `ProjectWorkspace::load`.
 use Rattle.std.specs.Prelude.{ℕ, List, [], ◌++◌, codes, slice_get, Option, None, Result, Ok, Err}
 use Rattle.std.specs.Borrow.{Bor}
 use Rattle.std.specs.Option.{option_map}
@@ -52,7 +53,8 @@ platform_asked FirstTarget targets = slice_get targets 0
 platform_asked NoTarget targets = None
 
 -- what the tools say of a platform, with the other answers so far
-abbrev pub with_platform : QueryConfig → Option (List ℕ) → List (List ℕ) → Option Parts → Option (List ℕ) → Means → ToolAnswers
+abbrev pub with_platform : QueryConfig → Option (List ℕ) → List (List ℕ) → Option Parts → Option (List ℕ)
+    → Means → ToolAnswers
 with_platform query file targets version platform means = record {
   config_file = file;
   targets = targets;
@@ -62,16 +64,21 @@ with_platform query file targets version platform means = record {
 }
 
 -- the same, where the platform is one of those that are built for, or none is named
-abbrev pub with_targets : PlatformAsked → QueryConfig → Option (List ℕ) → List (List ℕ) → Option Parts → Means → ToolAnswers
-with_targets platform query file targets version means = with_platform query file targets version (platform_asked platform targets) means
+abbrev pub with_targets : PlatformAsked → QueryConfig → Option (List ℕ) → List (List ℕ) → Option Parts → Means
+    → ToolAnswers
+with_targets platform query file targets version means =
+    with_platform query file targets version (platform_asked platform targets) means
 
 -- what the tools say of the project of a manifest, with this printed configuration
-abbrev pub answers_with : Toolchain → List ℕ → PlatformAsked → CargoConfig → Means → Option (List ℕ) → ToolAnswers
+abbrev pub answers_with : Toolchain → List ℕ → PlatformAsked → CargoConfig → Means → Option (List ℕ)
+    → ToolAnswers
 answers_with sysroot manifest platform config means file =
     let query = query_of sysroot manifest file in
-    with_targets platform query file (targets_or_none (target_answer query config.target means)) (version_or_none (version_answer query means)) means
+    with_targets platform query file (targets_or_none (target_answer query config.target means))
+    (version_or_none (version_answer query means)) means
 
 -- what the tools say of the project of a manifest
 unfoldable pub tool_answers : Toolchain → List ℕ → PlatformAsked → CargoConfig → Means → ToolAnswers
 tool_answers sysroot manifest platform config means =
-    answers_with sysroot manifest platform config means (printed_config manifest sysroot config.config_path means)
+    answers_with sysroot manifest platform config means
+    (printed_config manifest sysroot config.config_path means)

@@ -14,7 +14,8 @@ use Rattle.pm_tools.specs.declared.output.ProcMacroDylibPath.TheVariants.{Path, 
 
 -- the path of a text, which must be absolute; it is kept clean
 unfoldable pub absolute_output_path : List ℕ → Reading (List ℕ)
-absolute_output_path text = if is_absolute text then Ok (path_text (components text)) else Err (NotAbsolute text)
+absolute_output_path text =
+    if is_absolute text then Ok (path_text (components text)) else Err (NotAbsolute text)
 
 -- whether a kind is that of a procedural macro
 abbrev pub is_macro_kind : TargetKind → Bool
@@ -58,4 +59,5 @@ dylib_after a path = if gives_library a path then library_among a.filenames else
 
 -- the output after an artifact
 abbrev pub output_after_artifact : Artifact → BuildScriptOutput → Reading BuildScriptOutput
-output_after_artifact a output = dylib_after a output.proc_macro_dylib_path >>= λ path. Ok (record output { proc_macro_dylib_path = path })
+output_after_artifact a output =
+    dylib_after a output.proc_macro_dylib_path >>= λ path. Ok (record output { proc_macro_dylib_path = path })

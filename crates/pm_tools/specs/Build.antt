@@ -1,4 +1,5 @@
--- What a build of a workspace gives: the build question is asked, and what its command wrote is read. The rule is that of rust-analyzer's `WorkspaceBuildScripts`.
+-- What a build of a workspace gives: the build question is asked, and what its command wrote is read. The
+-- rule is that of rust-analyzer's `WorkspaceBuildScripts`.
 use Rattle.std.specs.Prelude.{Option, Some, None, Err}
 use Rattle.base_values.specs.Version.{Parts}
 use Rattle.base_text_outside.specs.Runner.{answer_of}
@@ -22,4 +23,5 @@ build_of_answer w line (Some output) = outputs_of w output
 -- what a build of a workspace gives
 abbrev pub build_of : CargoConfig → Workspace → Toolchain → Option Parts → Means → Reading BuildScripts
 build_of config w sysroot version means =
-    let line = build_question config w sysroot version means in build_of_answer w line (answer_of means.answers line)
+    let line = build_question config w sysroot version means in
+    build_of_answer w line (answer_of means.answers line)

@@ -1,4 +1,5 @@
--- Which outputs of builds the laws of their equality speak of: paths are equal by their components, so those whose paths are clean, as the text of every path is.
+-- Which outputs of builds the laws of their equality speak of: paths are equal by their components, so those
+-- whose paths are clean, as the text of every path is.
 use Rattle.std.specs.FinMap.{entries}
 use Rattle.std.specs.List.{All}
 use Rattle.std.specs.Prelude.{IfSome}

@@ -1,4 +1,6 @@
--- The lines by which reading the output of a build says how far it has come: one for each build script of a known package, each library that a package gains, and each message of the compiler, in the order of the messages. The texts are those of rust-analyzer's `WorkspaceBuildScripts`.
+-- The lines by which reading the output of a build says how far it has come: one for each build script of a
+-- known package, each library that a package gains, and each message of the compiler, in the order of the
+-- messages. The texts are those of rust-analyzer's `WorkspaceBuildScripts`.
 use Rattle.std.specs.Prelude.{ℕ, Bool, false, if◌then◌else◌, List, [], ◌∷◌, ◌++◌, codes, slice_get, Option, None, Some, Ok, Err}
 use Rattle.std.specs.FinMap.{get}
 use Rattle.std.specs.Option.{option_map, option_map_or, unwrap_or}
@@ -44,12 +46,14 @@ compiler_line target = codes "received compiler message for: " ++ target
 
 -- whether an artifact gives the package at a place its library
 abbrev pub gains_library : Outputs → Artifact → ℕ → Bool
-gains_library outputs artifact place = option_map_or (λ output. gives_library artifact output.proc_macro_dylib_path) (get outputs place) false
+gains_library outputs artifact place =
+    option_map_or (λ output. gives_library artifact output.proc_macro_dylib_path) (get outputs place) false
 
 -- the lines of an artifact of the package at a place: those of an unknown package are none
 abbrev pub artifact_lines : List PackageData → Outputs → Artifact → Option ℕ → List (List ℕ)
 artifact_lines packages outputs artifact None = []
-artifact_lines packages outputs artifact (Some place) = if gains_library outputs artifact place then library_line (name_at packages place) ∷ [] else []
+artifact_lines packages outputs artifact (Some place) =
+    if gains_library outputs artifact place then library_line (name_at packages place) ∷ [] else []
 
 -- the lines of a build script of the package at a place: those of an unknown package are none
 abbrev pub script_lines : List PackageData → Option ℕ → List (List ℕ)
@@ -58,8 +62,10 @@ script_lines packages (Some place) = script_line (name_at packages place) ∷ []
 
 -- the lines of a message, by the outputs so far
 abbrev pub message_lines : List PackageData → Outputs → Message → List (List ℕ)
-message_lines packages outputs (message.CompilerArtifact a) = artifact_lines packages outputs a (place_of_package packages a.package_id.repr)
-message_lines packages outputs (message.BuildScriptExecuted script) = script_lines packages (place_of_package packages script.package_id.repr)
+message_lines packages outputs (message.CompilerArtifact a) =
+    artifact_lines packages outputs a (place_of_package packages a.package_id.repr)
+message_lines packages outputs (message.BuildScriptExecuted script) =
+    script_lines packages (place_of_package packages script.package_id.repr)
 message_lines packages outputs (message.CompilerMessage m) = compiler_line m.target.name ∷ []
 message_lines packages outputs (message.BuildFinished end) = []
 message_lines packages outputs (message.TextLine line) = []
@@ -70,7 +76,9 @@ message_lines packages outputs (message.TextLine line) = []
 unfoldable pub lines_from : List PackageData → Reading BuildState → List (List ℕ) → List (List ℕ)
 lines_from packages (Err e) output = []
 lines_from packages (Ok s) [] = []
-lines_from packages (Ok s) (line ∷ output) = message_lines packages s.outputs (message_of line) ++ lines_from packages (take_output_line packages s line) output
+lines_from packages (Ok s) (line ∷ output) =
+    message_lines packages s.outputs (message_of line)
+    ++ lines_from packages (take_output_line packages s line) output
 
 -- the lines that reading the output of a build among some packages gives
 abbrev pub lines_among : List PackageData → Output → List (List ℕ)
@@ -89,7 +97,8 @@ lines_of_answer packages (Some output) = lines_among packages output
 
 -- the lines of a build of a workspace
 abbrev pub build_lines : CargoConfig → Workspace → Toolchain → Option Parts → Means → List (List ℕ)
-build_lines config w sysroot version means = lines_of_answer w.packages (answer_of means.answers (build_question config w sysroot version means))
+build_lines config w sysroot version means =
+    lines_of_answer w.packages (answer_of means.answers (build_question config w sysroot version means))
 
 -- the lines of one build of several workspaces, by this command
 abbrev pub shared_lines : CommandLine → List Workspace → List (Question × Output) → List (List ℕ)

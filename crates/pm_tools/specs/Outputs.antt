@@ -1,4 +1,5 @@
--- What a build gives the packages of a workspace, by the messages that it writes, and why it failed. The rules are those of rust-analyzer's `WorkspaceBuildScripts`.
+-- What a build gives the packages of a workspace, by the messages that it writes, and why it failed. The
+-- rules are those of rust-analyzer's `WorkspaceBuildScripts`.
 use Rattle.std.specs.Prelude.{ℕ, refl, Bool, if◌then◌else◌, List, [], ◌++◌, bytes_eq, codes, fold, length, Option, Some, None, Result, Ok, Err}
 use Rattle.std.specs.FinMap.{FinMap, code, empty, get, insert}
 use Rattle.std.specs.List.{range_with_len}
@@ -50,11 +51,13 @@ pub record BuildState : Type 0 where
 -- both are stored side by side
 abbrev pub build_state_code : Coded BuildState
 build_state_code =
-    code_by (Outputs × List ℕ) (coded× outputs_code (coded_list coded_ℕ)) (λ s. (s.outputs, s.errors)) (λ p. record { outputs = p.0; errors = p.1 }) (λ _. refl)
+    code_by (Outputs × List ℕ) (coded× outputs_code (coded_list coded_ℕ)) (λ s. (s.outputs, s.errors))
+    (λ p. record { outputs = p.0; errors = p.1 }) (λ _. refl)
 
 -- so many packages start with the default output
 abbrev pub default_outputs : ℕ → Outputs
-default_outputs count = fold (λ outputs number. insert outputs number default_output) empty (range_with_len 0 count)
+default_outputs count =
+    fold (λ outputs number. insert outputs number default_output) empty (range_with_len 0 count)
 
 -- the errors with a line more
 abbrev pub with_line : List ℕ → List ℕ → List ℕ
@@ -65,7 +68,8 @@ abbrev pub with_error : BuildState → List ℕ → BuildState
 with_error s line = record s { errors = with_line s.errors line }
 
 -- an output of a package, changed, in its place among the others
-abbrev pub changed_at : (BuildScriptOutput → Reading BuildScriptOutput) → Outputs → ℕ → Option BuildScriptOutput → Reading Outputs
+abbrev pub changed_at : (BuildScriptOutput → Reading BuildScriptOutput) → Outputs → ℕ
+    → Option BuildScriptOutput → Reading Outputs
 changed_at change outputs place None = Ok outputs
 changed_at change outputs place (Some output) = change output >>= λ new. Ok (insert outputs place new)
 
@@ -74,8 +78,10 @@ abbrev pub outputs_after : (BuildScriptOutput → Reading BuildScriptOutput) →
 outputs_after change outputs place = changed_at change outputs place (get outputs place)
 
 -- the state after such a change
-abbrev pub change_output : BuildState → (BuildScriptOutput → Reading BuildScriptOutput) → ℕ → Reading BuildState
-change_output s change place = outputs_after change s.outputs place >>= λ outputs. Ok (record s { outputs = outputs })
+abbrev pub change_output : BuildState → (BuildScriptOutput → Reading BuildScriptOutput) → ℕ
+    → Reading BuildState
+change_output s change place =
+    outputs_after change s.outputs place >>= λ outputs. Ok (record s { outputs = outputs })
 
 -- an artifact of the package at a place; that of an unknown package is skipped
 abbrev pub take_artifact : BuildState → Artifact → Option ℕ → Reading BuildState
@@ -99,8 +105,10 @@ take_rendered s (Some text) = with_error s text
 
 -- one more message. Those of unknown packages are skipped, except what the compiler said
 abbrev pub take_message : List PackageData → BuildState → Message → Reading BuildState
-take_message packages s (message.CompilerArtifact a) = take_artifact s a (place_of_package packages a.package_id.repr)
-take_message packages s (message.BuildScriptExecuted script) = take_script s script (place_of_package packages script.package_id.repr)
+take_message packages s (message.CompilerArtifact a) =
+    take_artifact s a (place_of_package packages a.package_id.repr)
+take_message packages s (message.BuildScriptExecuted script) =
+    take_script s script (place_of_package packages script.package_id.repr)
 take_message packages s (message.CompilerMessage m) = Ok (take_rendered s (out-Diagnostic m.message).rendered)
 take_message packages s (message.BuildFinished end) = Ok s
 take_message packages s (message.TextLine line) = Ok s
@@ -111,11 +119,15 @@ take_output_line packages s line = take_message packages s (message_of line)
 
 -- why a build failed: nothing where it did not, else the lines, or a text that stands for none
 abbrev pub error_of : Bool → List ℕ → Option (List ℕ)
-error_of ok errors = if ok then None else Some (if bytes_eq errors [] then codes "cargo check failed" else errors)
+error_of ok errors =
+    if ok then None else Some (if bytes_eq errors [] then codes "cargo check failed" else errors)
 
 -- what a state and the lines of the error stream give
 abbrev pub scripts_of : Output → BuildState → BuildScripts
-scripts_of output s = record { outputs = s.outputs; error = error_of output.ok (fold with_line s.errors (lines output.err)) }
+scripts_of output s = record {
+  outputs = s.outputs;
+  error = error_of output.ok (fold with_line s.errors (lines output.err));
+}
 
 -- what is known before the first message
 abbrev pub start_state : List PackageData → BuildState
@@ -123,7 +135,9 @@ start_state packages = record { outputs = default_outputs (length packages); err
 
 -- what a build gives some packages, by what its command wrote
 unfoldable pub outputs_among : List PackageData → Output → Reading BuildScripts
-outputs_among packages output = take_each (take_output_line packages) (start_state packages) (lines output.out) >>= λ s. Ok (scripts_of output s)
+outputs_among packages output =
+    take_each (take_output_line packages) (start_state packages) (lines output.out)
+    >>= λ s. Ok (scripts_of output s)
 
 -- what a build of a workspace gives, by what its command wrote
 abbrev pub outputs_of : Workspace → Output → Reading BuildScripts

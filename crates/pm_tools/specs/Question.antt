@@ -1,4 +1,5 @@
--- The build question: the command that builds what a workspace needs at compile time. Its words are this project's own profile, its variables those of rust-analyzer.
+-- The build question: the command that builds what a workspace needs at compile time. Its words are this
+-- project's own profile, its variables those of rust-analyzer.
 use Rattle.std.specs.Prelude.{ℕ, Bool, ◌&&◌, not, if◌then◌else◌, List, [], ◌∷◌, codes, Option, Some, None, unwrap_or}
 use Rattle.base_values.specs.Version.{Parts}
 use Rattle.base_text_outside.specs.declared.command.CommandLine.{CommandLine}
@@ -11,14 +12,16 @@ use Rattle.pm_tools_ask.specs.Questions.{question}
 use Rattle.pm_tools_ask.specs.Toolchain.{Toolchain}
 use Rattle.pm_tools.specs.Words.{build_words, is_unstable, takes_compile_time_deps}
 
--- whether the compiler is run through the program that asks: where that is configured, and the build cannot be limited
+-- whether the compiler is run through the program that asks: where that is configured, and the build cannot
+-- be limited
 abbrev pub wraps_compiler : CargoConfig → Option Parts → Bool
 wraps_compiler config version = config.wrap_rustc_in_build_scripts && not (takes_compile_time_deps version)
 
 -- the command, which runs the compiler through the program that asks, where that is wanted
 abbrev pub with_wrapper : Bool → List ℕ → CommandLine → CommandLine
 with_wrapper wraps myself line =
-    if wraps then with_last_variable (codes "RA_RUSTC_WRAPPER") (codes "1") (with_last_variable (codes "RUSTC_WRAPPER") myself line) else line
+    if wraps then with_last_variable (codes "RA_RUSTC_WRAPPER") (codes "1") (with_last_variable (codes "RUSTC_WRAPPER") myself line)
+    else line
 
 -- the build by `cargo check`, in the workspace's root
 abbrev pub cargo_question : CargoConfig → Workspace → Toolchain → Option Parts → Means → CommandLine
@@ -37,4 +40,5 @@ configured_question (Some (program ∷ words)) dir means =
 -- the build question: the configured command, else that of `cargo`
 unfoldable pub build_question : CargoConfig → Workspace → Toolchain → Option Parts → Means → CommandLine
 build_question config w sysroot version means =
-    unwrap_or (configured_question config.run_build_script_command w.workspace_root means) (cargo_question config w sysroot version means)
+    unwrap_or (configured_question config.run_build_script_command w.workspace_root means)
+    (cargo_question config w sysroot version means)

@@ -1,4 +1,5 @@
--- What a build script says of its package: atoms of conditional compilation, variables, and the directory of its output.
+-- What a build script says of its package: atoms of conditional compilation, variables, and the directory of
+-- its output.
 use Rattle.std.specs.Prelude.{◌≡◌, ℕ, if◌then◌else◌, List, [], ◌∷◌, ◌++◌, bytes_eq, codes, Option, Some, None, Result, Ok, Err}
 use Rattle.base_text_outside.specs.Cfg.{atom_of}
 use Rattle.base_text_outside.specs.declared.cfg.CfgAtom.{CfgAtom}
@@ -12,7 +13,8 @@ use Rattle.pm_tools.specs.declared.script.AtomsError.{AtomsError}
 use Rattle.pm_tools.specs.declared.script.AtomsError.TheVariants.{Invalid, OutOfMemory}
 
 -- an atom before others, if it is one; else the text
-abbrev pub with_first : List ℕ → Option CfgAtom → Result (List CfgAtom) (List ℕ) → Result (List CfgAtom) (List ℕ)
+abbrev pub with_first : List ℕ → Option CfgAtom → Result (List CfgAtom) (List ℕ)
+    → Result (List CfgAtom) (List ℕ)
 with_first text None rest = Err text
 with_first text (Some atom) (Ok atoms) = Ok (atom ∷ atoms)
 with_first text (Some atom) (Err invalid) = Err invalid
@@ -46,9 +48,10 @@ output_with_dir atoms output dir = record output {
   out_dir = Some dir;
 }
 
--- the output after a script with its atoms: its variables are set, and its directory, where it has one, must be absolute;
--- without one its atoms play no part
-unfoldable pub output_after_script : BuildScript → List CfgAtom → BuildScriptOutput → Reading BuildScriptOutput
+-- the output after a script with its atoms: its variables are set, and its directory, where it has one, must
+-- be absolute; without one its atoms play no part
+unfoldable pub output_after_script : BuildScript → List CfgAtom → BuildScriptOutput
+    → Reading BuildScriptOutput
 output_after_script script atoms output =
     let with_envs = record output { envs = with_pairs output.envs script.env } in
     if bytes_eq script.out_dir [] then Ok with_envs

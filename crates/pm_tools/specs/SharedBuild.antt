@@ -1,4 +1,6 @@
--- What one build of several workspaces gives each of them. Outputs go by the ids of packages: all packages of an id, in any of the workspaces, get one output. The rule is that of rust-analyzer's `WorkspaceBuildScripts::run_once`.
+-- What one build of several workspaces gives each of them. Outputs go by the ids of packages: all packages of
+-- an id, in any of the workspaces, get one output. The rule is that of rust-analyzer's
+-- `WorkspaceBuildScripts::run_once`.
 use Rattle.std.specs.Prelude.{ℕ, refl, List, fold, Option, Some, None, Ok, Err}
 use Rattle.std.specs.Coded.{Coded, code_by, coded×, coded_list}
 use Rattle.std.specs.FinMap.{empty, get, insert}
@@ -30,7 +32,9 @@ with_output outputs number (Some output) = insert outputs number output
 
 -- the outputs of packages by their ids, each under the number of its package
 abbrev pub outputs_by_id : List PackageData → Outputs → List PackageData → Outputs
-outputs_by_id all outputs packages = fold (λ given p. with_output given p.0 (output_of_id all outputs p.1.id.repr)) empty (with_numbers packages)
+outputs_by_id all outputs packages =
+    fold (λ given p. with_output given p.0 (output_of_id all outputs p.1.id.repr)) empty
+    (with_numbers packages)
 
 -- one build of several workspaces: the packages of all of them, and what the build gives these
 pub record SharedBuild : Type 0 where
@@ -40,17 +44,20 @@ pub record SharedBuild : Type 0 where
 -- both are stored side by side
 abbrev pub shared_build_code : Coded SharedBuild
 shared_build_code =
-    code_by (List PackageData × BuildScripts) (coded× (coded_list stored.the_row.coded) build_scripts_code) (λ b. (b.packages, b.scripts))
+    code_by (List PackageData × BuildScripts) (coded× (coded_list stored.the_row.coded) build_scripts_code)
+    (λ b. (b.packages, b.scripts))
     (λ p. record { packages = p.0; scripts = p.1 }) (λ _. refl)
 
 -- what the build gives one of the workspaces: the outputs of its packages, and the error of the whole build
 abbrev pub scripts_for : SharedBuild → Workspace → BuildScripts
-scripts_for build w = record build.scripts { outputs = outputs_by_id build.packages build.scripts.outputs w.packages }
+scripts_for build w =
+    record build.scripts { outputs = outputs_by_id build.packages build.scripts.outputs w.packages }
 
 -- what one build gives the packages of some workspaces, by what its command wrote
 abbrev pub shared_outputs : List Workspace → Output → Reading SharedBuild
 shared_outputs workspaces output =
-    let all = packages_of_all workspaces in outputs_among all output >>= λ scripts. Ok (record { packages = all; scripts = scripts })
+    let all = packages_of_all workspaces in
+    outputs_among all output >>= λ scripts. Ok (record { packages = all; scripts = scripts })
 
 -- what the answer to the question of such a build gives, if there is one
 abbrev pub shared_build_by : List Workspace → CommandLine → Option Output → Reading SharedBuild

@@ -1,4 +1,5 @@
--- The words of the build question: what `cargo check` is asked, by the configuration, the workspace and the version of the toolchain. They are this project's own profile.
+-- The words of the build question: what `cargo check` is asked, by the configuration, the workspace and the
+-- version of the toolchain. They are this project's own profile.
 use Rattle.std.specs.Prelude.{ℕ, Bool, ◌||◌, false, if◌then◌else◌, List, [], ◌∷◌, ◌++◌, codes, filter, Option, Some, None}
 use Rattle.base_values.specs.Version.{Parts}
 use Rattle.cargo_meta.specs.Command.{joined_text}
@@ -12,7 +13,8 @@ use Rattle.pm_cargo_config.specs.declared.features.CargoFeatures.{CargoFeatures}
 use Rattle.pm_cargo_config.specs.declared.features.CargoFeatures.TheVariants.{All, Selected}
 use Rattle.base_text_paths.specs.ManifestPath.{is_rust_manifest}
 
--- whether a build can be limited to what is needed at compile time: the version is known to be 1.89.0 or later
+-- whether a build can be limited to what is needed at compile time: the version is known to be 1.89.0 or
+-- later
 unfoldable pub takes_compile_time_deps : Option Parts → Bool
 takes_compile_time_deps None = false
 takes_compile_time_deps (Some version) = is_at_least (1, 89, 0) version
@@ -25,7 +27,8 @@ is_unstable manifest version = is_rust_manifest manifest || takes_compile_time_d
 abbrev pub first_words : List (List ℕ)
 first_words = codes "check" ∷ codes "--quiet" ∷ codes "--workspace" ∷ codes "--message-format=json" ∷ []
 
--- the configuration file, where one is set, the manifest, and the directory that is written into, where there is one
+-- the configuration file, where one is set, the manifest, and the directory that is written into, where there
+-- is one
 abbrev pub place_words : CargoConfig → Workspace → List (List ℕ)
 place_words config w =
     option_words (codes "--config") config.config_path
@@ -35,17 +38,21 @@ place_words config w =
 -- the platform that is built for, where one is set
 abbrev pub platform_words : Option Parts → Option (List ℕ) → List (List ℕ)
 platform_words version None = []
-platform_words version (Some target) = codes "--target" ∷ target ∷ [] ++ flag_word (needs_json_flag version target) (codes "-Zjson-target-spec")
+platform_words version (Some target) =
+    codes "--target" ∷ target ∷ [] ++ flag_word (needs_json_flag version target) (codes "-Zjson-target-spec")
 
 -- where features are selected, those of them that the workspace has
 abbrev pub selected_words : Workspace → List (List ℕ) → List (List ℕ)
 selected_words w [] = []
-selected_words w (first ∷ others) = codes "--features" ∷ joined_text (codes ",") (filter (is_feature w) (first ∷ others)) ∷ []
+selected_words w (first ∷ others) =
+    codes "--features" ∷ joined_text (codes ",") (filter (is_feature w) (first ∷ others)) ∷ []
 
--- the features that are enabled: all of them, or the selected ones beside the default, unless that is left out
+-- the features that are enabled: all of them, or the selected ones beside the default, unless that is left
+-- out
 abbrev pub build_feature_words : Workspace → CargoFeatures → List (List ℕ)
 build_feature_words w All = codes "--all-features" ∷ []
-build_feature_words w (Selected features no_default) = flag_word no_default (codes "--no-default-features") ++ selected_words w features
+build_feature_words w (Selected features no_default) =
+    flag_word no_default (codes "--no-default-features") ++ selected_words w features
 
 -- which kinds of targets are built
 abbrev pub coverage_words : Bool → Option Parts → List (List ℕ)

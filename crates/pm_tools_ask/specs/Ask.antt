@@ -7,7 +7,8 @@ use Rattle.base_text.specs.declared.tool.Tools.{Tools}
 use Rattle.base_text.specs.Tree.{TreeFiles}
 use Rattle.pm_tools_ask.specs.declared.ask.Ask.{Ask}
 
--- the recorded answers, the files of the tree, the names of the tools, the variables of the process, and those set or removed beside them
+-- the recorded answers, the files of the tree, the names of the tools, the variables of the process, and
+-- those set or removed beside them
 pub record Means : Type 0 where
   pub answers : List (Question × Output)
   pub files : TreeFiles

@@ -11,4 +11,6 @@ below_keys value (key ∷ keys) = option_and_then (λ next. below_keys next keys
 
 -- the value at some keys, of which there is at least one, where TOML reads the text as a document
 unfoldable pub value_at_keys : List ℕ → List (List ℕ) → Option Data
-value_at_keys text keys = if length keys == 0 then None else option_and_then (λ document. below_keys (table document) keys) (parse_document text)
+value_at_keys text keys =
+    if length keys == 0 then None
+    else option_and_then (λ document. below_keys (table document) keys) (parse_document text)

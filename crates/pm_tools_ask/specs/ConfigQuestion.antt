@@ -13,15 +13,18 @@ use Rattle.pm_tools_ask.specs.Toolchain.{Toolchain}
 -- the words, with the configuration file that is given, and with leave for a manifest in a Rust file
 abbrev pub config_words : List ℕ → Option (List ℕ) → List (List ℕ)
 config_words manifest config_path =
-    codes "-Z" ∷ codes "unstable-options" ∷ codes "config" ∷ codes "get" ∷ codes "--format" ∷ codes "toml" ∷ codes "--show-origin" ∷ []
+    codes "-Z" ∷ codes "unstable-options" ∷ codes "config" ∷ codes "get" ∷ codes "--format" ∷ codes "toml"
+    ∷ codes "--show-origin" ∷ []
     ++ option_words (codes "--config") config_path
     ++ flag_word (is_rust_manifest manifest) (codes "-Zscript")
 
 -- the question, which is asked in the manifest's directory
 abbrev pub config_question : List ℕ → Toolchain → Option (List ℕ) → Means → CommandLine
 config_question manifest sysroot config_path means =
-    with_last_variable (codes "RUSTC_BOOTSTRAP") (codes "1") (question sysroot Cargo (directory_of manifest) (config_words manifest config_path) means)
+    with_last_variable (codes "RUSTC_BOOTSTRAP") (codes "1")
+    (question sysroot Cargo (directory_of manifest) (config_words manifest config_path) means)
 
 -- the configuration that is printed, where an answer serves
 abbrev pub printed_config : List ℕ → Toolchain → Option (List ℕ) → Means → Option (List ℕ)
-printed_config manifest sysroot config_path means = serving_answer means.answers (config_question manifest sysroot config_path means)
+printed_config manifest sysroot config_path means =
+    serving_answer means.answers (config_question manifest sysroot config_path means)

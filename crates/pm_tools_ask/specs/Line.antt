@@ -1,4 +1,5 @@
--- The lines of a printed configuration: `KEYS = VALUE REST`, `KEYS = [`, `VALUE REST` and `] REST`, where REST may name the file that a value comes from.
+-- The lines of a printed configuration: `KEYS = VALUE REST`, `KEYS = [`, `VALUE REST` and `] REST`, where
+-- REST may name the file that a value comes from.
 use Rattle.std.specs.Prelude.{ℕ, Bool, false, not, ◌||◌, ◌&&◌, ◌==◌, if◌then◌else◌, nat_eq, nat_lt, nat_le, List, [], ◌∷◌, length, map, slice_index, Option, Some, None}
 use Rattle.std.specs.Char.{is_whitespace}
 use Rattle.std.specs.List.{list_all, starts_with}
@@ -12,7 +13,9 @@ use Rattle.pm_tools_ask.specs.Quotes.{after_quotes, cut_outside, parts_outside}
 
 -- a byte of a bare key: a letter, a digit, `-` or `_`
 unfoldable pub is_bare_byte : ℕ → Bool
-is_bare_byte b = (nat_le 97 b && nat_le b 122) || (nat_le 65 b && nat_le b 90) || (nat_le 48 b && nat_le b 57) || b == 45 || b == 95
+is_bare_byte b =
+    (nat_le 97 b && nat_le b 122) || (nat_le 65 b && nat_le b 90) || (nat_le 48 b && nat_le b 57) || b == 45
+    || b == 95
 
 -- a key without quotes: at least one byte, and each a bare one
 unfoldable pub is_bare : List ℕ → Bool
@@ -22,9 +25,11 @@ is_bare part = list_all is_bare_byte part && not (length part == 0)
 unfoldable pub quoted_text : List ℕ → Option (List ℕ)
 quoted_text part = option_and_then as_str (parse_value part)
 
--- three quotes of either kind at the front of a part of KEYS, as a text of several lines would begin, which is no key
+-- three quotes of either kind at the front of a part of KEYS, as a text of several lines would begin, which
+-- is no key
 unfoldable pub begins_multiline : List ℕ → Bool
-begins_multiline part = starts_with nat_eq part (34 ∷ 34 ∷ 34 ∷ []) || starts_with nat_eq part (39 ∷ 39 ∷ 39 ∷ [])
+begins_multiline part =
+    starts_with nat_eq part (34 ∷ 34 ∷ 34 ∷ []) || starts_with nat_eq part (39 ∷ 39 ∷ 39 ∷ [])
 
 -- the key that a part of KEYS writes: a bare one as it stands, and one in quotes as TOML reads that text
 unfoldable pub key_of : List ℕ → Option (List ℕ)
@@ -71,7 +76,8 @@ value_rest (Some quoted) other text = after_quotes Basic quoted
 value_rest None (Some quoted) text = after_quotes Literal quoted
 value_rest None None text = run_rest text
 
--- the REST behind the VALUE at the front of a text, where there is one: a text in quotes, or a run of other characters
+-- the REST behind the VALUE at the front of a text, where there is one: a text in quotes, or a run of other
+-- characters
 unfoldable pub after_value : List ℕ → Option (List ℕ)
 after_value text = value_rest (behind_byte 34 text) (behind_byte 39 text) text
 
@@ -81,12 +87,15 @@ behind_comma rest = trim_start (unwrap_or (behind_byte 44 rest) rest)
 
 -- the directory two levels above a path, where the text is an absolute one
 unfoldable pub root_above : List ℕ → Option (List ℕ)
-root_above path = if is_absolute path then option_and_then parent_text (parent_text (path_text (components path))) else None
+root_above path =
+    if is_absolute path then option_and_then parent_text (parent_text (path_text (components path))) else None
 
--- what relative values are relative to by the comment in REST: the directory two levels above the file that it names. The comments for a
--- variable of the environment and for a word of the command line name no absolute path
+-- what relative values are relative to by the comment in REST: the directory two levels above the file that
+-- it names. The comments for a variable of the environment and for a word of the command line name no
+-- absolute path
 unfoldable pub root_by_comment : List ℕ → Option (List ℕ)
-root_by_comment rest = option_and_then (λ comment. root_above (trim comment)) (behind_byte 35 (behind_comma rest))
+root_by_comment rest =
+    option_and_then (λ comment. root_above (trim comment)) (behind_byte 35 (behind_comma rest))
 
 -- what stands before and behind the first `=` of a line outside of quotes, without white space
 abbrev pub sides_of : List ℕ → Option (List ℕ × List ℕ)

@@ -1,4 +1,5 @@
--- Which files are manifests of projects, and of which kind, by their names: those that rust-analyzer and cargo look for.
+-- Which files are manifests of projects, and of which kind, by their names: those that rust-analyzer and
+-- cargo look for.
 use Rattle.std.specs.Prelude.{ℕ, Bool, false, ◌||◌, if◌then◌else◌, List, Option, Some, None, bytes_eq, codes}
 use Rattle.std.specs.Option.{option_map_or}
 use Rattle.std.specs.Ordering.{nat_cmp, ordering_then}
@@ -39,4 +40,5 @@ manifest_path (CargoScript path) = path
 
 -- the order of manifests: by their kinds, and those of one kind by their paths
 abbrev pub manifest_cmp : ProjectManifest → ProjectManifest → Ordering
-manifest_cmp x y = ordering_then (nat_cmp (kind_place x) (kind_place y)) (path_cmp (manifest_path x) (manifest_path y))
+manifest_cmp x y =
+    ordering_then (nat_cmp (kind_place x) (kind_place y)) (path_cmp (manifest_path x) (manifest_path y))

@@ -1,4 +1,5 @@
--- Texts in quotes, as TOML writes them: between two `"` a `\` takes the byte behind it along, and between two `'` nothing does.
+-- Texts in quotes, as TOML writes them: between two `"` a `\` takes the byte behind it along, and between two
+-- `'` nothing does.
 use Rattle.std.specs.Prelude.{ℕ, Bool, true, false, ◌&&◌, ◌==◌, if◌then◌else◌, List, [], ◌∷◌, Option, Some, None}
 use Rattle.std.specs.List.{onto_first}
 use Rattle.std.specs.Option.{option_map}
@@ -22,7 +23,8 @@ after_byte Literal b = if b == 39 then Outside else Literal
 -- what follows the quote that closes those that are open, where one does
 unfoldable pub after_quotes : Quotes → List ℕ → Option (List ℕ)
 after_quotes quotes [] = None
-after_quotes quotes (b ∷ bs) = if is_unquoted (after_byte quotes b) then Some bs else after_quotes (after_byte quotes b) bs
+after_quotes quotes (b ∷ bs) =
+    if is_unquoted (after_byte quotes b) then Some bs else after_quotes (after_byte quotes b) bs
 
 -- what stands before and behind the first byte `at` outside of quotes, where there is one
 unfoldable pub cut_outside : ℕ → Quotes → List ℕ → Option (List ℕ × List ℕ)

@@ -9,11 +9,13 @@ use Rattle.pm_tools_ask.specs.Line.{all_of, key_of}
 use Rattle.pm_tools_ask.specs.Quotes.{parts_outside}
 use Rattle.pm_tools_ask.specs.Statements.{items_in, root_of_list, statements, statements_behind}
 
--- the statements that a reader gives of the lines that are left: what it holds of an open list is completed by them
+-- the statements that a reader gives of the lines that are left: what it holds of an open list is completed
+-- by them
 abbrev pub statements_left : Option OpenList → List (List ℕ) → List Statement
 statements_left None lines = statements lines
 statements_left (Some list) lines =
-    record { keys = list.keys; root = root_of_list lines; items = list.items.items ++ items_in lines } ∷ statements_behind lines
+    record { keys = list.keys; root = root_of_list lines; items = list.items.items ++ items_in lines }
+    ∷ statements_behind lines
 
 -- the parts of the text that is left, where there is one
 abbrev pub parts_left : Option (Bor (List ℕ)) → List (List ℕ)

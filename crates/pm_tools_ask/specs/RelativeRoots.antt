@@ -1,4 +1,5 @@
--- The directories that the variables of a configuration's table `env` are relative to, by the statements of their flags `relative`.
+-- The directories that the variables of a configuration's table `env` are relative to, by the statements of
+-- their flags `relative`.
 use Rattle.std.specs.Prelude.{ℕ, ◌&&◌, if◌then◌else◌, bytes_eq, List, [], ◌∷◌, codes, Option, Some, None}
 use Rattle.std.specs.Option.{option_map}
 use Rattle.pm_tools_ask.specs.Statements.{statement_of}
@@ -7,7 +8,8 @@ use Rattle.pm_tools_ask.specs.ConfigEnv.{relative_keys}
 
 -- the variable whose flag `relative` stands at some keys
 abbrev pub relative_variable : List (List ℕ) → Option (List ℕ)
-relative_variable (table ∷ name ∷ flag ∷ []) = if bytes_eq table (codes "env") && bytes_eq flag (codes "relative") then Some name else None
+relative_variable (table ∷ name ∷ flag ∷ []) =
+    if bytes_eq table (codes "env") && bytes_eq flag (codes "relative") then Some name else None
 relative_variable _ = None
 
 -- the directory that one statement gives a variable: its own, where it is that of the variable's flag

@@ -1,4 +1,5 @@
--- The statements of a printed configuration and where their values come from: a function of the lines alone, also where TOML refuses the text.
+-- The statements of a printed configuration and where their values come from: a function of the lines alone,
+-- also where TOML refuses the text.
 use Rattle.std.specs.Prelude.{ℕ, nat_eq, if◌then◌else◌, List, [], ◌∷◌, Option, Some, None, slice_get}
 use Rattle.std.specs.Cmp.Lexicographic.{pointwise}
 use Rattle.std.specs.Option.{option_and_then}
@@ -44,7 +45,8 @@ bracket_item text (Some rest) = Closes (root_by_comment rest)
 unfoldable pub item_form : List ℕ → ItemForm
 item_form line = bracket_item (trim_start line) (behind_byte 93 (trim_start line))
 
--- the roots of the items up to the line that closes the list: that of a line, before those of the lines behind it
+-- the roots of the items up to the line that closes the list: that of a line, before those of the lines
+-- behind it
 abbrev pub items_by : ItemForm → List (Option (List ℕ)) → List (Option (List ℕ))
 items_by (Item root) more = root ∷ more
 items_by (Closes root) more = []
@@ -66,10 +68,13 @@ unfoldable pub root_of_list : List (List ℕ) → Option (List ℕ)
 root_of_list [] = None
 root_of_list (line ∷ lines) = root_by_line (item_form line) (root_of_list lines)
 
--- what a line states, before the statements of the lines behind it: `next` where it opens no list, and `behind` where it opens one
+-- what a line states, before the statements of the lines behind it: `next` where it opens no list, and
+-- `behind` where it opens one
 abbrev pub statements_of_form : Form → List (List ℕ) → List Statement → List Statement → List Statement
-statements_of_form (Value keys root) lines next behind = record { keys = keys; root = root; items = [] } ∷ next
-statements_of_form (Opens keys) lines next behind = record { keys = keys; root = root_of_list lines; items = items_in lines } ∷ behind
+statements_of_form (Value keys root) lines next behind =
+    record { keys = keys; root = root; items = [] } ∷ next
+statements_of_form (Opens keys) lines next behind =
+    record { keys = keys; root = root_of_list lines; items = items_in lines } ∷ behind
 statements_of_form Other lines next behind = next
 
 -- the statements behind a list: `next` from the line that closes it on
@@ -82,23 +87,27 @@ unfoldable mutual
   -- the statements of some lines
   pub statements : List (List ℕ) → List Statement
   statements [] = []
-  statements (line ∷ lines) = statements_of_form (line_form line) lines (statements lines) (statements_behind lines)
+  statements (line ∷ lines) =
+      statements_of_form (line_form line) lines (statements lines) (statements_behind lines)
 
   -- the statements behind the list that is open before some lines
   pub statements_behind : List (List ℕ) → List Statement
   statements_behind [] = []
-  statements_behind (line ∷ lines) = statements_of_item (item_form line) (statements lines) (statements_behind lines)
+  statements_behind (line ∷ lines) =
+      statements_of_item (item_form line) (statements lines) (statements_behind lines)
 
 -- the first statement of some keys
 abbrev pub statement_of : List (List ℕ) → List Statement → Option Statement
 statement_of keys [] = None
-statement_of keys (s ∷ more) = if pointwise (pointwise nat_eq) s.keys keys then Some s else statement_of keys more
+statement_of keys (s ∷ more) =
+    if pointwise (pointwise nat_eq) s.keys keys then Some s else statement_of keys more
 
 -- the root of a statement's value, or of an item of its list
 abbrev pub root_at : Option ℕ → Statement → Option (List ℕ)
 root_at None s = s.root
 root_at (Some n) s = option_and_then (λ root. root) (slice_get s.items n)
 
--- the directory that a value of a printed configuration is relative to, or an item of a list, where its line names a file
+-- the directory that a value of a printed configuration is relative to, or an item of a list, where its line
+-- names a file
 unfoldable pub origin_root : List ℕ → List (List ℕ) → Option ℕ → Option (List ℕ)
 origin_root text keys item = option_and_then (root_at item) (statement_of keys (statements (lines text)))

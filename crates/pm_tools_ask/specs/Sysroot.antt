@@ -1,4 +1,5 @@
--- How the tools of a toolchain are started: `rustc` by its path, where the toolchain's directory is known and the tree holds it there.
+-- How the tools of a toolchain are started: `rustc` by its path, where the toolchain's directory is known and
+-- the tree holds it there.
 use Rattle.std.specs.Prelude.{ℕ, if◌then◌else◌, List, Option, Some, None, codes, is_some}
 use Rattle.base_text_paths.specs.Paths.{components_with_tail, path_text}
 use Rattle.base_values.specs.ByText.{value_at}
@@ -37,6 +38,7 @@ tool_root sysroot means = record {
   toolchain_set = is_some (value_at (codes "RUSTUP_TOOLCHAIN") means.process_env);
 }
 
--- the command that starts a tool in a directory, with no words and the variables that are given beside those of the process
+-- the command that starts a tool in a directory, with no words and the variables that are given beside those
+-- of the process
 abbrev pub start_command : Toolchain → Tool → List ℕ → Means → CommandLine
 start_command sysroot tool dir means = tool_command (tool_root sysroot means) tool dir means.extra_env

@@ -20,12 +20,14 @@ tool_word Rustup = codes "rustup"
 
 -- the variables with those of an environment set over them
 abbrev pub with_environment : List (List ℕ × List ℕ) → Variables → Variables
-with_environment env variables = fold (λ set variable. with_value variable.0 (Some variable.1) set) variables env
+with_environment env variables =
+    fold (λ set variable. with_value variable.0 (Some variable.1) set) variables env
 
 -- the question for the path of a tool
 abbrev pub path_question : Toolchain → Tool → List ℕ → List (List ℕ × List ℕ) → Means → CommandLine
 path_question sysroot tool dir env means =
-    record (tool_command (tool_root sysroot means) Rustup dir (with_environment env means.extra_env)) { words = codes "which" ∷ tool_word tool ∷ [] }
+    record (tool_command (tool_root sysroot means) Rustup dir (with_environment env means.extra_env))
+    { words = codes "which" ∷ tool_word tool ∷ [] }
 
 -- the path that an output says, or the name where there is no output
 abbrev pub answered_path : List ℕ → Option Output → List ℕ
@@ -40,4 +42,5 @@ path_by_answer (Some root) name answer = answered_path name answer
 -- the path of a tool
 abbrev pub tool_path : Toolchain → Tool → List ℕ → List (List ℕ × List ℕ) → Means → List ℕ
 tool_path sysroot tool dir env means =
-    path_by_answer sysroot.root (tool_name means.tools tool) (answer_of means.answers (path_question sysroot tool dir env means))
+    path_by_answer sysroot.root (tool_name means.tools tool)
+    (answer_of means.answers (path_question sysroot tool dir env means))

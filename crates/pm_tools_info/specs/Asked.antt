@@ -9,7 +9,8 @@ use Rattle.pm_tools_info.specs.declared.query_error.QueryError.{QueryError}
 use Rattle.pm_tools_info.specs.declared.query_error.QueryError.TheVariants.{Failed, NoHost, BadSpec, OutOfMemory}
 use Rattle.pm_tools_info.specs.declared.questions.Questions.{Questions}
 
--- the first answer that serves, that to the first question before that to the last; without one, the line of the last
+-- the first answer that serves, that to the first question before that to the last; without one, the line of
+-- the last
 abbrev pub answer_to : List (Question × Output) → Questions → Result (List ℕ) QueryError
 answer_to answers questions =
     ok_or
@@ -17,7 +18,8 @@ answer_to answers questions =
     (Failed (line_text questions.last))
 
 -- what is read of an answer, where there is one
-abbrev pub reading_of_answer : {T : Type 0} → (List ℕ → Result T QueryError) → Result (List ℕ) QueryError → Result T QueryError
+abbrev pub reading_of_answer : {T : Type 0} → (List ℕ → Result T QueryError) → Result (List ℕ) QueryError
+    → Result T QueryError
 reading_of_answer reads (Ok text) = reads text
 reading_of_answer reads (Err error) = Err error
 

@@ -17,4 +17,6 @@ build_target_statement config = statement_of build_target_keys (statements (line
 
 -- the platforms that a configuration states, each JSON file below the directory that its text is relative to
 abbrev pub build_targets : List ℕ → Option (List (List ℕ))
-build_targets config = option_and_then (targets_at (statement_root (build_target_statement config))) (value_at_keys config build_target_keys)
+build_targets config =
+    option_and_then (targets_at (statement_root (build_target_statement config)))
+    (value_at_keys config build_target_keys)

@@ -1,4 +1,5 @@
--- The atoms of conditional compilation that hold for a platform, as `rustc --print cfg` prints them, one a line.
+-- The atoms of conditional compilation that hold for a platform, as `rustc --print cfg` prints them, one a
+-- line.
 use Rattle.std.specs.Prelude.{ℕ, List, [], ◌∷◌, ◌++◌, codes, map, Option, Some}
 use Rattle.std.specs.Option.{option_and_then, option_map, option_map_or}
 use Rattle.std.specs.Str.Lines.{lines}
@@ -9,7 +10,8 @@ use Rattle.base_text_outside.specs.declared.cfg.CfgAtom.TheVariants.{Flag, KeyVa
 -- the atoms that some lines name, where each names one
 abbrev pub atoms_in : List (List ℕ) → Option (List CfgAtom)
 atoms_in [] = Some []
-atoms_in (line ∷ more) = option_and_then (λ atom. option_map (λ atoms. atom ∷ atoms) (atoms_in more)) (atom_of line)
+atoms_in (line ∷ more) =
+    option_and_then (λ atom. option_map (λ atoms. atom ∷ atoms) (atoms_in more)) (atom_of line)
 
 -- a key with the width of each atomic value
 abbrev pub for_widths : List ℕ → List CfgAtom

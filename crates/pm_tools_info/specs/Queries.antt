@@ -20,12 +20,14 @@ use Rattle.pm_tools_info.specs.declared.query_error.QueryError.TheVariants.{BadS
 -- the version of the tool, where its answer has one
 abbrev pub version_answer : QueryConfig → Means → Result (Option Parts) QueryError
 version_answer config means =
-    reading_of_answer (λ text. Ok (version_behind (front_of config) text)) (answer_to means.answers (version_questions config means))
+    reading_of_answer (λ text. Ok (version_behind (front_of config) text))
+    (answer_to means.answers (version_questions config means))
 
 -- the platform that the compiler runs on
 abbrev pub host_answer : QueryConfig → Means → Result (List ℕ) QueryError
 host_answer config means =
-    reading_of_answer (λ text. ok_or (host_of text) NoHost) (answer_to means.answers (host_questions config means))
+    reading_of_answer (λ text. ok_or (host_of text) NoHost)
+    (answer_to means.answers (host_questions config means))
 
 -- one platform
 abbrev pub one_target : Result (List ℕ) QueryError → Result (List (List ℕ)) QueryError
@@ -33,24 +35,29 @@ one_target (Ok target) = Ok (target ∷ [])
 one_target (Err error) = Err error
 
 -- the platforms that are stated, or else those that an answer gives
-abbrev pub unless_stated : Option (List (List ℕ)) → Result (List (List ℕ)) QueryError → Result (List (List ℕ)) QueryError
+abbrev pub unless_stated : Option (List (List ℕ)) → Result (List (List ℕ)) QueryError
+    → Result (List (List ℕ)) QueryError
 unless_stated None answer = answer
 unless_stated (Some targets) answer = Ok targets
 
 -- the platform that is given, or else what is said without one
-abbrev pub unless_given : Option (List ℕ) → Result (List (List ℕ)) QueryError → Result (List (List ℕ)) QueryError
+abbrev pub unless_given : Option (List ℕ) → Result (List (List ℕ)) QueryError
+    → Result (List (List ℕ)) QueryError
 unless_given None answer = answer
 unless_given (Some target) answer = Ok (target ∷ [])
 
--- the platforms that are built for: the given one, or else those of the configuration, or else that of the compiler
+-- the platforms that are built for: the given one, or else those of the configuration, or else that of the
+-- compiler
 abbrev pub target_answer : QueryConfig → Option (List ℕ) → Means → Result (List (List ℕ)) QueryError
 target_answer config target means =
-    unless_given target (unless_stated (option_and_then build_targets (configuration_of config)) (one_target (host_answer config means)))
+    unless_given target
+    (unless_stated (option_and_then build_targets (configuration_of config)) (one_target (host_answer config means)))
 
 -- the machine of a platform
 abbrev pub data_answer : QueryConfig → Option (List ℕ) → Option Parts → Means → Result TargetData QueryError
 data_answer config target version means =
-    reading_of_answer (λ text. ok_or (option_map machine_of (spec_of text)) BadSpec) (answer_to means.answers (spec_questions config target version means))
+    reading_of_answer (λ text. ok_or (option_map machine_of (spec_of text)) BadSpec)
+    (answer_to means.answers (spec_questions config target version means))
 
 -- the atoms of an answer, which are none where there is no answer
 abbrev pub atoms_of_answer : Result (List ℕ) QueryError → List CfgAtom

@@ -1,4 +1,5 @@
--- The questions that the tools of a toolchain are asked, in the order in which they are asked: programs, words, directories and variables.
+-- The questions that the tools of a toolchain are asked, in the order in which they are asked: programs,
+-- words, directories and variables.
 use Rattle.std.specs.Prelude.{ℕ, true, false, List, [], ◌∷◌, ◌++◌, Option, Some, None, codes}
 use Rattle.std.specs.Option.{option_map_or}
 use Rattle.base_values.specs.Version.{Parts}
@@ -33,12 +34,14 @@ target_words target = option_words (codes "--target") target
 
 -- which platform the compiler runs on
 unfoldable pub host_questions : QueryConfig → Means → Questions
-host_questions config means = one_question (question (toolchain_of config) rustc (dir_of config) (codes "-vV" ∷ []) means)
+host_questions config means =
+    one_question (question (toolchain_of config) rustc (dir_of config) (codes "-vV" ∷ []) means)
 
 -- which version a tool is of
 unfoldable pub version_questions : QueryConfig → Means → Questions
 version_questions config means =
-    one_question (question (toolchain_of config) (tool_of config) (dir_of config) (codes "--version" ∷ []) means)
+    one_question
+    (question (toolchain_of config) (tool_of config) (dir_of config) (codes "--version" ∷ []) means)
 
 -- the words that ask cargo for the atoms of a platform
 abbrev pub cargo_cfg_words : Option (List ℕ) → List (List ℕ)
@@ -51,7 +54,8 @@ cargo_cfg_words target =
 abbrev pub rustc_cfg_words : Option (List ℕ) → List (List ℕ)
 rustc_cfg_words target = (codes "--print" ∷ codes "cfg" ∷ codes "-O" ∷ []) ++ target_words target
 
--- which atoms hold for a platform, or for that of the configuration; cargo takes the options of a nightly for this question
+-- which atoms hold for a platform, or for that of the configuration; cargo takes the options of a nightly for
+-- this question
 unfoldable pub cfg_questions : QueryConfig → Option (List ℕ) → Means → Questions
 cfg_questions config target means =
     in_turn config
@@ -69,7 +73,8 @@ cargo_spec_words target version =
 -- the words that ask the compiler for it
 abbrev pub rustc_spec_words : Option (List ℕ) → List (List ℕ)
 rustc_spec_words target =
-    (codes "-Z" ∷ codes "unstable-options" ∷ codes "--print" ∷ codes "target-spec-json" ∷ []) ++ target_words target
+    (codes "-Z" ∷ codes "unstable-options" ∷ codes "--print" ∷ codes "target-spec-json" ∷ [])
+    ++ target_words target
 
 -- a question that a stable compiler answers too
 abbrev pub with_bootstrap : CommandLine → CommandLine

@@ -1,4 +1,5 @@
--- What a compiler's specification of a platform says of it, as `rustc --print target-spec-json` prints it. Other members are ignored.
+-- What a compiler's specification of a platform says of it, as `rustc --print target-spec-json` prints it.
+-- Other members are ignored.
 use Rattle.std.specs.Prelude.{ℕ, if◌then◌else◌, bytes_eq, List, codes, Option, Ok}
 use Rattle.std.specs.Result.{result_ok}
 use Rattle.serde_json.specs.Data.{Data}

@@ -69,8 +69,10 @@ create_or_modify false bytes hash = Modify bytes hash
 abbrev pub net_change : List Change → Option Change
 net_change [] = None
 net_change (Delete ∷ changes) = Some Delete
-net_change (Create bytes hash ∷ changes) = Some (create_or_modify (is_new (Create bytes hash ∷ changes)) bytes hash)
-net_change (Modify bytes hash ∷ changes) = Some (create_or_modify (is_new (Modify bytes hash ∷ changes)) bytes hash)
+net_change (Create bytes hash ∷ changes) =
+    Some (create_or_modify (is_new (Create bytes hash ∷ changes)) bytes hash)
+net_change (Modify bytes hash ∷ changes) =
+    Some (create_or_modify (is_new (Modify bytes hash ∷ changes)) bytes hash)
 
 -- the files that calls changed, in order of first change; the calls stand newest first
 abbrev pub files_of_calls : List ChangedFile → List ℕ
@@ -81,10 +83,12 @@ files_of_calls (call ∷ calls) = with_item nat_eq call.file_id (files_of_calls 
 abbrev pub changed_file : ℕ → Change → ChangedFile
 changed_file file change = record { file_id = file; change = change }
 
--- the batch of calls that answered true, newest first: each changed file has one change, in order of first change
+-- the batch of calls that answered true, newest first: each changed file has one change, in order of first
+-- change
 pub record IsBatch (batch : List (ℕ × ChangedFile)) (calls : List ChangedFile) : Type 0 where
   pub order : keys_of batch ≡ files_of_calls calls
-  pub changes : (file : ℕ) → lookup (nat_eq file) batch ≡ option_map (changed_file file) (net_change (changes_of file calls))
+  pub changes : (file : ℕ)
+      → lookup (nat_eq file) batch ≡ option_map (changed_file file) (net_change (changes_of file calls))
 
 -- calls, with one more where it changed its file
 abbrev pub with_call : Option ChangedFile → List ChangedFile → List ChangedFile
@@ -110,7 +114,8 @@ kind_in batch file = option_map (λ call. kind_of_change call.change) (lookup (n
 
 -- a batch, with one more change of a file
 abbrev pub with_change : List (ℕ × ChangedFile) → ℕ → Change → List (ℕ × ChangedFile)
-with_change batch file change = insert_entry nat_eq batch file (changed_file file (merged_change (kind_in batch file) change))
+with_change batch file change =
+    insert_entry nat_eq batch file (changed_file file (merged_change (kind_in batch file) change))
 
 -- a batch, with one more call where it changed its file
 abbrev pub with_changed_file : Option ChangedFile → List (ℕ × ChangedFile) → List (ℕ × ChangedFile)

@@ -1,4 +1,5 @@
--- What the calls of the file system do to paths and states, and to the marks, the calls and the texts that are followed.
+-- What the calls of the file system do to paths and states, and to the marks, the calls and the texts that
+-- are followed.
 use Rattle.std.specs.Prelude.{◌≡◌, ℕ, List, [], Option}
 use Rattle.vfs_core.specs.Files.{Files, Excludes, Gathers, KeepsMarks, KeepsNumbers, SetsState, TakesCall, TakesMark, TakesOut, paths_of}
 use Rattle.vfs_core.specs.Marks.{with_path}

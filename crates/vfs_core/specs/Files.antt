@@ -1,5 +1,5 @@
--- What contracts see of the file system: the limit, each path with its state, in order of first mention, and the batch.
--- The position of a path in that order is its number.
+-- What contracts see of the file system: the limit, each path with its state, in order of first mention, and
+-- the batch. The position of a path in that order is its number.
 use Rattle.std.specs.Prelude.{◌≡◌, ℕ, ◌+◌, ◌≤◌, Bool, List, [], ◌∷◌, Option, Some, None, length, map, position, slice_get, if◌then◌else◌}
 use Rattle.std.specs.Option.{option_map, option_and_then, unwrap_or}
 use Rattle.std.specs.List.{IsDistinct, position_or_len}
@@ -86,7 +86,8 @@ bytes_of contents = option_map (λ bytes. bytes.items) contents
 -- one path has the state that contents make of it, each other path what it had
 abbrev pub SetsState : Files → Files → PathContent → Option (List ℕ) → Type 0
 SetsState old new path contents = (each_path : PathContent) → entry_state new each_path
-    ≡ (if vfs_path_eq path each_path then Some (state_after (state_at old path) contents) else entry_state old each_path)
+    ≡ (if vfs_path_eq path each_path then Some (state_after (state_at old path) contents)
+    else entry_state old each_path)
 
 -- one path is left out, each other path has the state that it had
 abbrev pub Excludes : Files → Files → PathContent → Type 0
@@ -166,7 +167,8 @@ abbrev pub ListsLive : Files → List (ℕ × PathContent) → Type 0
 ListsLive files listed = (marks : List Mark)
     → Follows files marks → map (λ file. file.1) listed ≡ live_paths marks
 
--- the batch is what these calls made, newest first: those that answered true since the changes were last taken
+-- the batch is what these calls made, newest first: those that answered true since the changes were last
+-- taken
 abbrev pub Gathers : Files → List ChangedFile → Type 0
 Gathers files calls = IsBatch files.batch calls
 

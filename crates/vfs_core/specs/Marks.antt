@@ -77,7 +77,8 @@ live_text_after (Text text) was_out before = if was_out then None else Some (mer
 -- one more mark: its own path has what it says, each other what it had
 abbrev pub LivesNext : Mark → List Mark → PathContent → Type 0
 LivesNext mark marks path = live_text (mark ∷ marks) path
-    ≡ (if vfs_path_eq path mark.path then live_text_after mark.kind (is_out marks path) (live_text marks path) else live_text marks path)
+    ≡ (if vfs_path_eq path mark.path then live_text_after mark.kind (is_out marks path) (live_text marks path)
+    else live_text marks path)
 
 -- paths, with one more where it is not among them
 abbrev pub with_path : PathContent → List PathContent → List PathContent

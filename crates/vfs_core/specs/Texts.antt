@@ -1,4 +1,5 @@
--- What the batch makes of contents that were known before it: those that live, where each batch was taken in its turn.
+-- What the batch makes of contents that were known before it: those that live, where each batch was taken in
+-- its turn.
 use Rattle.std.specs.Prelude.{◌≡◌, ℕ, Bool, true, List, ◌∷◌, Option, Some, None, nat_eq}
 use Rattle.std.specs.List.{list_all}
 use Rattle.std.specs.Map.{lookup}

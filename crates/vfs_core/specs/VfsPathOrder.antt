@@ -1,4 +1,5 @@
--- The laws of the comparisons of paths: equal is one and the same, the order is total and ties where they are equal.
+-- The laws of the comparisons of paths: equal is one and the same, the order is total and ties where they are
+-- equal.
 use Rattle.std.specs.Prelude.{◌≡◌, ℕ, Bool, true, false, ◌&&◌, List, nat_eq}
 use Rattle.std.proofs.Common.{refl, sym, ◌∙◌, ap, subst, true≢false}
 use Rattle.std.specs.Bool.{beq, one_answer}
@@ -24,11 +25,13 @@ same_parts x y kind text = λ i. record { is_virtual = kind i; text = text i }
 pub vfs_path_eq-same : (x y : PathContent) → vfs_path_eq x y ≡ true → x ≡ y
 vfs_path_eq-same x y h =
     let parts = both (beq x.is_virtual y.is_virtual) (pointwise nat_eq x.text y.text) h in
-    same_parts x y ((booleans_Decides x.is_virtual y.is_virtual).0 parts.0) ((bytes_decides x.text y.text).0 parts.1)
+    same_parts x y ((booleans_Decides x.is_virtual y.is_virtual).0 parts.0)
+    ((bytes_decides x.text y.text).0 parts.1)
 
 -- equality of paths is an equivalence
 pub vfs_path_equiv : IsEquivalence vfs_path_eq
-vfs_path_equiv = and_equiv (on_equiv (λ p. p.is_virtual) bool_eq_equiv) (on_equiv (λ p. p.text) nat_list_eq_equiv)
+vfs_path_equiv =
+    and_equiv (on_equiv (λ p. p.is_virtual) bool_eq_equiv) (on_equiv (λ p. p.text) nat_list_eq_equiv)
 
 -- the order is total
 pub vfs_path_cmp_total : IsTotalOrder vfs_path_cmp
@@ -36,7 +39,8 @@ vfs_path_cmp_total = then_total (on_total (λ p. p.is_virtual) bool_cmp_total)
     (then_total (on_total real_parts (lists_total nat_list_cmp_total)) (on_total (λ p. p.text) nat_list_cmp_total))
 
 -- a chain of three ties where its first and its last do
-tied_ends : (a b c : Ordering) → is_eq (ordering_then a (ordering_then b c)) ≡ true → (is_eq a ≡ true) × (is_eq c ≡ true)
+tied_ends : (a b c : Ordering) → is_eq (ordering_then a (ordering_then b c)) ≡ true
+    → (is_eq a ≡ true) × (is_eq c ≡ true)
 tied_ends Less b c h = absurd (true≢false (sym h))
 tied_ends Equal Less c h = absurd (true≢false (sym h))
 tied_ends Equal Equal c h = (refl, h)
@@ -55,13 +59,17 @@ tied_paths : (x y : PathContent) → eq_by_cmp vfs_path_cmp x y ≡ true → x �
 tied_paths x y h =
     let ends = tied_ends (bool_cmp x.is_virtual y.is_virtual) (slice_cmp (slice_cmp nat_cmp) (real_parts x) (real_parts y))
     (slice_cmp nat_cmp x.text y.text) h in
-    same_parts x y (tied_bools x.is_virtual y.is_virtual ends.0) ((bytes_decides x.text y.text).0 (texts_ties x.text y.text ∙ ends.1))
+    same_parts x y (tied_bools x.is_virtual y.is_virtual ends.0)
+    ((bytes_decides x.text y.text).0 (texts_ties x.text y.text ∙ ends.1))
 
 -- paths tie exactly where they are equal
 pub vfs_path_ties : (x y : PathContent) → vfs_path_eq x y ≡ eq_by_cmp vfs_path_cmp x y
 vfs_path_ties x y = one_answer (vfs_path_eq x y) (eq_by_cmp vfs_path_cmp x y)
-    (vfs_path_eq-same x y, λ (e : x ≡ y). subst (λ p. vfs_path_eq x p ≡ true) e (vfs_path_equiv.refl x))
-    (tied_paths x y, λ (e : x ≡ y). subst (λ p. eq_by_cmp vfs_path_cmp x p ≡ true) e (ap is_eq (tied_itself vfs_path_cmp_total x)))
+    (vfs_path_eq-same x y, λ (e : x ≡ y). subst (λ p. vfs_path_eq x p ≡ true) e (vfs_path_equiv.refl x)) (
+      tied_paths x y,
+      λ (e : x ≡ y). subst (λ p. eq_by_cmp vfs_path_cmp x p
+          ≡ true) e (ap is_eq (tied_itself vfs_path_cmp_total x)),
+    )
 
 -- the partial order answers as the total one
 pub vfs_path_po : IsPartialOrder vfs_path_eq (as_partial_cmp vfs_path_cmp)

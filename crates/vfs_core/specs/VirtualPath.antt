@@ -17,7 +17,8 @@ climb base [] = Some (base, [])
 climb base (a ∷ []) = Some (base, a ∷ [])
 climb base (a ∷ b ∷ []) = Some (base, a ∷ b ∷ [])
 climb base (a ∷ b ∷ c ∷ rest) =
-    if bytes_eq (a ∷ b ∷ c ∷ []) (codes "../") then option_and_then (λ above. climb above rest) (virtual_parent base)
+    if bytes_eq (a ∷ b ∷ c
+    ∷ []) (codes "../") then option_and_then (λ above. climb above rest) (virtual_parent base)
     else Some (base, a ∷ b ∷ c ∷ rest)
 
 -- a tail without each leading `./`
@@ -32,7 +33,8 @@ virtual_joined base tail = option_map (λ parts. parts.0 ++ 47 ∷ without_dots 
 
 -- a text without one slash at its end
 unfoldable pub without_end_slash : List ℕ → List ℕ
-without_end_slash text = if slice_index text (length text - 1) == 47 then take (length text - 1) text else text
+without_end_slash text =
+    if slice_index text (length text - 1) == 47 then take (length text - 1) text else text
 
 -- what follows the last slash, or the whole text where there is none
 unfoldable pub last_name : List ℕ → List ℕ
@@ -73,7 +75,8 @@ text_behind text count = join_with_byte 47 (parts_behind (slice_split is_slash t
 -- what follows the components of a front, where they come first: from the next component to the last
 unfoldable pub virtual_rest : List ℕ → List ℕ → Option (List ℕ)
 virtual_rest front text =
-    if is_text_prefix front text then Some (trim_back (trim_front (text_behind text (length (components front))))) else None
+    if is_text_prefix front text then Some (trim_back (trim_front (text_behind text (length (components front)))))
+    else None
 
 -- the texts of two borrowed parts
 abbrev pub both_texts : Bor (List ℕ) × Bor (List ℕ) → List ℕ × List ℕ

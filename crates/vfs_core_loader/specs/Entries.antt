@@ -1,4 +1,5 @@
--- Which files and directories an entry of a loader's configuration holds: the rules of the doc comments of `Directories`.
+-- Which files and directories an entry of a loader's configuration holds: the rules of the doc comments of
+-- `Directories`.
 use Rattle.std.specs.Prelude.{◌≡◌, ℕ, true, List, [], ◌∷◌, IsTrue, Option, Some, None, if◌then◌else◌, codes, map}
 use Rattle.std.specs.List.{All, Contains, list_any}
 use Rattle.std.specs.Option.{option_and_then, unwrap_or}
@@ -22,11 +23,15 @@ pub record IsLongest (directories : List (List ℕ)) (path longest : List ℕ) :
 -- the longer of two directories above one path, the second where there is no first
 abbrev pub longer : Option (List ℕ) → List ℕ → List ℕ
 longer None directory = directory
-longer (Some longest) directory = if is_prefix (components longest) (components directory) then directory else longest
+longer (Some longest) directory =
+    if is_prefix (components longest) (components directory) then directory else longest
 
--- a path is included where it lies below an include, and below no exclude that lies below the longest such include
+-- a path is included where it lies below an include, and below no exclude that lies below the longest such
+-- include
 abbrev pub IsIncluded : Directories → List ℕ → Type 0
-IsIncluded directories path = (longest : List ℕ) × IsLongest directories.include path longest × All (λ exclude. IsBelow path exclude → ¬ (IsBelow exclude longest)) directories.exclude
+IsIncluded directories path =
+    (longest : List ℕ) × IsLongest directories.include path longest
+    × All (λ exclude. IsBelow path exclude → ¬ (IsBelow exclude longest)) directories.exclude
 
 -- the extension of a path's file name, empty where there is none
 abbrev pub extension_or_empty : List ℕ → List ℕ
@@ -34,7 +39,8 @@ extension_or_empty path = unwrap_or (option_and_then extension_of (file_name pat
 
 -- a file is held where its path is included and its extension is listed
 abbrev pub HoldsFile : Directories → List ℕ → Type 0
-HoldsFile directories path = Contains directories.extensions (extension_or_empty path) × IsIncluded directories path
+HoldsFile directories path =
+    Contains directories.extensions (extension_or_empty path) × IsIncluded directories path
 
 -- an entry of files holds these alone, by their components; one of directories holds what those hold
 abbrev pub EntryHoldsFile : Entry → List ℕ → Type 0
@@ -48,4 +54,11 @@ EntryHoldsDirectory (entry.Directories directories) path = IsIncluded directorie
 
 -- the Rust files below a directory, but for those below some directories in it
 abbrev pub rust_files_below : List ℕ → List (List ℕ) → Entry
-rust_files_below base excludes = entry.Directories (record { extensions = codes "rs" ∷ []; include = base ∷ []; exclude = map (λ tail. path_text (components_with_tail base tail)) excludes })
+rust_files_below base excludes =
+    entry.Directories
+    (record {
+      extensions = codes "rs" ∷ [];
+      include = base
+          ∷ [];
+      exclude = map (λ tail. path_text (components_with_tail base tail)) excludes;
+    })

@@ -1,5 +1,6 @@
--- The roots that files are placed by, and the source roots that their files become: one for each, in order, and one for the files that fit
--- none of them. From the way in which rust-analyzer makes source roots of a project's roots.
+-- The roots that files are placed by, and the source roots that their files become: one for each, in order,
+-- and one for the files that fit none of them. From the way in which rust-analyzer makes source roots of a
+-- project's roots.
 use Rattle.std.specs.Prelude.{ℕ, ◌+◌, Bool, true, List, map, length, slice_get}
 use Rattle.std.specs.List.{range_with_len}
 use Rattle.std.specs.Option.{option_map_or}

@@ -1,4 +1,5 @@
--- What contracts see of a set of files: the file of each path, and the path of each file in order of first insertion.
+-- What contracts see of a set of files: the file of each path, and the path of each file in order of first
+-- insertion.
 use Rattle.std.specs.Prelude.{ℕ, Bool, List, [], Option, Some, nat_eq, if◌then◌else◌}
 use Rattle.std.specs.Cmp.{and_equiv, nat_eq_equiv, on_equiv, IsEquivalence}
 use Rattle.std.specs.Cmp.Lexicographic.{lists_equiv, pointwise}
@@ -53,18 +54,21 @@ path_of set file = lookup (nat_eq file) set.paths
 -- a path without its last component, or what it is where it has none
 abbrev pub directory : PathContent → PathContent
 directory path =
-    if path.is_virtual then virtual (unwrap_or (virtual_parent path.text) path.text) else real (path_text (parts_above path))
+    if path.is_virtual then virtual (unwrap_or (virtual_parent path.text) path.text)
+    else real (path_text (parts_above path))
 
 -- a path joined with a tail, where a virtual one has as many components as the tail pops
 abbrev pub joined_path : PathContent → List ℕ → Option PathContent
 joined_path path tail =
-    if path.is_virtual then option_map virtual (virtual_joined path.text tail) else Some (real_joined path tail)
+    if path.is_virtual then option_map virtual (virtual_joined path.text tail)
+    else Some (real_joined path tail)
 
 -- what stands beside a path: its directory joined with a tail
 abbrev pub sibling_path : PathContent → List ℕ → Option PathContent
 sibling_path path tail = joined_path (directory path) tail
 
--- the file beside one of the set: none exactly where that one has no path here, the join is none, or no file is there
+-- the file beside one of the set: none exactly where that one has no path here, the join is none, or no file
+-- is there
 abbrev pub resolved_file : FileSetContent → ℕ → List ℕ → Option ℕ
 resolved_file set anchor tail =
     option_and_then (λ path. option_and_then (file_at set) (sibling_path path tail)) (path_of set anchor)

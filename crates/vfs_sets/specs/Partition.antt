@@ -10,7 +10,8 @@ abbrev pub files_of_set : List (List PathContent) → ℕ → List (ℕ × PathC
 files_of_set roots number files = filter (λ file. place_of roots file.1 == number) files
 
 -- one set for each list of roots and one more, each of the files whose place it is
-pub record IsPartition (roots : List (List PathContent)) (files : List (ℕ × PathContent)) (sets : List FileSetContent) : Type 0 where
+pub record IsPartition (roots : List (List PathContent)) (files : List (ℕ × PathContent))
+    (sets : List FileSetContent) : Type 0 where
   pub count : length sets ≡ length roots + 1
   pub each : (number : ℕ) (none : FileSetContent) → number < length sets
       → slice_index_or sets number none ≡ set_of (files_of_set roots number files)
@@ -23,6 +24,7 @@ pub record AreEmpty (sets : List FileSetContent) (count : ℕ) : Type 0 where
 -- one set has a file more, each other set what it had
 pub record HasPut (old new : List FileSetContent) (place file : ℕ) (path : PathContent) : Type 0 where
   pub length_is : length new ≡ length old
-  pub own : (none : FileSetContent) → slice_index_or new place none ≡ with_set_file (slice_index_or old place none) file path
+  pub own : (none : FileSetContent)
+      → slice_index_or new place none ≡ with_set_file (slice_index_or old place none) file path
   pub others : (number : ℕ) (none : FileSetContent) → (number ≡ place → ⊥)
       → slice_index_or new number none ≡ slice_index_or old number none

@@ -1,5 +1,5 @@
--- Which set takes a path: of the roots whose encoding begins that of the path's directory, the longest, and of these the least
--- set.
+-- Which set takes a path: of the roots whose encoding begins that of the path's directory, the longest, and
+-- of these the least set.
 -- From the documentation of the file system's partition into sets.
 use Rattle.std.specs.Prelude.{◌≡◌, ◌≤◌, ℕ, ◌+◌, ◌&&◌, ◌==◌, Bool, List, [], ◌∷◌, Option, Some, None, Contains, IsTrue, length, max}
 use Rattle.std.specs.Prelude.{nat_eq, nat_le, nat_lt, slice_index_or, if◌then◌else◌}
@@ -21,7 +21,8 @@ abbrev pub fits_path : PathContent → PathContent → Bool
 fits_path root path = beq root.is_virtual path.is_virtual && starts_with nat_eq (placed_text path) root.text
 
 -- a root of a set fits a path
-pub record IsFit (sets : List (List PathContent)) (path : PathContent) (number : ℕ) (root : PathContent) : Type 0 where
+pub record IsFit (sets : List (List PathContent)) (path : PathContent) (number : ℕ) (root : PathContent)
+    : Type 0 where
   pub own : Contains (slice_index_or sets number []) root
   pub begins : IsTrue (fits_path root path)
 
@@ -56,7 +57,9 @@ longest_reach_of_all (roots ∷ sets) path = max (longest_reach roots path) (lon
 
 -- a set takes a path where a root of it fits and no set behind it has a longer one
 abbrev pub takes_path : List PathContent → List (List PathContent) → PathContent → Bool
-takes_path roots behind path = nat_lt 0 (longest_reach roots path) && nat_le (longest_reach_of_all behind path) (longest_reach roots path)
+takes_path roots behind path =
+    nat_lt 0 (longest_reach roots path)
+    && nat_le (longest_reach_of_all behind path) (longest_reach roots path)
 
 -- the first set that takes a path, or the number of sets
 abbrev pub place_of : List (List PathContent) → PathContent → ℕ

@@ -1,5 +1,5 @@
--- How often a count is raised while paths are placed: once for each prefix of the text by which a path is placed that is tried,
--- down to the longest root that fits, or through all of them where none does.
+-- How often a count is raised while paths are placed: once for each prefix of the text by which a path is
+-- placed that is tried, down to the longest root that fits, or through all of them where none does.
 use Rattle.std.specs.Prelude.{◌≡◌, ◌≤◌, ◌+◌, ℕ, zero, suc, List, [], ◌∷◌, ◌++◌, length, nat_le}
 use Rattle.std.specs.List.{filter}
 use Rattle.base_text_outside.specs.Causes.{next_count}
@@ -22,7 +22,8 @@ abbrev pub numbers_down : ℕ → List ℕ
 numbers_down zero = 0 ∷ []
 numbers_down (suc number) = suc number ∷ numbers_down number
 
--- the lengths of the prefixes of a text that are tried: the whole text first, one byte less each time, the empty prefix last
+-- the lengths of the prefixes of a text that are tried: the whole text first, one byte less each time, the
+-- empty prefix last
 abbrev pub prefixes_tried : List ℕ → List ℕ
 prefixes_tried text = numbers_down (length text)
 
@@ -31,7 +32,8 @@ abbrev pub tries_down_to : ℕ → List ℕ → ℕ
 tries_down_to size text = length (filter (nat_le size) (prefixes_tried text))
 
 -- a root of a set fits a path, and none that fits is longer
-pub record IsLongestFit (sets : List (List PathContent)) (path : PathContent) (number : ℕ) (root : PathContent) : Type 0 where
+pub record IsLongestFit (sets : List (List PathContent)) (path : PathContent) (number : ℕ)
+    (root : PathContent) : Type 0 where
   pub own : IsFit sets path number root
   pub longest : (other : ℕ) (rival : PathContent)
       → IsFit sets path other rival → length rival.text ≤ length root.text
@@ -56,12 +58,14 @@ most_probes [] = 0
 most_probes (file ∷ files) = length (prefixes_tried (placed_text file.1)) + most_probes files
 
 -- files were placed, and each probe was counted
-pub record CountsPlacing (sets : List (List PathContent)) (files : List (ℕ × PathContent)) (before now : ℕ) : Type 0 where
+pub record CountsPlacing (sets : List (List PathContent)) (files : List (ℕ × PathContent)) (before now : ℕ)
+    : Type 0 where
   pub each : CountsFiles sets files before now
   pub at_most : now ≤ before + most_probes files
 
 -- the first of some files were placed, up to one of them, and each probe was counted
-pub record CountsFront (sets : List (List PathContent)) (files : List (ℕ × PathContent)) (before now : ℕ) : Type 0 where
+pub record CountsFront (sets : List (List PathContent)) (files : List (ℕ × PathContent)) (before now : ℕ)
+    : Type 0 where
   pub placed : List (ℕ × PathContent)
   pub left : List (ℕ × PathContent)
   pub all : placed ++ left ≡ files

@@ -1,5 +1,5 @@
--- The roots of one kind by their texts, each text with the least set that has a root of it, and the longest prefix of a text
--- that stands among them.
+-- The roots of one kind by their texts, each text with the least set that has a root of it, and the longest
+-- prefix of a text that stands among them.
 -- From the documentation of the file system's partition into sets.
 use Rattle.std.specs.Prelude.{◌≡◌, ◌<◌, ◌&&◌, ℕ, Bool, true, false, List, [], ◌∷◌, Option, None, Some, Contains, length, max, take, if◌then◌else◌}
 use Rattle.std.specs.Bool.{beq}
@@ -37,26 +37,33 @@ abbrev pub HasTextsUpTo : {Z : Type 0} → ℕ → List (Vec ℕ Z × ℕ) → T
 HasTextsUpTo longest entries = (text : List ℕ) → longest < length text → number_by_text text entries ≡ None
 
 -- beside each text stands the first set with a root of the kind and that text, where there is one
-pub record MapsRoots {Z : Type 0} (kind : Bool) (sets : List (List PathContent)) (entries : List (Vec ℕ Z × ℕ)) : Type 0 where
+pub record MapsRoots {Z : Type 0} (kind : Bool) (sets : List (List PathContent))
+    (entries : List (Vec ℕ Z × ℕ)) : Type 0 where
   pub each : (text : List ℕ) → number_by_text text entries ≡ first_set_of kind text sets
 
 -- the real and the virtual roots have each a map
-pub record HasRootMaps {Z : Type 0} (sets : List (List PathContent)) (real_roots virtual_roots : List (Vec ℕ Z × ℕ)) : Type 0 where
+pub record HasRootMaps {Z : Type 0} (sets : List (List PathContent))
+    (real_roots virtual_roots : List (Vec ℕ Z × ℕ)) : Type 0 where
   pub real_are : MapsRoots false sets real_roots
   pub virtual_are : MapsRoots true sets virtual_roots
 
--- a set's number stands beside the text of a root, where that is of a kind, and beside each other text what stood there
-pub record PutsRoot {Z : Type 0} (kind : Bool) (root : PathContent) (number : ℕ) (old new : List (Vec ℕ Z × ℕ)) : Type 0 where
+-- a set's number stands beside the text of a root, where that is of a kind, and beside each other text what
+-- stood there
+pub record PutsRoot {Z : Type 0} (kind : Bool) (root : PathContent) (number : ℕ)
+    (old new : List (Vec ℕ Z × ℕ)) : Type 0 where
   pub each : (text : List ℕ)
       → number_by_text text new ≡ (if is_root_of kind text root then Some number else number_by_text text old)
 
 -- the same of the roots of a set
-pub record PutsRootsOf {Z : Type 0} (kind : Bool) (roots : List PathContent) (number : ℕ) (old new : List (Vec ℕ Z × ℕ)) : Type 0 where
+pub record PutsRootsOf {Z : Type 0} (kind : Bool) (roots : List PathContent) (number : ℕ)
+    (old new : List (Vec ℕ Z × ℕ)) : Type 0 where
   pub each : (text : List ℕ)
-      → number_by_text text new ≡ (if list_any (is_root_of kind text) roots then Some number else number_by_text text old)
+      → number_by_text text new
+      ≡ (if list_any (is_root_of kind text) roots then Some number else number_by_text text old)
 
 -- a number stands beside the longest prefix tried that has one, and each prefix down to that one was counted
-pub record IsOfLongestPrefix {Z : Type 0} (entries : List (Vec ℕ Z × ℕ)) (text : List ℕ) (number before now : ℕ) : Type 0 where
+pub record IsOfLongestPrefix {Z : Type 0} (entries : List (Vec ℕ Z × ℕ)) (text : List ℕ)
+    (number before now : ℕ) : Type 0 where
   pub size : ℕ
   pub counts : now ≡ raised_by (tries_down_to size text) before
   pub tried : Contains (prefixes_tried text) size
@@ -65,6 +72,7 @@ pub record IsOfLongestPrefix {Z : Type 0} (entries : List (Vec ℕ Z × ℕ)) (t
       → number_by_text (take longer text) entries ≡ None
 
 -- no prefix tried has a number, and each was counted
-pub record HasNoPrefix {Z : Type 0} (entries : List (Vec ℕ Z × ℕ)) (text : List ℕ) (before now : ℕ) : Type 0 where
+pub record HasNoPrefix {Z : Type 0} (entries : List (Vec ℕ Z × ℕ)) (text : List ℕ) (before now : ℕ)
+    : Type 0 where
   pub counts : now ≡ raised_by (length (prefixes_tried text)) before
   pub none : (size : ℕ) → Contains (prefixes_tried text) size → number_by_text (take size text) entries ≡ None

@@ -1,5 +1,5 @@
--- The roots of sets by their encodings, in byte order: each encoding once, with the least set that has a root of it.
--- From the documentation of the file system's partition into sets.
+-- The roots of sets by their encodings, in byte order: each encoding once, with the least set that has a root
+-- of it. From the documentation of the file system's partition into sets.
 use Rattle.std.specs.Prelude.{◌≡◌, ℕ, Bool, List, Option, Some, if◌then◌else◌}
 use Rattle.std.specs.Cmp.Lexicographic.{slice_cmp}
 use Rattle.std.specs.List.{list_any, position_from}
@@ -27,7 +27,8 @@ pub record AreRoots (sets : List (List PathContent)) (pairs : List (List ℕ × 
   pub ascending : IsStrictlySortedBy (slice_cmp nat_cmp) (keys_of pairs)
   pub each : (bytes : List ℕ) → number_beside bytes pairs ≡ first_with bytes sets
 
--- a set's number stands beside the encoding of each of its roots, and beside each other encoding what stood there
+-- a set's number stands beside the encoding of each of its roots, and beside each other encoding what stood
+-- there
 pub record PutsRoots (old new : List (List ℕ × ℕ)) (roots : List PathContent) (number : ℕ) : Type 0 where
   pub each : (bytes : List ℕ)
       → number_beside bytes new ≡ (if has_encoding bytes roots then Some number else number_beside bytes old)

@@ -16,9 +16,12 @@ pub record IsFreeOf (set : FileSetContent) (file : ℕ) (path : PathContent) : T
 
 -- whether entries are equal, by their keys and by their values
 abbrev pub entries_eq : {K V : Type 0} → (K → K → Bool) → (V → V → Bool) → List (K × V) → List (K × V) → Bool
-entries_eq key_eq value_eq = pointwise (eq_of_both (on (λ entry. entry.0) key_eq) (on (λ entry. entry.1) value_eq))
+entries_eq key_eq value_eq =
+    pointwise (eq_of_both (on (λ entry. entry.0) key_eq) (on (λ entry. entry.1) value_eq))
 
--- entries equal others that begin with an entry where the next one is that entry, and those after it equal the rest
-pub record ComparesNext {K V : Type 0} (key_eq : K → K → Bool) (value_eq : V → V → Bool) (old new : List (K × V)) (next : (K × V) × Bool) : Type 0 where
+-- entries equal others that begin with an entry where the next one is that entry, and those after it equal
+-- the rest
+pub record ComparesNext {K V : Type 0} (key_eq : K → K → Bool) (value_eq : V → V → Bool)
+    (old new : List (K × V)) (next : (K × V) × Bool) : Type 0 where
   pub each : (rest : List (K × V))
       → entries_eq key_eq value_eq old (next.0 ∷ rest) ≡ (next.1 && entries_eq key_eq value_eq new rest)

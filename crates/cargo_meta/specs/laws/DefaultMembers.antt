@@ -8,5 +8,7 @@ use Rattle.cargo_meta_values.specs.Names.{package_id_at, package_id_data}
 use Rattle.cargo_meta_values.specs.laws.Names.{package_id-round_trips}
 
 -- the default members: a list, or none
-pub default_members-round_trips : RoundTrips (option_at (list_at package_id_at)) (option_data (list_data package_id_data)) 0
-default_members-round_trips = option-round_trips _ _ _ (list-round_trips _ _ _ package_id-round_trips) (λ x. refl)
+pub default_members-round_trips :
+    RoundTrips (option_at (list_at package_id_at)) (option_data (list_data package_id_data)) 0
+default_members-round_trips =
+    option-round_trips _ _ _ (list-round_trips _ _ _ package_id-round_trips) (λ x. refl)

@@ -17,7 +17,9 @@ use Rattle.cargo_meta_values.specs.laws.Resolve.{resolve-round_trips}
 
 -- no default members are left out, and read as none
 none-or_not : (ids : Option (List PackageId))
-    → cond {A = Reading (Option (List PackageId))} (is_null (option_data (list_data package_id_data) ids)) (Ok None) (Ok ids) ≡ Ok ids
+    → cond {A = Reading (Option (List PackageId))} (is_null (option_data (list_data package_id_data) ids))
+    (Ok None) (Ok ids)
+    ≡ Ok ids
 none-or_not None = refl
 none-or_not (Some ids) = refl
 
@@ -28,14 +30,30 @@ metadata-round_trips = table-round_trips _ metadata_data 7 λ ms.
     let n = max 6 (members_depth ms) in
     let within : AreWithin n ms = record { within = omega arith } in
     let none : 0 ≤ n = omega arith in
-    and_then (required_member-kept (list-round_trips _ _ _ package-round_trips) (omega arith) within (codes "packages")) λ packages packages_h.
-    and_then (required_member-kept (list-round_trips _ _ _ package_id-round_trips) none within (codes "workspace_members")) λ workspace_members workspace_members_h.
-    and_then (optional_member-kept (list-round_trips _ _ _ package_id-round_trips) none within (λ x. refl) (codes "workspace_default_members")) λ default_members default_members_h.
-    and_then (optional_member-kept resolve-round_trips (omega arith) within resolve_data-present (codes "resolve")) λ resolve resolve_h.
-    and_then (required_member-kept text-round_trips none within (codes "workspace_root")) λ workspace_root workspace_root_h.
-    and_then (required_member-kept text-round_trips none within (codes "target_directory")) λ target_directory target_directory_h.
-    and_then (optional_member-kept text-round_trips none within (λ x. refl) (codes "build_directory")) λ build_directory build_directory_h.
-    and_then (default_member-kept any-round_trips none within (codes "metadata") null (record { again = refl; clean = λ _. refl; nests = omega arith })) λ workspace_metadata workspace_metadata_h.
+    and_then
+    (required_member-kept (list-round_trips _ _ _ package-round_trips) (omega arith) within (codes "packages"))
+    λ packages packages_h.
+    and_then
+    (required_member-kept (list-round_trips _ _ _ package_id-round_trips) none within (codes "workspace_members"))
+    λ workspace_members workspace_members_h.
+    and_then
+    (optional_member-kept (list-round_trips _ _ _ package_id-round_trips) none within (λ x. refl) (codes "workspace_default_members"))
+    λ default_members default_members_h.
+    and_then
+    (optional_member-kept resolve-round_trips (omega arith) within resolve_data-present (codes "resolve"))
+    λ resolve resolve_h.
+    and_then (required_member-kept text-round_trips none within (codes "workspace_root"))
+    λ workspace_root workspace_root_h.
+    and_then (required_member-kept text-round_trips none within (codes "target_directory"))
+    λ target_directory target_directory_h.
+    and_then (optional_member-kept text-round_trips none within (λ x. refl) (codes "build_directory"))
+    λ build_directory build_directory_h.
+    and_then
+    (default_member-kept any-round_trips none within (codes "metadata") null (record {
+      again = refl;
+      clean = λ _. refl;
+      nests = omega arith;
+    })) λ workspace_metadata workspace_metadata_h.
     and_then (required_member-kept number-round_trips none within (codes "version")) λ version version_h.
     let written =
     set_member-written (codes "version") version_h
@@ -50,7 +68,9 @@ metadata-round_trips = table-round_trips _ metadata_data 7 λ ms.
     (no_members-written _ _)))))))))
     in
     at_last (record {
-      again = simp (required_member-set_member, optional_member-set_member, default_member-set_member, required_member-set_unless_null, optional_member-set_unless_null, default_member-set_unless_null, optional_member-no_members, default_member-no_members, null-or_not)
+      again =
+          simp
+          (required_member-set_member, optional_member-set_member, default_member-set_member, required_member-set_unless_null, optional_member-set_unless_null, default_member-set_unless_null, optional_member-no_members, default_member-no_members, null-or_not)
           (rw (packages_h.again, workspace_members_h.again, default_members_h.again, resolve_h.again, build_directory_h.again, none-or_not default_members));
       clean = written.clean;
       nests = omega (arith, written.nests);

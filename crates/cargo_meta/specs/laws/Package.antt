@@ -21,28 +21,58 @@ use Rattle.cargo_meta_values.specs.laws.Target.{target-round_trips}
 
 -- a package with the first rows of another, and otherwise new
 abbrev with_head : Package → Package
-with_head p = record (new_package p.name p.version p.id []) { authors = p.authors; source = p.source; description = p.description; dependencies = p.dependencies; license = p.license }
+with_head p =
+    record (new_package p.name p.version p.id []) {
+      authors = p.authors;
+      source = p.source;
+      description = p.description;
+      dependencies = p.dependencies;
+      license = p.license;
+    }
 
 -- a package with the next rows of another
 abbrev with_body : Package → Package → Package
-with_body q p = record q { license_file = p.license_file; targets = p.targets; features = p.features; manifest_path = p.manifest_path; categories = p.categories; keywords = p.keywords; readme = p.readme; repository = p.repository }
+with_body q p = record q {
+  license_file = p.license_file;
+  targets = p.targets;
+  features = p.features;
+  manifest_path = p.manifest_path;
+  categories = p.categories;
+  keywords = p.keywords;
+  readme = p.readme;
+  repository = p.repository;
+}
 
 -- a package with the last rows of another
 abbrev with_tail : Package → Package → Package
-with_tail q p = record q { homepage = p.homepage; documentation = p.documentation; edition = p.edition; metadata = p.metadata; links = p.links; publish = p.publish; default_run = p.default_run; rust_version = p.rust_version }
+with_tail q p = record q {
+  homepage = p.homepage;
+  documentation = p.documentation;
+  edition = p.edition;
+  metadata = p.metadata;
+  links = p.links;
+  publish = p.publish;
+  default_run = p.default_run;
+  rust_version = p.rust_version;
+}
 
 -- the rows of one group do not read what another sets
 body_from-head_set : (q p : Package) (ms : Members) → body_from q (package_head_set p ms) ≡ body_from q ms
 unfolding body_from package_head_set
-body_from-head_set q p ms = simp (required_member-set_member, optional_member-set_member, default_member-set_member)
+body_from-head_set q p ms =
+    simp (required_member-set_member, optional_member-set_member, default_member-set_member)
 
-tail_from-head_set : (q p : Package) (ms : Members) → package_tail_from q (package_head_set p ms) ≡ package_tail_from q ms
+tail_from-head_set : (q p : Package) (ms : Members)
+    → package_tail_from q (package_head_set p ms) ≡ package_tail_from q ms
 unfolding package_tail_from package_head_set
-tail_from-head_set q p ms = simp (required_member-set_member, optional_member-set_member, default_member-set_member)
+tail_from-head_set q p ms =
+    simp (required_member-set_member, optional_member-set_member, default_member-set_member)
 
-tail_from-body_set : (q p : Package) (ms : Members) → package_tail_from q (body_set p ms) ≡ package_tail_from q ms
+tail_from-body_set : (q p : Package) (ms : Members)
+    → package_tail_from q (body_set p ms) ≡ package_tail_from q ms
 unfolding package_tail_from body_set
-tail_from-body_set q p ms = simp (required_member-set_member, optional_member-set_member, default_member-set_member)
+tail_from-body_set q p ms =
+    simp (required_member-set_member, optional_member-set_member, default_member-set_member)
 
 -- the rows of each group are kept
 record HeadKept (may_float : Bool) (n : ℕ) (p : Package) : Type 0 where
@@ -67,10 +97,15 @@ module _ (ms : Members) {n : ℕ} (within : AreWithin n ms) (low : 3 ≤ n) (som
       and_then (required_member-kept version-round_trips none within (codes "version")) λ version version_h.
       and_then (list_member-kept text-round_trips none some within (codes "authors")) λ authors authors_h.
       and_then (required_member-kept package_id-round_trips none within (codes "id")) λ id id_h.
-      and_then (optional_member-kept source-round_trips none within (λ x. refl) (codes "source")) λ source source_h.
-      and_then (optional_member-kept text-round_trips none within (λ x. refl) (codes "description")) λ description description_h.
-      and_then (required_member-kept (list-round_trips _ _ _ dependency-round_trips) none within (codes "dependencies")) λ dependencies dependencies_h.
-      and_then (optional_member-kept text-round_trips none within (λ x. refl) (codes "license")) λ license license_h.
+      and_then (optional_member-kept source-round_trips none within (λ x. refl) (codes "source"))
+      λ source source_h.
+      and_then (optional_member-kept text-round_trips none within (λ x. refl) (codes "description"))
+      λ description description_h.
+      and_then
+      (required_member-kept (list-round_trips _ _ _ dependency-round_trips) none within (codes "dependencies"))
+      λ dependencies dependencies_h.
+      and_then (optional_member-kept text-round_trips none within (λ x. refl) (codes "license"))
+      λ license license_h.
       at_last (record {
         again = λ ws. simp (required_member-set_member, optional_member-set_member, default_member-set_member)
             (rw (version_h.again, authors_h.again, source_h.again, description_h.again, dependencies_h.again, license_h.again));
@@ -90,21 +125,32 @@ module _ (ms : Members) {n : ℕ} (within : AreWithin n ms) (low : 3 ≤ n) (som
   unfolding package_head_from
   head-kept = and_then head_rows-kept λ h kept. at_last kept
 
-  body-kept : (h : Package) → HeadKept (members_have_float ms) n h → ReadsAs (body_from h ms) (λ p. HeadKept (members_have_float ms) n p × BodyKept (members_have_float ms) n p)
+  body-kept : (h : Package) → HeadKept (members_have_float ms) n h
+      → ReadsAs (body_from h ms)
+      (λ p. HeadKept (members_have_float ms) n p × BodyKept (members_have_float ms) n p)
   unfolding body_from body_set package_head_set
   body-kept h head =
-      and_then (optional_member-kept text-round_trips none within (λ x. refl) (codes "license_file")) λ license_file license_file_h.
-      and_then (required_member-kept (list-round_trips _ _ _ target-round_trips) low within (codes "targets")) λ targets targets_h.
-      and_then (required_member-kept (map-round_trips _ _ _ (list-round_trips _ _ _ text-round_trips)) none within (codes "features")) λ features features_h.
-      and_then (required_member-kept text-round_trips none within (codes "manifest_path")) λ manifest_path manifest_path_h.
-      and_then (list_member-kept text-round_trips none some within (codes "categories")) λ categories categories_h.
+      and_then (optional_member-kept text-round_trips none within (λ x. refl) (codes "license_file"))
+      λ license_file license_file_h.
+      and_then (required_member-kept (list-round_trips _ _ _ target-round_trips) low within (codes "targets"))
+      λ targets targets_h.
+      and_then
+      (required_member-kept (map-round_trips _ _ _ (list-round_trips _ _ _ text-round_trips)) none within (codes "features"))
+      λ features features_h.
+      and_then (required_member-kept text-round_trips none within (codes "manifest_path"))
+      λ manifest_path manifest_path_h.
+      and_then (list_member-kept text-round_trips none some within (codes "categories"))
+      λ categories categories_h.
       and_then (list_member-kept text-round_trips none some within (codes "keywords")) λ keywords keywords_h.
-      and_then (optional_member-kept text-round_trips none within (λ x. refl) (codes "readme")) λ readme readme_h.
-      and_then (optional_member-kept text-round_trips none within (λ x. refl) (codes "repository")) λ repository repository_h.
+      and_then (optional_member-kept text-round_trips none within (λ x. refl) (codes "readme"))
+      λ readme readme_h.
+      and_then (optional_member-kept text-round_trips none within (λ x. refl) (codes "repository"))
+      λ repository repository_h.
       at_last (
         record { again = head.again; written = head.written },
         record {
-          again = λ q ws. simp (required_member-set_member, optional_member-set_member, default_member-set_member)
+          again =
+              λ q ws. simp (required_member-set_member, optional_member-set_member, default_member-set_member)
               (rw (license_file_h.again, targets_h.again, features_h.again, categories_h.again, keywords_h.again, readme_h.again, repository_h.again));
           written = λ ws before.
               set_member-written (codes "repository") repository_h
@@ -120,22 +166,42 @@ module _ (ms : Members) {n : ℕ} (within : AreWithin n ms) (low : 3 ≤ n) (som
       )
 
   tail-kept : (b : Package) → HeadKept (members_have_float ms) n b → BodyKept (members_have_float ms) n b
-      → ReadsAs (package_tail_from b ms) (λ p. HeadKept (members_have_float ms) n p × BodyKept (members_have_float ms) n p × TailKept (members_have_float ms) n p)
+      → ReadsAs (package_tail_from b ms)
+      (λ p. HeadKept (members_have_float ms) n p × BodyKept (members_have_float ms) n p
+      × TailKept (members_have_float ms) n p)
   unfolding package_tail_from package_tail_set package_head_set body_set edition_of
   tail-kept b head body =
-      and_then (optional_member-kept text-round_trips none within (λ x. refl) (codes "homepage")) λ homepage homepage_h.
-      and_then (optional_member-kept text-round_trips none within (λ x. refl) (codes "documentation")) λ documentation documentation_h.
-      and_then (default_member-kept edition-round_trips none within (codes "edition") E2015 (record { again = refl; clean = λ _. refl; nests = omega arith })) λ edition edition_h.
-      and_then (default_member-kept any-round_trips none within (codes "metadata") null (record { again = refl; clean = λ _. refl; nests = omega arith })) λ metadata metadata_h.
-      and_then (optional_member-kept text-round_trips none within (λ x. refl) (codes "links")) λ links links_h.
-      and_then (optional_member-kept (list-round_trips _ _ _ text-round_trips) none within (λ x. refl) (codes "publish")) λ publish publish_h.
-      and_then (optional_member-kept text-round_trips none within (λ x. refl) (codes "default_run")) λ default_run default_run_h.
-      and_then (optional_member-kept bare-round_trips none within (λ x. refl) (codes "rust_version")) λ rust_version rust_version_h.
+      and_then (optional_member-kept text-round_trips none within (λ x. refl) (codes "homepage"))
+      λ homepage homepage_h.
+      and_then (optional_member-kept text-round_trips none within (λ x. refl) (codes "documentation"))
+      λ documentation documentation_h.
+      and_then
+      (default_member-kept edition-round_trips none within (codes "edition") E2015 (record {
+        again = refl;
+        clean = λ _. refl;
+        nests = omega arith;
+      })) λ edition edition_h.
+      and_then
+      (default_member-kept any-round_trips none within (codes "metadata") null (record {
+        again = refl;
+        clean = λ _. refl;
+        nests = omega arith;
+      })) λ metadata metadata_h.
+      and_then (optional_member-kept text-round_trips none within (λ x. refl) (codes "links"))
+      λ links links_h.
+      and_then
+      (optional_member-kept (list-round_trips _ _ _ text-round_trips) none within (λ x. refl) (codes "publish"))
+      λ publish publish_h.
+      and_then (optional_member-kept text-round_trips none within (λ x. refl) (codes "default_run"))
+      λ default_run default_run_h.
+      and_then (optional_member-kept bare-round_trips none within (λ x. refl) (codes "rust_version"))
+      λ rust_version rust_version_h.
       at_last (
         record { again = head.again; written = head.written },
         record { again = body.again; written = body.written },
         record {
-          again = λ q. simp (required_member-set_member, optional_member-set_member, default_member-set_member, optional_member-set_unless_null, default_member-set_unless_null, default_member-no_members, null-or_not)
+          again =
+              λ q. simp (required_member-set_member, optional_member-set_member, default_member-set_member, optional_member-set_unless_null, default_member-set_unless_null, default_member-no_members, null-or_not)
               (rw (homepage_h.again, documentation_h.again, edition_h.again, links_h.again, publish_h.again, default_run_h.again, rust_version_h.again));
           written = λ ws before.
               set_member-written (codes "rust_version") rust_version_h
@@ -152,23 +218,35 @@ module _ (ms : Members) {n : ℕ} (within : AreWithin n ms) (low : 3 ≤ n) (som
 
 -- a package whose groups are each kept is read again
 package_from-again : (p : Package)
-    → ((ms : Members) → package_head_from (package_head_set p ms) ≡ Ok (with_head p)) → ((q : Package) (ms : Members) → body_from q (body_set p ms) ≡ Ok (with_body q p))
-    → ((q : Package) → package_tail_from q (package_tail_set p no_members) ≡ Ok (with_tail q p)) → package_from (package_members p) ≡ Ok p
+    → ((ms : Members) → package_head_from (package_head_set p ms) ≡ Ok (with_head p))
+    → ((q : Package) (ms : Members) → body_from q (body_set p ms) ≡ Ok (with_body q p))
+    → ((q : Package) → package_tail_from q (package_tail_set p no_members) ≡ Ok (with_tail q p))
+    → package_from (package_members p) ≡ Ok p
 unfolding package_from package_members
 package_from-again p head body tail =
     let last = package_tail_set p no_members in
     let below = body_set p last in
-    let body_read : body_from (with_head p) (package_head_set p below) ≡ Ok (with_body (with_head p) p) = body_from-head_set (with_head p) p below ∙ body (with_head p) last in
+    let body_read : body_from (with_head p) (package_head_set p below) ≡ Ok (with_body (with_head p) p) =
+    body_from-head_set (with_head p) p below ∙ body (with_head p) last in
     let tail_read : package_tail_from (with_body (with_head p) p) (package_head_set p below) ≡ Ok p =
-    tail_from-head_set (with_body (with_head p) p) p below ∙ (tail_from-body_set (with_body (with_head p) p) p last ∙ tail (with_body (with_head p) p)) in
+    tail_from-head_set (with_body (with_head p) p) p below
+    ∙ (tail_from-body_set (with_body (with_head p) p) p last ∙ tail (with_body (with_head p) p)) in
     rw (head below, body_read) tail_read
 
-package-kept : (ms : Members) (p : Package) → HeadKept (members_have_float ms) (max 3 (members_depth ms)) p × BodyKept (members_have_float ms) (max 3 (members_depth ms)) p × TailKept (members_have_float ms) (max 3 (members_depth ms)) p
-    → IsKept (λ d. members_at d >>= package_from) package_data (members_have_float ms) (max 4 (suc (members_depth ms))) p
+package-kept : (ms : Members) (p : Package)
+    → HeadKept (members_have_float ms) (max 3 (members_depth ms)) p
+    × BodyKept (members_have_float ms) (max 3 (members_depth ms)) p
+    × TailKept (members_have_float ms) (max 3 (members_depth ms)) p
+    → IsKept (λ d. members_at d >>= package_from) package_data (members_have_float ms)
+    (max 4 (suc (members_depth ms))) p
 unfolding package_data package_members
 package-kept ms p kept =
     let written = kept.0.written _ (kept.1.written _ (kept.2.written _ (no_members-written _ _))) in
-    record { again = package_from-again p kept.0.again kept.1.again kept.2.again; clean = written.clean; nests = omega (arith, written.nests) }
+    record {
+      again = package_from-again p kept.0.again kept.1.again kept.2.again;
+      clean = written.clean;
+      nests = omega (arith, written.nests);
+    }
 
 -- a package
 pub package-round_trips : RoundTrips package_at package_data 4

@@ -19,15 +19,22 @@ dependency-round_trips = table-round_trips _ dependency_data 0 λ ms.
     let within : AreWithin n ms = record { within = omega arith } in
     let none : 0 ≤ n = omega arith in
     and_then (required_member-kept text-round_trips none within (codes "name")) λ name name_h.
-    and_then (optional_member-kept source-round_trips none within (λ x. refl) (codes "source")) λ source source_h.
+    and_then (optional_member-kept source-round_trips none within (λ x. refl) (codes "source"))
+    λ source source_h.
     and_then (required_member-kept requirement-round_trips none within (codes "req")) λ req req_h.
     and_then (required_member-kept dependency_kind-round_trips none within (codes "kind")) λ kind kind_h.
-    and_then (required_member-kept flag-round_trips none within (codes "optional")) λ optional_flag optional_flag_h.
-    and_then (required_member-kept flag-round_trips none within (codes "uses_default_features")) λ uses_default_features uses_default_features_h.
-    and_then (required_member-kept (list-round_trips _ _ _ text-round_trips) none within (codes "features")) λ features features_h.
-    and_then (optional_member-kept text-round_trips none within (λ x. refl) (codes "target")) λ target target_h.
-    and_then (optional_member-kept text-round_trips none within (λ x. refl) (codes "rename")) λ rename rename_h.
-    and_then (optional_member-kept text-round_trips none within (λ x. refl) (codes "registry")) λ registry registry_h.
+    and_then (required_member-kept flag-round_trips none within (codes "optional"))
+    λ optional_flag optional_flag_h.
+    and_then (required_member-kept flag-round_trips none within (codes "uses_default_features"))
+    λ uses_default_features uses_default_features_h.
+    and_then (required_member-kept (list-round_trips _ _ _ text-round_trips) none within (codes "features"))
+    λ features features_h.
+    and_then (optional_member-kept text-round_trips none within (λ x. refl) (codes "target"))
+    λ target target_h.
+    and_then (optional_member-kept text-round_trips none within (λ x. refl) (codes "rename"))
+    λ rename rename_h.
+    and_then (optional_member-kept text-round_trips none within (λ x. refl) (codes "registry"))
+    λ registry registry_h.
     and_then (optional_member-kept text-round_trips none within (λ x. refl) (codes "path")) λ path path_h.
     let written =
     set_member-written (codes "path") path_h
@@ -44,7 +51,10 @@ dependency-round_trips = table-round_trips _ dependency_data 0 λ ms.
     (no_members-written _ _)))))))))))
     in
     at_last (record {
-      again = rw (source_h.again, req_h.again, dependency_kind-of_text kind kind_h.again, features_h.again, target_h.again, rename_h.again, registry_h.again, path_h.again) refl;
+      again =
+          rw
+          (source_h.again, req_h.again, dependency_kind-of_text kind kind_h.again, features_h.again, target_h.again, rename_h.again, registry_h.again, path_h.again)
+          refl;
       clean = written.clean;
       nests = omega (arith, written.nests);
     })

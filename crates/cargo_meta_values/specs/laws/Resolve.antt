@@ -18,7 +18,8 @@ dep_kind-round_trips = table-round_trips _ dep_kind_data 0 λ ms.
     let within : AreWithin n ms = record { within = omega arith } in
     let none : 0 ≤ n = omega arith in
     and_then (required_member-kept dependency_kind-round_trips none within (codes "kind")) λ kind kind_h.
-    and_then (optional_member-kept text-round_trips none within (λ x. refl) (codes "target")) λ target target_h.
+    and_then (optional_member-kept text-round_trips none within (λ x. refl) (codes "target"))
+    λ target target_h.
     let written =
     set_member-written (codes "target") target_h
     (set_member-written (codes "kind") kind_h
@@ -40,7 +41,8 @@ node_dep-round_trips = table-round_trips _ node_dep_data 2 λ ms.
     let some : 1 ≤ n = omega arith in
     and_then (required_member-kept text-round_trips none within (codes "name")) λ name name_h.
     and_then (required_member-kept package_id-round_trips none within (codes "pkg")) λ pkg pkg_h.
-    and_then (list_member-kept dep_kind-round_trips none some within (codes "dep_kinds")) λ dep_kinds dep_kinds_h.
+    and_then (list_member-kept dep_kind-round_trips none some within (codes "dep_kinds"))
+    λ dep_kinds dep_kinds_h.
     let written =
     set_member-written (codes "dep_kinds") dep_kinds_h
     (set_member-written (codes "pkg") pkg_h
@@ -63,7 +65,9 @@ node-round_trips = table-round_trips _ node_data 4 λ ms.
     let some : 1 ≤ n = omega arith in
     and_then (required_member-kept package_id-round_trips none within (codes "id")) λ id id_h.
     and_then (list_member-kept node_dep-round_trips (omega arith) some within (codes "deps")) λ deps deps_h.
-    and_then (required_member-kept (list-round_trips _ _ _ package_id-round_trips) none within (codes "dependencies")) λ dependencies dependencies_h.
+    and_then
+    (required_member-kept (list-round_trips _ _ _ package_id-round_trips) none within (codes "dependencies"))
+    λ dependencies dependencies_h.
     and_then (list_member-kept text-round_trips none some within (codes "features")) λ features features_h.
     let written =
     set_member-written (codes "features") features_h
@@ -85,8 +89,11 @@ resolve-round_trips = table-round_trips _ resolve_data 6 λ ms.
     let n = max 5 (members_depth ms) in
     let within : AreWithin n ms = record { within = omega arith } in
     let none : 0 ≤ n = omega arith in
-    and_then (required_member-kept (list-round_trips _ _ _ node-round_trips) (omega arith) within (codes "nodes")) λ nodes nodes_h.
-    and_then (optional_member-kept package_id-round_trips none within (λ x. refl) (codes "root")) λ root root_h.
+    and_then
+    (required_member-kept (list-round_trips _ _ _ node-round_trips) (omega arith) within (codes "nodes"))
+    λ nodes nodes_h.
+    and_then (optional_member-kept package_id-round_trips none within (λ x. refl) (codes "root"))
+    λ root root_h.
     let written =
     set_member-written (codes "root") root_h
     (set_member-written (codes "nodes") nodes_h

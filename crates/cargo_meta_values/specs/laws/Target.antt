@@ -20,14 +20,38 @@ target-round_trips = table-round_trips _ target_data 2 λ ms.
     let none : 0 ≤ n = omega arith in
     let some : 1 ≤ n = omega arith in
     and_then (required_member-kept text-round_trips none within (codes "name")) λ name name_h.
-    and_then (required_member-kept (list-round_trips _ _ _ target_kind-round_trips) none within (codes "kind")) λ kind kind_h.
-    and_then (list_member-kept crate_type-round_trips none some within (codes "crate_types")) λ crate_types crate_types_h.
-    and_then (list_member-kept text-round_trips none some within (codes "required-features")) λ required_features required_features_h.
+    and_then
+    (required_member-kept (list-round_trips _ _ _ target_kind-round_trips) none within (codes "kind"))
+    λ kind kind_h.
+    and_then (list_member-kept crate_type-round_trips none some within (codes "crate_types"))
+    λ crate_types crate_types_h.
+    and_then (list_member-kept text-round_trips none some within (codes "required-features"))
+    λ required_features required_features_h.
     and_then (required_member-kept text-round_trips none within (codes "src_path")) λ src_path src_path_h.
-    and_then (default_member-kept edition-round_trips none within (codes "edition") E2015 (record { again = refl; clean = λ _. refl; nests = omega arith })) λ edition edition_h.
-    and_then (default_member-kept flag-round_trips none within (codes "doctest") true (record { again = refl; clean = λ _. refl; nests = omega arith })) λ doctest doctest_h.
-    and_then (default_member-kept flag-round_trips none within (codes "test") true (record { again = refl; clean = λ _. refl; nests = omega arith })) λ test test_h.
-    and_then (default_member-kept flag-round_trips none within (codes "doc") true (record { again = refl; clean = λ _. refl; nests = omega arith })) λ doc doc_h.
+    and_then
+    (default_member-kept edition-round_trips none within (codes "edition") E2015 (record {
+      again = refl;
+      clean = λ _. refl;
+      nests = omega arith;
+    })) λ edition edition_h.
+    and_then
+    (default_member-kept flag-round_trips none within (codes "doctest") true (record {
+      again = refl;
+      clean = λ _. refl;
+      nests = omega arith;
+    })) λ doctest doctest_h.
+    and_then
+    (default_member-kept flag-round_trips none within (codes "test") true (record {
+      again = refl;
+      clean = λ _. refl;
+      nests = omega arith;
+    })) λ test test_h.
+    and_then
+    (default_member-kept flag-round_trips none within (codes "doc") true (record {
+      again = refl;
+      clean = λ _. refl;
+      nests = omega arith;
+    })) λ doc doc_h.
     let written =
     set_member-written (codes "doc") doc_h
     (set_member-written (codes "test") test_h

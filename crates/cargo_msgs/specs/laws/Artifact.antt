@@ -21,9 +21,16 @@ profile-round_trips = table-round_trips _ profile_data 0 λ ms.
     let within : AreWithin n ms = record { within = omega arith } in
     let none : 0 ≤ n = omega arith in
     and_then (required_member-kept text-round_trips none within (codes "opt_level")) λ opt_level opt_level_h.
-    and_then (default_member-kept debuginfo-round_trips none within (codes "debuginfo") debuginfo.None (record { again = refl; clean = λ _. refl; nests = omega arith })) λ info info_h.
-    and_then (required_member-kept flag-round_trips none within (codes "debug_assertions")) λ debug_assertions debug_assertions_h.
-    and_then (required_member-kept flag-round_trips none within (codes "overflow_checks")) λ overflow_checks overflow_checks_h.
+    and_then
+    (default_member-kept debuginfo-round_trips none within (codes "debuginfo") debuginfo.None (record {
+      again = refl;
+      clean = λ _. refl;
+      nests = omega arith;
+    })) λ info info_h.
+    and_then (required_member-kept flag-round_trips none within (codes "debug_assertions"))
+    λ debug_assertions debug_assertions_h.
+    and_then (required_member-kept flag-round_trips none within (codes "overflow_checks"))
+    λ overflow_checks overflow_checks_h.
     and_then (required_member-kept flag-round_trips none within (codes "test")) λ test test_h.
     let written =
     set_member-written (codes "test") test_h
@@ -32,7 +39,8 @@ profile-round_trips = table-round_trips _ profile_data 0 λ ms.
     (set_member-written (codes "debuginfo") info_h
     (set_member-written (codes "opt_level") opt_level_h (no_members-written _ _)))))
     in
-    at_last (record { again = rw info_h.again refl; clean = written.clean; nests = omega (arith, written.nests) })
+    at_last
+    (record { again = rw info_h.again refl; clean = written.clean; nests = omega (arith, written.nests) })
 
 -- artifacts
 pub artifact-round_trips : RoundTrips artifact_at artifact_data 3
@@ -42,13 +50,22 @@ artifact-round_trips = table-round_trips _ artifact_data 3 λ ms.
     let within : AreWithin n ms = record { within = omega arith } in
     let none : 0 ≤ n = omega arith in
     let two : 2 ≤ n = omega arith in
-    and_then (required_member-kept package_id-round_trips none within (codes "package_id")) λ package_id package_id_h.
-    and_then (default_member-kept text-round_trips none within (codes "manifest_path") [] (record { again = refl; clean = λ _. refl; nests = omega arith })) λ manifest_path manifest_path_h.
+    and_then (required_member-kept package_id-round_trips none within (codes "package_id"))
+    λ package_id package_id_h.
+    and_then
+    (default_member-kept text-round_trips none within (codes "manifest_path") [] (record {
+      again = refl;
+      clean = λ _. refl;
+      nests = omega arith;
+    })) λ manifest_path manifest_path_h.
     and_then (required_member-kept target-round_trips two within (codes "target")) λ target target_h.
     and_then (required_member-kept profile-round_trips none within (codes "profile")) λ profile profile_h.
-    and_then (required_member-kept (list-round_trips _ _ _ text-round_trips) none within (codes "features")) λ features features_h.
-    and_then (required_member-kept (list-round_trips _ _ _ text-round_trips) none within (codes "filenames")) λ filenames filenames_h.
-    and_then (optional_member-kept text-round_trips none within (λ x. refl) (codes "executable")) λ executable executable_h.
+    and_then (required_member-kept (list-round_trips _ _ _ text-round_trips) none within (codes "features"))
+    λ features features_h.
+    and_then (required_member-kept (list-round_trips _ _ _ text-round_trips) none within (codes "filenames"))
+    λ filenames filenames_h.
+    and_then (optional_member-kept text-round_trips none within (λ x. refl) (codes "executable"))
+    λ executable executable_h.
     and_then (required_member-kept flag-round_trips none within (codes "fresh")) λ fresh fresh_h.
     let written =
     set_member-written (codes "fresh") fresh_h
@@ -61,7 +78,8 @@ artifact-round_trips = table-round_trips _ artifact_data 3 λ ms.
     (set_member-written (codes "package_id") package_id_h (no_members-written _ _))))))))
     in
     at_last (record {
-      again = rw (target_h.again, profile_h.again, features_h.again, filenames_h.again, executable_h.again) refl;
+      again =
+          rw (target_h.again, profile_h.again, features_h.again, filenames_h.again, executable_h.again) refl;
       clean = written.clean;
       nests = omega (arith, written.nests);
     })

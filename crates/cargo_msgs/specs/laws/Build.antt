@@ -17,12 +17,25 @@ build_script-round_trips = table-round_trips _ build_script_data 0 λ ms.
     let n = max 0 (members_depth ms) in
     let within : AreWithin n ms = record { within = omega arith } in
     let none : 0 ≤ n = omega arith in
-    and_then (required_member-kept package_id-round_trips none within (codes "package_id")) λ package_id package_id_h.
-    and_then (required_member-kept (list-round_trips _ _ _ text-round_trips) none within (codes "linked_libs")) λ linked_libs linked_libs_h.
-    and_then (required_member-kept (list-round_trips _ _ _ text-round_trips) none within (codes "linked_paths")) λ linked_paths linked_paths_h.
-    and_then (required_member-kept (list-round_trips _ _ _ text-round_trips) none within (codes "cfgs")) λ cfgs cfgs_h.
-    and_then (required_member-kept (list-round_trips _ _ _ (pair-round_trips _ _ _ text-round_trips _ _ _ text-round_trips)) none within (codes "env")) λ env env_h.
-    and_then (default_member-kept text-round_trips none within (codes "out_dir") [] (record { again = refl; clean = λ _. refl; nests = omega arith })) λ out_dir out_dir_h.
+    and_then (required_member-kept package_id-round_trips none within (codes "package_id"))
+    λ package_id package_id_h.
+    and_then
+    (required_member-kept (list-round_trips _ _ _ text-round_trips) none within (codes "linked_libs"))
+    λ linked_libs linked_libs_h.
+    and_then
+    (required_member-kept (list-round_trips _ _ _ text-round_trips) none within (codes "linked_paths"))
+    λ linked_paths linked_paths_h.
+    and_then (required_member-kept (list-round_trips _ _ _ text-round_trips) none within (codes "cfgs"))
+    λ cfgs cfgs_h.
+    and_then
+    (required_member-kept (list-round_trips _ _ _ (pair-round_trips _ _ _ text-round_trips _ _ _ text-round_trips)) none within (codes "env"))
+    λ env env_h.
+    and_then
+    (default_member-kept text-round_trips none within (codes "out_dir") [] (record {
+      again = refl;
+      clean = λ _. refl;
+      nests = omega arith;
+    })) λ out_dir out_dir_h.
     let written =
     set_member-written (codes "out_dir") out_dir_h
     (set_member-written (codes "env") env_h

@@ -36,12 +36,21 @@ code-round_trips = table-round_trips _ code_data 0 λ ms.
     let within : AreWithin n ms = record { within = omega arith } in
     let none : 0 ≤ n = omega arith in
     and_then (required_member-kept text-round_trips none within (codes "code")) λ code code_h.
-    and_then (optional_member-kept text-round_trips none within (λ x. refl) (codes "explanation")) λ explanation explanation_h.
-    let written = set_member-written (codes "explanation") explanation_h (set_member-written (codes "code") code_h (no_members-written _ _)) in
-    at_last (record { again = rw explanation_h.again refl; clean = written.clean; nests = omega (arith, written.nests) })
+    and_then (optional_member-kept text-round_trips none within (λ x. refl) (codes "explanation"))
+    λ explanation explanation_h.
+    let written =
+    set_member-written (codes "explanation") explanation_h
+    (set_member-written (codes "code") code_h (no_members-written _ _)) in
+    at_last
+    (record {
+      again = rw explanation_h.again refl;
+      clean = written.clean;
+      nests = omega (arith, written.nests);
+    })
 
 -- what is written of a diagnostic, by its parts
-module _ (message : List ℕ) (code : Option DiagnosticCode) (level : DiagnosticLevel) (spans : List DiagnosticSpan) (children : List Diagnostic) (rendered : Option (List ℕ)) where
+module _ (message : List ℕ) (code : Option DiagnosticCode) (level : DiagnosticLevel)
+    (spans : List DiagnosticSpan) (children : List Diagnostic) (rendered : Option (List ℕ)) where
   diagnostic_members : Members
   diagnostic_members =
       set_member (codes "rendered") (option_data string rendered)
@@ -51,24 +60,47 @@ module _ (message : List ℕ) (code : Option DiagnosticCode) (level : Diagnostic
       (set_member (codes "code") (option_data code_data code)
       (set_member (codes "message") (string message) no_members)))))
 
-  diagnostic_data-roll : diagnostic_data (roll-Diagnostic (record { message = message; code = code; level = level; spans = spans; children = children; rendered = rendered })) ≡ object diagnostic_members
+  diagnostic_data-roll :
+      diagnostic_data
+      (roll-Diagnostic (record {
+        message = message;
+        code = code;
+        level = level;
+        spans = spans;
+        children = children;
+        rendered = rendered;
+      }))
+      ≡ object diagnostic_members
   unfolding diagnostic_level diagnostic_members
   diagnostic_data-roll =
-      rw (fold-roll-Diagnostic Data diagnostic_level (record { message = message; code = code; level = level; spans = spans; children = children; rendered = rendered })) refl
+      rw
+      (fold-roll-Diagnostic Data diagnostic_level (record {
+        message = message;
+        code = code;
+        level = level;
+        spans = spans;
+        children = children;
+        rendered = rendered;
+      })) refl
 
 -- one level of a diagnostic keeps its children where they are kept
-diagnostic_row-round_trips : (inner : Data → Reading Diagnostic) → RoundTrips inner diagnostic_data 0 → RoundTrips (diagnostic_row inner) diagnostic_data 0
+diagnostic_row-round_trips : (inner : Data → Reading Diagnostic) → RoundTrips inner diagnostic_data 0
+    → RoundTrips (diagnostic_row inner) diagnostic_data 0
 unfolding diagnostic_row required_member optional_member set_member diagnostic_members
 diagnostic_row-round_trips inner kept = table-round_trips _ diagnostic_data 0 λ ms.
     let n = max 0 (members_depth ms) in
     let within : AreWithin n ms = record { within = omega arith } in
     let none : 0 ≤ n = omega arith in
     and_then (required_member-kept text-round_trips none within (codes "message")) λ message message_h.
-    and_then (optional_member-kept code-round_trips none within code_data-present (codes "code")) λ code code_h.
+    and_then (optional_member-kept code-round_trips none within code_data-present (codes "code"))
+    λ code code_h.
     and_then (required_member-kept level-round_trips none within (codes "level")) λ level level_h.
-    and_then (required_member-kept (list-round_trips _ _ _ span-round_trips) none within (codes "spans")) λ spans spans_h.
-    and_then (required_member-kept (list-round_trips _ _ _ kept) none within (codes "children")) λ children children_h.
-    and_then (optional_member-kept text-round_trips none within (λ x. refl) (codes "rendered")) λ rendered rendered_h.
+    and_then (required_member-kept (list-round_trips _ _ _ span-round_trips) none within (codes "spans"))
+    λ spans spans_h.
+    and_then (required_member-kept (list-round_trips _ _ _ kept) none within (codes "children"))
+    λ children children_h.
+    and_then (optional_member-kept text-round_trips none within (λ x. refl) (codes "rendered"))
+    λ rendered rendered_h.
     let written =
     set_member-written (codes "rendered") rendered_h
     (set_member-written (codes "children") children_h
@@ -87,4 +119,5 @@ diagnostic_row-round_trips inner kept = table-round_trips _ diagnostic_data 0 λ
 -- a diagnostic is read again from what is written of it
 pub diagnostic-round_trips : RoundTrips diagnostic_at diagnostic_data 0
 unfolding diagnostic_at
-diagnostic-round_trips = within_levels-round_trips diagnostic_row diagnostic_data 0 diagnostic_row-round_trips max_depth
+diagnostic-round_trips =
+    within_levels-round_trips diagnostic_row diagnostic_data 0 diagnostic_row-round_trips max_depth

@@ -9,6 +9,7 @@ unfolding level_of
 level_of-again text = value_named-again level_text levels text
 
 -- an applicability is read again from its name
-pub applicability_of-again : (text : List ℕ) → IfOk (applicability_of text) (λ x. applicability_of (applicability_text x) ≡ Ok x)
+pub applicability_of-again : (text : List ℕ)
+    → IfOk (applicability_of text) (λ x. applicability_of (applicability_text x) ≡ Ok x)
 unfolding applicability_of
 applicability_of-again text = value_named-again applicability_text applicabilities text

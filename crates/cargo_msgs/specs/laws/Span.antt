@@ -24,7 +24,8 @@ use Rattle.cargo_msgs.specs.declared.span.DiagnosticSpan.TheViews.{roll-Diagnost
 use Rattle.cargo_msgs.specs.declared.span.DiagnosticSpan.{DiagnosticSpan}
 
 -- applicabilities
-pub applicability-round_trips : RoundTrips (text_form_at applicability_of) (text_form_data applicability_text) 0
+pub applicability-round_trips :
+    RoundTrips (text_form_at applicability_of) (text_form_data applicability_text) 0
 applicability-round_trips = text_form-round_trips applicability_of applicability_text applicability_of-again
 
 -- lines
@@ -35,8 +36,10 @@ line-round_trips = table-round_trips _ line_data 0 λ ms.
     let within : AreWithin n ms = record { within = omega arith } in
     let none : 0 ≤ n = omega arith in
     and_then (required_member-kept text-round_trips none within (codes "text")) λ text text_h.
-    and_then (required_member-kept number-round_trips none within (codes "highlight_start")) λ highlight_start highlight_start_h.
-    and_then (required_member-kept number-round_trips none within (codes "highlight_end")) λ highlight_end highlight_end_h.
+    and_then (required_member-kept number-round_trips none within (codes "highlight_start"))
+    λ highlight_start highlight_start_h.
+    and_then (required_member-kept number-round_trips none within (codes "highlight_end"))
+    λ highlight_end highlight_end_h.
     let written =
     set_member-written (codes "highlight_end") highlight_end_h
     (set_member-written (codes "highlight_start") highlight_start_h
@@ -52,7 +55,8 @@ span_data-present s = ap is_null (fold_out-DiagnosticSpan Data Data span_level e
 -- an expansion is not written as null
 pub expansion_data-present : (e : DiagnosticSpanMacroExpansion) → is_null (expansion_data e) ≡ false
 unfolding expansion_level
-expansion_data-present e = ap is_null (fold_out-DiagnosticSpanMacroExpansion Data Data span_level expansion_level e) ∙ refl
+expansion_data-present e =
+    ap is_null (fold_out-DiagnosticSpanMacroExpansion Data Data span_level expansion_level e) ∙ refl
 
 -- what is written of an expansion, by its parts
 expansion_members : DiagnosticSpan → List ℕ → Option DiagnosticSpan → Members
@@ -62,15 +66,28 @@ expansion_members s name o =
     (set_member (codes "span") (span_data s) no_members))
 
 expansion_data-roll : (s : DiagnosticSpan) (name : List ℕ) (o : Option DiagnosticSpan)
-    → expansion_data (roll-DiagnosticSpanMacroExpansion (record { span = s; macro_decl_name = name; def_site_span = o })) ≡ object (expansion_members s name o)
+    → expansion_data
+    (roll-DiagnosticSpanMacroExpansion (record { span = s; macro_decl_name = name; def_site_span = o }))
+    ≡ object (expansion_members s name o)
 unfolding expansion_level expansion_members
 expansion_data-roll s name None =
-    rw (fold-roll-DiagnosticSpanMacroExpansion Data Data span_level expansion_level (record { span = s; macro_decl_name = name; def_site_span = None })) refl
+    rw
+    (fold-roll-DiagnosticSpanMacroExpansion Data Data span_level expansion_level (record {
+      span = s;
+      macro_decl_name = name;
+      def_site_span = None;
+    })) refl
 expansion_data-roll s name (Some x) =
-    rw (fold-roll-DiagnosticSpanMacroExpansion Data Data span_level expansion_level (record { span = s; macro_decl_name = name; def_site_span = Some x })) refl
+    rw
+    (fold-roll-DiagnosticSpanMacroExpansion Data Data span_level expansion_level (record {
+      span = s;
+      macro_decl_name = name;
+      def_site_span = Some x;
+    })) refl
 
 -- one level of an expansion keeps its spans where they are kept
-expansion-round_trips : (inner : Data → Reading DiagnosticSpan) → RoundTrips inner span_data 0 → RoundTrips (expansion_row inner) expansion_data 0
+expansion-round_trips : (inner : Data → Reading DiagnosticSpan) → RoundTrips inner span_data 0
+    → RoundTrips (expansion_row inner) expansion_data 0
 unfolding expansion_row required_member optional_member set_member expansion_members
 expansion-round_trips inner kept = table-round_trips _ expansion_data 0 λ ms.
     let n = max 0 (members_depth ms) in
@@ -92,7 +109,8 @@ expansion-round_trips inner kept = table-round_trips _ expansion_data 0 λ ms.
     })
 
 -- what is written of a span, by its parts
-module _ (file_name : List ℕ) (byte_start byte_end line_start line_end column_start column_end : ℕ) (is_primary : Bool) (text : List DiagnosticSpanLine)
+module _ (file_name : List ℕ) (byte_start byte_end line_start line_end column_start column_end : ℕ)
+    (is_primary : Bool) (text : List DiagnosticSpanLine)
     (label suggested_replacement : Option (List ℕ)) (suggestion_applicability : Option Applicability) where
   span_members : Option DiagnosticSpanMacroExpansion → Members
   span_members expansion =
@@ -162,25 +180,37 @@ module _ (file_name : List ℕ) (byte_start byte_end line_start line_end column_
       })) refl
 
 -- one level of a span keeps its expansion where the spans inside are kept
-span_row-round_trips : (inner : Data → Reading DiagnosticSpan) → RoundTrips inner span_data 0 → RoundTrips (span_row inner) span_data 0
+span_row-round_trips : (inner : Data → Reading DiagnosticSpan) → RoundTrips inner span_data 0
+    → RoundTrips (span_row inner) span_data 0
 unfolding span_row required_member optional_member set_member span_members applicability_of
 span_row-round_trips inner kept = table-round_trips _ span_data 0 λ ms.
     let n = max 0 (members_depth ms) in
     let within : AreWithin n ms = record { within = omega arith } in
     let none : 0 ≤ n = omega arith in
     and_then (required_member-kept text-round_trips none within (codes "file_name")) λ file_name file_name_h.
-    and_then (required_member-kept u32-round_trips none within (codes "byte_start")) λ byte_start byte_start_h.
+    and_then (required_member-kept u32-round_trips none within (codes "byte_start"))
+    λ byte_start byte_start_h.
     and_then (required_member-kept u32-round_trips none within (codes "byte_end")) λ byte_end byte_end_h.
-    and_then (required_member-kept number-round_trips none within (codes "line_start")) λ line_start line_start_h.
+    and_then (required_member-kept number-round_trips none within (codes "line_start"))
+    λ line_start line_start_h.
     and_then (required_member-kept number-round_trips none within (codes "line_end")) λ line_end line_end_h.
-    and_then (required_member-kept number-round_trips none within (codes "column_start")) λ column_start column_start_h.
-    and_then (required_member-kept number-round_trips none within (codes "column_end")) λ column_end column_end_h.
-    and_then (required_member-kept flag-round_trips none within (codes "is_primary")) λ is_primary is_primary_h.
-    and_then (required_member-kept (list-round_trips _ _ _ line-round_trips) none within (codes "text")) λ text text_h.
+    and_then (required_member-kept number-round_trips none within (codes "column_start"))
+    λ column_start column_start_h.
+    and_then (required_member-kept number-round_trips none within (codes "column_end"))
+    λ column_end column_end_h.
+    and_then (required_member-kept flag-round_trips none within (codes "is_primary"))
+    λ is_primary is_primary_h.
+    and_then (required_member-kept (list-round_trips _ _ _ line-round_trips) none within (codes "text"))
+    λ text text_h.
     and_then (optional_member-kept text-round_trips none within (λ x. refl) (codes "label")) λ label label_h.
-    and_then (optional_member-kept text-round_trips none within (λ x. refl) (codes "suggested_replacement")) λ suggested_replacement suggested_replacement_h.
-    and_then (optional_member-kept applicability-round_trips none within (λ x. refl) (codes "suggestion_applicability")) λ suggestion_applicability suggestion_applicability_h.
-    and_then (optional_member-kept (expansion-round_trips inner kept) none within expansion_data-present (codes "expansion")) λ expansion expansion_h.
+    and_then (optional_member-kept text-round_trips none within (λ x. refl) (codes "suggested_replacement"))
+    λ suggested_replacement suggested_replacement_h.
+    and_then
+    (optional_member-kept applicability-round_trips none within (λ x. refl) (codes "suggestion_applicability"))
+    λ suggestion_applicability suggestion_applicability_h.
+    and_then
+    (optional_member-kept (expansion-round_trips inner kept) none within expansion_data-present (codes "expansion"))
+    λ expansion expansion_h.
     let written =
     set_member-written (codes "expansion") expansion_h
     (set_member-written (codes "suggestion_applicability") suggestion_applicability_h
@@ -196,9 +226,14 @@ span_row-round_trips inner kept = table-round_trips _ span_data 0 λ ms.
     (set_member-written (codes "byte_start") byte_start_h
     (set_member-written (codes "file_name") file_name_h (no_members-written _ _)))))))))))))
     in
-    let is = span_data-roll file_name byte_start byte_end line_start line_end column_start column_end is_primary text label suggested_replacement suggestion_applicability expansion in
+    let is =
+    span_data-roll file_name byte_start byte_end line_start line_end column_start column_end is_primary text
+    label suggested_replacement suggestion_applicability expansion in
     at_last (record {
-      again = rw (is, byte_start_h.again, byte_end_h.again, text_h.again, label_h.again, suggested_replacement_h.again, suggestion_applicability_h.again, expansion_h.again) refl;
+      again =
+          rw
+          (is, byte_start_h.again, byte_end_h.again, text_h.again, label_h.again, suggested_replacement_h.again, suggestion_applicability_h.again, expansion_h.again)
+          refl;
       clean = λ no_float. ap has_float is ∙ written.clean no_float;
       nests = rw is (omega (arith, written.nests));
     })

@@ -16,22 +16,29 @@ use Rattle.json_fields.specs.Laws.TextForms.{text_form-round_trips}
 use Rattle.json_fields.specs.RoundTrip.{RoundTrips}
 
 -- a cut that is one byte further into a text with one byte more
-cut_further : (b : ℕ) (rest : List ℕ) (n : ℕ) → take (1 + n) (b ∷ rest) ++ 61 ∷ drop (1 + n + 1) (b ∷ rest) ≡ b ∷ (take n rest ++ 61 ∷ drop (n + 1) rest)
+cut_further : (b : ℕ) (rest : List ℕ) (n : ℕ)
+    → take (1 + n) (b ∷ rest) ++ 61 ∷ drop (1 + n + 1) (b ∷ rest)
+    ≡ b ∷ (take n rest ++ 61 ∷ drop (n + 1) rest)
 cut_further b rest n =
     let front : 1 + n ≡ suc n = omega arith in
     let back : 1 + n + 1 ≡ suc (n + 1) = omega arith in
     λ i. take (front i) (b ∷ rest) ++ 61 ∷ drop (back i) (b ∷ rest)
 
 -- a text with a `=` is what stands before the first one, the `=`, and what stands after it
-split_at_equals : (text : List ℕ) → list_any is_equals text ≡ true → text ≡ before_first is_equals text ++ 61 ∷ after_first is_equals text
+split_at_equals : (text : List ℕ) → list_any is_equals text ≡ true
+    → text ≡ before_first is_equals text ++ 61 ∷ after_first is_equals text
 split_at_equals [] some = cc
 split_at_equals (b ∷ rest) some = at_first (is_equals b) refl some (split_at_equals rest)
   where
     at_first : (same : Bool) → is_equals b ≡ same → (same || list_any is_equals rest) ≡ true
-        → (list_any is_equals rest ≡ true → rest ≡ before_first is_equals rest ++ 61 ∷ after_first is_equals rest)
-        → b ∷ rest ≡ take (cond (not same) (1 + position_or_len is_equals rest) 0) (b ∷ rest) ++ 61 ∷ drop (cond (not same) (1 + position_or_len is_equals rest) 0 + 1) (b ∷ rest)
+        → (list_any is_equals rest ≡ true
+        → rest ≡ before_first is_equals rest ++ 61 ∷ after_first is_equals rest)
+        → b ∷ rest
+        ≡ take (cond (not same) (1 + position_or_len is_equals rest) 0) (b ∷ rest)
+        ++ 61 ∷ drop (cond (not same) (1 + position_or_len is_equals rest) 0 + 1) (b ∷ rest)
     at_first true same h later = ap (λ x. x ∷ rest) (eqb-true b 61 same)
-    at_first false same h later = ap (λ xs. b ∷ xs) (later h) ∙ sym (cut_further b rest (position_or_len is_equals rest))
+    at_first false same h later =
+        ap (λ xs. b ∷ xs) (later h) ∙ sym (cut_further b rest (position_or_len is_equals rest))
 
 -- a value that is there under a test passed the test
 when_true : (test : Bool) (x y : List ℕ) → cond test (Some x) None ≡ Some y → (test ≡ true) × (x ≡ y)
@@ -56,16 +63,26 @@ text_of-named : (text : List ℕ) (atom : CfgAtom) → atom_of text ≡ Some ato
 unfolding atom_of atom_text
 text_of-named text atom is = by_equals (list_any is_equals text) refl is
   where
-    by_quotes : (o : Option (List ℕ)) → list_any is_equals text ≡ true → unquote (after_first is_equals text) ≡ o
-        → option_map (λ value. KeyValue (before_first is_equals text) value) o ≡ Some atom → atom_text atom ≡ text
+    by_quotes : (o : Option (List ℕ)) → list_any is_equals text ≡ true
+        → unquote (after_first is_equals text) ≡ o
+        → option_map (λ value. KeyValue (before_first is_equals text) value) o ≡ Some atom
+        → atom_text atom ≡ text
     by_quotes None some quoted named = cc
     by_quotes (Some value) some quoted named =
         let keyed : atom ≡ KeyValue (before_first is_equals text) value = cc in
-        let printed : atom_text (KeyValue (before_first is_equals text) value) ≡ before_first is_equals text ++ 61 ∷ 34 ∷ (value ++ 34 ∷ []) = simp append_assoc in
-        ap atom_text keyed ∙ printed ∙ ap (λ after. before_first is_equals text ++ 61 ∷ after) (sym (between_quotes _ value quoted)) ∙ sym (split_at_equals text some)
+        let printed : atom_text (KeyValue (before_first is_equals text) value) ≡ before_first is_equals text ++ 61 ∷ 34 ∷ (value
+        ++ 34 ∷ []) =
+        simp append_assoc in
+        ap atom_text keyed ∙ printed
+        ∙ ap (λ after. before_first is_equals text ++ 61 ∷ after) (sym (between_quotes _ value quoted))
+        ∙ sym (split_at_equals text some)
 
     by_equals : (some : Bool) → list_any is_equals text ≡ some
-        → cond some (option_map (λ value. KeyValue (before_first is_equals text) value) (unquote (after_first is_equals text))) (Some (Flag text)) ≡ Some atom → atom_text atom ≡ text
+        → cond some
+        (option_map (λ value. KeyValue (before_first is_equals text) value) (unquote (after_first is_equals text)))
+        (Some (Flag text))
+        ≡ Some atom
+        → atom_text atom ≡ text
     by_equals true some named = by_quotes (unquote (after_first is_equals text)) some refl named
     by_equals false none named =
         let flag : atom ≡ Flag text = cc in

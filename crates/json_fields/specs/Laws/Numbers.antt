@@ -9,11 +9,13 @@ use Rattle.json_fields.specs.RoundTrip.{IsKept, RoundTrips}
 use Rattle.json_fields.specs.Written.{is_null}
 
 u32-kept : (n : ℕ) (fits : Bool) → nat_lt n (2 ^ 32) ≡ fits → (may_float : Bool) (deep : ℕ)
-    → IfOk (cond {A = Reading ℕ} fits (Ok n) (Err [])) (IsKept u32_at (λ n. number (unsigned n)) may_float deep)
+    → IfOk (cond {A = Reading ℕ} fits (Ok n) (Err []))
+    (IsKept u32_at (λ n. number (unsigned n)) may_float deep)
 u32-kept n true h may_float deep = record { again = rw h refl; clean = λ _. refl; nests = omega arith }
 u32-kept n false h may_float deep = tt
 
-u32-keeps : (d : Data) → IfOk (u32_at d) (IsKept u32_at (λ n. number (unsigned n)) (has_float d) (max 0 (depth d)))
+u32-keeps : (d : Data)
+    → IfOk (u32_at d) (IsKept u32_at (λ n. number (unsigned n)) (has_float d) (max 0 (depth d)))
 u32-keeps null = tt
 u32-keeps (boolean b) = tt
 u32-keeps (number (unsigned n)) = u32-kept n (nat_lt n (2 ^ 32)) refl _ _
@@ -37,7 +39,11 @@ integer-clean (negsuc n) = refl
 
 i64-kept : (z : ℤ) (fits : Bool) → fits_i64 z ≡ fits → (may_float : Bool) (deep : ℕ)
     → IfOk (cond {A = Reading ℤ} fits (Ok z) (Err [])) (IsKept i64_at i64_data may_float deep)
-i64-kept z true h may_float deep = record { again = rw (integer-again z, h) refl; clean = λ _. integer-clean z; nests = omega arith }
+i64-kept z true h may_float deep = record {
+  again = rw (integer-again z, h) refl;
+  clean = λ _. integer-clean z;
+  nests = omega arith;
+}
 i64-kept z false h may_float deep = tt
 
 i64-keeps : (d : Data) → IfOk (i64_at d) (IsKept i64_at i64_data (has_float d) (max 0 (depth d)))

@@ -11,7 +11,8 @@ use Rattle.json_fields.specs.Outcome.{Reading}
 use Rattle.json_fields.specs.Pairs.{pair_at, pair_data, two_items}
 use Rattle.json_fields.specs.RoundTrip.{IsKept, RoundTrips, outer_height}
 
-module _ {A B : Type 0} (ra : Data → Reading A) (wa : A → Data) (ha : ℕ) (ka : RoundTrips ra wa ha) (rb : Data → Reading B) (wb : B → Data) (hb : ℕ) (kb : RoundTrips rb wb hb) where
+module _ {A B : Type 0} (ra : Data → Reading A) (wa : A → Data) (ha : ℕ) (ka : RoundTrips ra wa ha)
+    (rb : Data → Reading B) (wb : B → Data) (hb : ℕ) (kb : RoundTrips rb wb hb) where
   first-kept : (d : Data) → ReadsAs (ra d) (IsKept ra wa (has_float d) (max ha (depth d)))
   first-kept d = record { holds = ka.keeps d }
 
@@ -25,11 +26,16 @@ module _ {A B : Type 0} (ra : Data → Reading A) (wa : A → Data) (ha : ℕ) (
       and_then (below_position-as 1 (second-kept e)) λ y second.
       at_last (record {
         again = rw (first.again, second.again) refl;
-        clean = λ none. rw (first.clean (first_of_none (has_float d) _ none), second.clean (first_of_none (has_float e) _ (rest_of_none (has_float d) _ none))) refl;
-        nests = omega (arith, raised-above ha (depth d) (depth (wa x)) first.nests, raised-above hb (depth e) (depth (wb y)) second.nests);
+        clean =
+            λ none. rw (first.clean (first_of_none (has_float d) _ none), second.clean (first_of_none (has_float e) _ (rest_of_none (has_float d) _ none))) refl;
+        nests =
+            omega
+            (arith, raised-above ha (depth d) (depth (wa x)) first.nests, raised-above hb (depth e) (depth (wb y)) second.nests);
       })
 
-  pair-kept : (d : Data) → IfOk (pair_at ra rb d) (IsKept (pair_at ra rb) (pair_data wa wb) (has_float d) (max (max (outer_height ha) (outer_height hb)) (depth d)))
+  pair-kept : (d : Data)
+      → IfOk (pair_at ra rb d)
+      (IsKept (pair_at ra rb) (pair_data wa wb) (has_float d) (max (max (outer_height ha) (outer_height hb)) (depth d)))
   pair-kept null = tt
   pair-kept (boolean b) = tt
   pair-kept (number n) = tt
@@ -41,11 +47,13 @@ module _ {A B : Type 0} (ra : Data → Reading A) (wa : A → Data) (ha : ℕ) (
   pair-kept (object ms) = tt
 
   -- pairs
-  pub pair-round_trips : RoundTrips (pair_at ra rb) (pair_data wa wb) (max (outer_height ha) (outer_height hb))
+  pub pair-round_trips :
+      RoundTrips (pair_at ra rb) (pair_data wa wb) (max (outer_height ha) (outer_height hb))
   pair-round_trips = record { keeps = pair-kept }
 
 -- a list of another length is no pair
-pub two_items-other : {A B : Type 0} (ra : Data → Reading A) (rb : Data → Reading B) (vs : List Value) → (length vs ≡ 2 → ⊥) → two_items ra rb (items_view vs) ≡ Err []
+pub two_items-other : {A B : Type 0} (ra : Data → Reading A) (rb : Data → Reading B) (vs : List Value)
+    → (length vs ≡ 2 → ⊥) → two_items ra rb (items_view vs) ≡ Err []
 two_items-other ra rb [] other = refl
 two_items-other ra rb (v ∷ []) other = refl
 two_items-other ra rb (v ∷ w ∷ []) other = absurd (other refl)

@@ -14,7 +14,8 @@ use Rattle.semver.specs.Parse.{Parts, req_of, version_parts}
 use Rattle.semver.proofs.Grammar.{version_parts-sound}
 
 -- a version's text is the text that it was read from
-pub version_parts_again : (text : List ℕ) (p : Parts) → version_parts text ≡ Ok p → version_parts (parts_text p) ≡ Ok p
+pub version_parts_again : (text : List ℕ) (p : Parts) → version_parts text ≡ Ok p
+    → version_parts (parts_text p) ≡ Ok p
 version_parts_again text p h = ap version_parts (version_parts-sound text p h).0 ∙ h
 
 -- a completed text is complete
@@ -35,7 +36,8 @@ first_mark-completed text none = elim (cases_Bool (count_by (λ b. b == 46) text
 ]
 
 -- a complete text with no mark is read as the version that it is
-bare_parts-complete : (text : List ℕ) (p : Parts) → first_mark text ≡ None → full_version_text text ≡ text → or_not_version (version_parts text) ≡ Ok p → bare_parts text ≡ Ok p
+bare_parts-complete : (text : List ℕ) (p : Parts) → first_mark text ≡ None → full_version_text text ≡ text
+    → or_not_version (version_parts text) ≡ Ok p → bare_parts text ≡ Ok p
 unfolding bare_parts
 bare_parts-complete text p none complete h =
     ap (λ mark. unless_marked mark (or_not_version (version_parts (full_version_text text)))) none
@@ -47,13 +49,17 @@ read_version (Ok q) p h = cc
 read_version (Err e) p h = cc
 
 -- a bare version's text is the text that it was completed to
-pub bare_parts_again : (text : List ℕ) (p : Parts) → first_mark text ≡ None → or_not_version (version_parts (full_version_text text)) ≡ Ok p → bare_parts (parts_text p) ≡ Ok p
+pub bare_parts_again : (text : List ℕ) (p : Parts) → first_mark text ≡ None
+    → or_not_version (version_parts (full_version_text text)) ≡ Ok p → bare_parts (parts_text p) ≡ Ok p
 bare_parts_again text p none h =
-    ap bare_parts (version_parts-sound (full_version_text text) p (read_version (version_parts (full_version_text text)) p h)).0
-    ∙ bare_parts-complete (full_version_text text) p (first_mark-completed text none) (completed-completed text) h
+    ap bare_parts
+    (version_parts-sound (full_version_text text) p (read_version (version_parts (full_version_text text)) p h)).0
+    ∙ bare_parts-complete (full_version_text text) p (first_mark-completed text none)
+    (completed-completed text) h
 
 -- the same of what a call answers
-pub bare_answer_again : (text : List ℕ) (r : Result Parts BareError) → first_mark text ≡ None → GivesBare r (or_not_version (version_parts (full_version_text text)))
+pub bare_answer_again : (text : List ℕ) (r : Result Parts BareError) → first_mark text ≡ None
+    → GivesBare r (or_not_version (version_parts (full_version_text text)))
     → IfOk r (λ p. bare_parts (parts_text p) ≡ Ok p)
 bare_answer_again text (Ok p) none h = bare_parts_again text p none h
 bare_answer_again text (Err e) none h = tt
@@ -63,7 +69,8 @@ pub read-as : {T E : Type 0} {P : T → Type 0} (r : Result T E) → ((x : T) �
 read-as (Ok x) h = h x refl
 read-as (Err e) h = tt
 
-parsed-as : {T E : Type 0} {P : T → Type 0} (r : Result T E) → ((x : T) → r ≡ Ok x → P x) → IfOk (or_missed r) P
+parsed-as : {T E : Type 0} {P : T → Type 0} (r : Result T E) → ((x : T) → r ≡ Ok x → P x)
+    → IfOk (or_missed r) P
 parsed-as (Ok x) h = h x refl
 parsed-as (Err e) h = tt
 
@@ -83,11 +90,13 @@ requirement_of-again text = read-as (requirement_of text) λ t h.
     let same : t ≡ text = same_text text t (or_missed (req_of text)) h in
     subst (λ u. requirement_of u ≡ Ok u) (sym same) (subst (λ u. requirement_of text ≡ Ok u) same h)
 
-mark_is_none : (mark : Option ℕ) (v : Result Parts BareError) (p : Parts) → unless_marked mark v ≡ Ok p → (mark ≡ None) × (v ≡ Ok p)
+mark_is_none : (mark : Option ℕ) (v : Result Parts BareError) (p : Parts) → unless_marked mark v ≡ Ok p
+    → (mark ≡ None) × (v ≡ Ok p)
 mark_is_none None v p h = (refl, h)
 mark_is_none (Some mark) v p h = absurd (refused (mark == 45) h)
   where
-    refused : (dash : Bool) → cond {A = Result Parts BareError} dash (Err PreRelease) (Err BuildMetadata) ≡ Ok p → ⊥
+    refused : (dash : Bool)
+        → cond {A = Result Parts BareError} dash (Err PreRelease) (Err BuildMetadata) ≡ Ok p → ⊥
     refused true h = cc
     refused false h = cc
 

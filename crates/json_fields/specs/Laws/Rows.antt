@@ -18,7 +18,8 @@ use Rattle.json_fields.specs.Written.{is_null, set_member, set_unless_null}
 use Rattle.serde_json.specs.Written.{has_float, members_have_float}
 
 -- what stands at a key of members, one of which was set
-pub get_member-set_member : (k l : List ℕ) (d : Data) (ms : Members) → get_member k (set_member l d ms) ≡ cond (bytes_eq k l) (Some d) (get_member k ms)
+pub get_member-set_member : (k l : List ℕ) (d : Data) (ms : Members)
+    → get_member k (set_member l d ms) ≡ cond (bytes_eq k l) (Some d) (get_member k ms)
 unfolding set_member
 get_member-set_member k l d ms = elim (cases_Bool (bytes_eq k l)) [
   | inl same ↦
@@ -29,8 +30,11 @@ get_member-set_member k l d ms = elim (cases_Bool (bytes_eq k l)) [
       rw other (get_member-put_other k l d ms apart)
 ]
 
-required_by : {T : Type 0} (reads : Data → Reading T) (k : List ℕ) (b : Bool) (d : Data) (o : Option Data) (missing : Reading T)
-    → below_key k (read_or missing reads (cond b (Some d) o)) ≡ cond b (below_key k (reads d)) (below_key k (read_or missing reads o))
+required_by :
+    {T : Type 0} (reads : Data → Reading T) (k : List ℕ) (b : Bool) (d : Data) (o : Option Data)
+    (missing : Reading T)
+    → below_key k (read_or missing reads (cond b (Some d) o))
+    ≡ cond b (below_key k (reads d)) (below_key k (read_or missing reads o))
 required_by reads k true d o missing = refl
 required_by reads k false d o missing = refl
 
@@ -40,22 +44,35 @@ same_either false x = refl
 
 module _ {T : Type 0} (reads : Data → Reading T) (k l : List ℕ) (d : Data) (ms : Members) where
   -- a member that must be there, after a member was put
-  pub required_member-set_member : required_member k reads (set_member l d ms) ≡ cond (bytes_eq k l) (below_key k (reads d)) (required_member k reads ms)
+  pub required_member-set_member :
+      required_member k reads (set_member l d ms)
+      ≡ cond (bytes_eq k l) (below_key k (reads d)) (required_member k reads ms)
   unfolding required_member
-  required_member-set_member = rw (get_member-set_member k l d ms) (required_by reads k (bytes_eq k l) d (get_member k ms) _)
+  required_member-set_member =
+      rw (get_member-set_member k l d ms) (required_by reads k (bytes_eq k l) d (get_member k ms) _)
 
   -- a member that may be missing or null, after a member was put
-  pub optional_member-set_member : optional_member k reads (set_member l d ms) ≡ cond (bytes_eq k l) (below_key k (option_at reads d)) (optional_member k reads ms)
+  pub optional_member-set_member :
+      optional_member k reads (set_member l d ms)
+      ≡ cond (bytes_eq k l) (below_key k (option_at reads d)) (optional_member k reads ms)
   unfolding optional_member
-  optional_member-set_member = rw (get_member-set_member k l d ms) (required_by (option_at reads) k (bytes_eq k l) d (get_member k ms) _)
+  optional_member-set_member =
+      rw (get_member-set_member k l d ms)
+      (required_by (option_at reads) k (bytes_eq k l) d (get_member k ms) _)
 
   -- a member with a default, after a member was put
-  pub default_member-set_member : (default : T) → default_member k default reads (set_member l d ms) ≡ cond (bytes_eq k l) (below_key k (reads d)) (default_member k default reads ms)
+  pub default_member-set_member : (default : T)
+      → default_member k default reads (set_member l d ms)
+      ≡ cond (bytes_eq k l) (below_key k (reads d)) (default_member k default reads ms)
   unfolding default_member
-  default_member-set_member default = rw (get_member-set_member k l d ms) (required_by reads k (bytes_eq k l) d (get_member k ms) _)
+  default_member-set_member default =
+      rw (get_member-set_member k l d ms) (required_by reads k (bytes_eq k l) d (get_member k ms) _)
 
   -- a member that must be there, after a member was put unless it is null
-  pub required_member-set_unless_null : required_member k reads (set_unless_null l d ms) ≡ cond (bytes_eq k l) (cond (is_null d) (required_member k reads ms) (below_key k (reads d))) (required_member k reads ms)
+  pub required_member-set_unless_null :
+      required_member k reads (set_unless_null l d ms)
+      ≡ cond (bytes_eq k l) (cond (is_null d) (required_member k reads ms) (below_key k (reads d)))
+      (required_member k reads ms)
   unfolding set_unless_null
   required_member-set_unless_null = elim (cases_Bool (is_null d)) [
     | inl none ↦ rw none (sym (same_either (bytes_eq k l) (required_member k reads ms)))
@@ -63,7 +80,10 @@ module _ {T : Type 0} (reads : Data → Reading T) (k l : List ℕ) (d : Data) (
   ]
 
   -- a member that may be missing or null, after a member was put unless it is null
-  pub optional_member-set_unless_null : optional_member k reads (set_unless_null l d ms) ≡ cond (bytes_eq k l) (cond (is_null d) (optional_member k reads ms) (below_key k (option_at reads d))) (optional_member k reads ms)
+  pub optional_member-set_unless_null :
+      optional_member k reads (set_unless_null l d ms)
+      ≡ cond (bytes_eq k l) (cond (is_null d) (optional_member k reads ms) (below_key k (option_at reads d)))
+      (optional_member k reads ms)
   unfolding set_unless_null
   optional_member-set_unless_null = elim (cases_Bool (is_null d)) [
     | inl none ↦ rw none (sym (same_either (bytes_eq k l) (optional_member k reads ms)))
@@ -72,7 +92,9 @@ module _ {T : Type 0} (reads : Data → Reading T) (k l : List ℕ) (d : Data) (
 
   -- a member with a default, after a member was put unless it is null
   pub default_member-set_unless_null : (default : T)
-      → default_member k default reads (set_unless_null l d ms) ≡ cond (bytes_eq k l) (cond (is_null d) (default_member k default reads ms) (below_key k (reads d))) (default_member k default reads ms)
+      → default_member k default reads (set_unless_null l d ms)
+      ≡ cond (bytes_eq k l) (cond (is_null d) (default_member k default reads ms) (below_key k (reads d)))
+      (default_member k default reads ms)
   unfolding set_unless_null
   default_member-set_unless_null default = elim (cases_Bool (is_null d)) [
     | inl none ↦ rw none (sym (same_either (bytes_eq k l) (default_member k default reads ms)))
@@ -88,7 +110,8 @@ null-or_not (string s) = refl
 null-or_not (array ds) = refl
 null-or_not (object ms) = refl
 
-at_order : (o : Ordering) (a b c : Members) → members_have_float a ≡ false → members_have_float b ≡ false → members_have_float c ≡ false → members_have_float (match_ordering o a b c) ≡ false
+at_order : (o : Ordering) (a b c : Members) → members_have_float a ≡ false → members_have_float b ≡ false
+    → members_have_float c ≡ false → members_have_float (match_ordering o a b c) ≡ false
 at_order Less a b c p q r = p
 at_order Equal a b c p q r = q
 at_order Greater a b c p q r = r
@@ -97,7 +120,8 @@ neither : (a b : Bool) → a ≡ false → b ≡ false → (a || b) ≡ false
 neither a b p q = rw (p, q)
 
 -- members with no float hold none after a value with no float is set
-pub set_member-no_float : (k : List ℕ) (d : Data) (ms : Members) → has_float d ≡ false → members_have_float ms ≡ false → members_have_float (set_member k d ms) ≡ false
+pub set_member-no_float : (k : List ℕ) (d : Data) (ms : Members) → has_float d ≡ false
+    → members_have_float ms ≡ false → members_have_float (set_member k d ms) ≡ false
 unfolding set_member
 set_member-no_float k d no_members h none = neither (has_float d) false h refl
 set_member-no_float k d (member l e ms) h none =
@@ -108,7 +132,8 @@ set_member-no_float k d (member l e ms) h none =
     (neither (has_float e) _ (first_of_none (has_float e) (members_have_float ms) none) (set_member-no_float k d ms h rest))
 
 -- a value with no float, left out where it is null, adds none
-pub set_unless_null-no_float : (k : List ℕ) (d : Data) (ms : Members) → has_float d ≡ false → members_have_float ms ≡ false → members_have_float (set_unless_null k d ms) ≡ false
+pub set_unless_null-no_float : (k : List ℕ) (d : Data) (ms : Members) → has_float d ≡ false
+    → members_have_float ms ≡ false → members_have_float (set_unless_null k d ms) ≡ false
 unfolding set_unless_null
 set_unless_null-no_float k d ms h none = elim (cases_Bool (is_null d)) [
   | inl left_out ↦ rw left_out none
@@ -116,16 +141,19 @@ set_unless_null-no_float k d ms h none = elim (cases_Bool (is_null d)) [
 ]
 
 -- of no members a row reads that its own is missing
-pub optional_member-no_members : {T : Type 0} (k : List ℕ) (reads : Data → Reading T) → optional_member k reads no_members ≡ Ok None
+pub optional_member-no_members : {T : Type 0} (k : List ℕ) (reads : Data → Reading T)
+    → optional_member k reads no_members ≡ Ok None
 unfolding optional_member
 optional_member-no_members k reads = refl
 
 -- a row of an empty object gives its default
-pub default_member-no_members : {T : Type 0} (k : List ℕ) (default : T) (reads : Data → Reading T) → default_member k default reads no_members ≡ Ok default
+pub default_member-no_members : {T : Type 0} (k : List ℕ) (default : T) (reads : Data → Reading T)
+    → default_member k default reads no_members ≡ Ok default
 unfolding default_member
 default_member-no_members k default reads = refl
 
 -- a miss stays a miss through the rows after it
-pub Gives-then : {A B : Type 0} (e : ReadError) (r : Reading A) (f : A → Reading B) → Gives (Err e) r → Gives (Err e) (r >>= f)
+pub Gives-then : {A B : Type 0} (e : ReadError) (r : Reading A) (f : A → Reading B) → Gives (Err e) r
+    → Gives (Err e) (r >>= f)
 Gives-then (Missed place) r f h = rw h refl
 Gives-then OutOfMemory r f h = tt

@@ -10,13 +10,18 @@ use Rattle.json_fields.specs.TextJson.{text_form_at, text_form_data}
 use Rattle.json_fields.specs.Laws.ReadAgain.{bare_of-again, requirement_of-again, version_of-again}
 use Rattle.json_fields.specs.Versions.{bare_at, bare_of, requirement_at, requirement_data, requirement_of, version_at, version_data, version_of, version_text}
 
-module _ {T : Type 0} (of_text : List ℕ → Reading T) (text_of : T → List ℕ) (again : (text : List ℕ) → IfOk (of_text text) (λ x. of_text (text_of x) ≡ Ok x)) where
-  text_form-kept : (d : Data) → IfOk (text_form_at of_text d) (IsKept (text_form_at of_text) (text_form_data text_of) (has_float d) (max 0 (depth d)))
+module _ {T : Type 0} (of_text : List ℕ → Reading T) (text_of : T → List ℕ)
+    (again : (text : List ℕ) → IfOk (of_text text) (λ x. of_text (text_of x) ≡ Ok x)) where
+  text_form-kept : (d : Data)
+      → IfOk (text_form_at of_text d)
+      (IsKept (text_form_at of_text) (text_form_data text_of) (has_float d) (max 0 (depth d)))
   text_form-kept null = tt
   text_form-kept (boolean b) = tt
   text_form-kept (number n) = tt
   text_form-kept (string s) =
-      (weaker {r = of_text s} (λ x h. record { again = h; clean = λ _. refl; nests = omega arith }) (record { holds = again s })).holds
+      (weaker {r = of_text s} (λ x h. record { again = h; clean = λ _. refl; nests = omega arith }) (record {
+        holds = again s;
+      })).holds
   text_form-kept (array ds) = tt
   text_form-kept (object ms) = tt
 

@@ -15,7 +15,9 @@ pub if_both : {T E : Type 0} {P Q : T → Type 0} (r : Result T E) → ((x : T) 
 if_both (Ok x) f h = f x h
 if_both (Err e) f h = tt
 
-module _ {T : Type 0} (reads : Data → Reading T) (writes : T → Data) (height : ℕ) (kept : RoundTrips reads writes height) (d : Data) (x : T) (clean : has_float d ≡ false) (read : reads d ≡ Ok x) where
+module _ {T : Type 0} (reads : Data → Reading T) (writes : T → Data) (height : ℕ)
+    (kept : RoundTrips reads writes height) (d : Data) (x : T) (clean : has_float d ≡ false)
+    (read : reads d ≡ Ok x) where
   kept_at : IsKept reads writes (has_float d) (max height (depth d)) x
   kept_at = subst (λ r. IfOk r (IsKept reads writes (has_float d) (max height (depth d)))) read (kept.keeps d)
 
@@ -29,7 +31,8 @@ module _ {T : Type 0} (reads : Data → Reading T) (writes : T → Data) (height
   whole-nests = kept_at.nests
 
 -- a document that is read as a value holds no float
-pub whole-has_no_float : {T : Type 0} (reads : Data → Reading T) (d : Data) (x : T) → whole reads d ≡ Ok x → has_float d ≡ false
+pub whole-has_no_float : {T : Type 0} (reads : Data → Reading T) (d : Data) (x : T) → whole reads d ≡ Ok x
+    → has_float d ≡ false
 unfolding whole
 whole-has_no_float reads d x read = elim (cases_Bool (has_float d)) [
   | inl float ↦
@@ -39,12 +42,14 @@ whole-has_no_float reads d x read = elim (cases_Bool (has_float d)) [
 ]
 
 -- a document of bytes is read as its text where they are one
-pub bytes_document-text : {T : Type 0} (reads : Data → Reading T) (bytes : List ℕ) → IsUtf8 bytes → bytes_document reads bytes ≡ document reads bytes
+pub bytes_document-text : {T : Type 0} (reads : Data → Reading T) (bytes : List ℕ) → IsUtf8 bytes
+    → bytes_document reads bytes ≡ document reads bytes
 unfolding bytes_document
 bytes_document-text reads bytes h = rw (is_utf8-from_IsUtf8 bytes h) refl
 
 -- bytes that are not UTF-8 are refused as no JSON
-pub bytes_document-no_text : {T : Type 0} (reads : Data → Reading T) (bytes : List ℕ) → (IsUtf8 bytes → ⊥) → bytes_document reads bytes ≡ Err (codes "syntax")
+pub bytes_document-no_text : {T : Type 0} (reads : Data → Reading T) (bytes : List ℕ) → (IsUtf8 bytes → ⊥)
+    → bytes_document reads bytes ≡ Err (codes "syntax")
 unfolding bytes_document
 bytes_document-no_text reads bytes h = elim (cases_Bool (is_utf8 bytes)) [
   | inl valid ↦ absurd (h (IsUtf8-from_is_utf8 bytes valid))

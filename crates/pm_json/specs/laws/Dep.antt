@@ -17,7 +17,9 @@ pub crate_name-again : (text : List ℕ) → IfOk (crate_name_of text) (λ name.
 unfolding crate_name_of
 crate_name-again text = by_dash (has_dash text) refl
   where
-    by_dash : (dash : Bool) → has_dash text ≡ dash → IfOk (cond {A = Reading (List ℕ)} dash (Err []) (Ok text)) (λ name. cond {A = Reading (List ℕ)} (has_dash name) (Err []) (Ok name) ≡ Ok name)
+    by_dash : (dash : Bool) → has_dash text ≡ dash
+        → IfOk (cond {A = Reading (List ℕ)} dash (Err []) (Ok text))
+        (λ name. cond {A = Reading (List ℕ)} (has_dash name) (Err []) (Ok name) ≡ Ok name)
     by_dash true is = tt
     by_dash false is = rw is refl
 
@@ -34,5 +36,8 @@ dep-round_trips = table-round_trips _ dep_data 0 λ ms.
     let none : 0 ≤ n = omega arith in
     and_then (required_member-kept number-round_trips none within (codes "crate")) λ krate krate_h.
     and_then (required_member-kept crate_name-round_trips none within (codes "name")) λ name name_h.
-    let written = set_member-written (codes "name") name_h (set_member-written (codes "crate") krate_h (no_members-written _ _)) in
-    at_last (record { again = rw name_h.again refl; clean = written.clean; nests = omega (arith, written.nests) })
+    let written =
+    set_member-written (codes "name") name_h
+    (set_member-written (codes "crate") krate_h (no_members-written _ _)) in
+    at_last
+    (record { again = rw name_h.again refl; clean = written.clean; nests = omega (arith, written.nests) })

@@ -18,15 +18,22 @@ build-round_trips = table-round_trips _ build_data 0 λ ms.
     let within : AreWithin n ms = record { within = omega arith } in
     let none : 0 ≤ n = omega arith in
     and_then (required_member-kept text-round_trips none within (codes "label")) λ label label_h.
-    and_then (required_member-kept text-round_trips none within (codes "build_file")) λ build_file build_file_h.
-    and_then (required_member-kept json_target_kind-round_trips none within (codes "target_kind")) λ target_kind target_kind_h.
+    and_then (required_member-kept text-round_trips none within (codes "build_file"))
+    λ build_file build_file_h.
+    and_then (required_member-kept json_target_kind-round_trips none within (codes "target_kind"))
+    λ target_kind target_kind_h.
     let written =
     set_member-written (codes "target_kind") target_kind_h
     (set_member-written (codes "build_file") build_file_h
     (set_member-written (codes "label") label_h
     (no_members-written _ _)))
     in
-    at_last (record { again = rw target_kind_h.again refl; clean = written.clean; nests = omega (arith, written.nests) })
+    at_last
+    (record {
+      again = rw target_kind_h.again refl;
+      clean = written.clean;
+      nests = omega (arith, written.nests);
+    })
 
 -- the directories of sources
 pub crate_source-round_trips : RoundTrips crate_source_at crate_source_data 0
@@ -35,14 +42,23 @@ crate_source-round_trips = table-round_trips _ crate_source_data 0 λ ms.
     let n = max 0 (members_depth ms) in
     let within : AreWithin n ms = record { within = omega arith } in
     let none : 0 ≤ n = omega arith in
-    and_then (required_member-kept (list-round_trips _ _ _ text-round_trips) none within (codes "include_dirs")) λ include_dirs include_dirs_h.
-    and_then (required_member-kept (list-round_trips _ _ _ text-round_trips) none within (codes "exclude_dirs")) λ exclude_dirs exclude_dirs_h.
+    and_then
+    (required_member-kept (list-round_trips _ _ _ text-round_trips) none within (codes "include_dirs"))
+    λ include_dirs include_dirs_h.
+    and_then
+    (required_member-kept (list-round_trips _ _ _ text-round_trips) none within (codes "exclude_dirs"))
+    λ exclude_dirs exclude_dirs_h.
     let written =
     set_member-written (codes "exclude_dirs") exclude_dirs_h
     (set_member-written (codes "include_dirs") include_dirs_h
     (no_members-written _ _))
     in
-    at_last (record { again = rw (include_dirs_h.again, exclude_dirs_h.again) refl; clean = written.clean; nests = omega (arith, written.nests) })
+    at_last
+    (record {
+      again = rw (include_dirs_h.again, exclude_dirs_h.again) refl;
+      clean = written.clean;
+      nests = omega (arith, written.nests);
+    })
 
 -- a runnable
 pub runnable-round_trips : RoundTrips runnable_at runnable_data 0
@@ -52,7 +68,8 @@ runnable-round_trips = table-round_trips _ runnable_data 0 λ ms.
     let within : AreWithin n ms = record { within = omega arith } in
     let none : 0 ≤ n = omega arith in
     and_then (required_member-kept text-round_trips none within (codes "program")) λ program program_h.
-    and_then (required_member-kept (list-round_trips _ _ _ text-round_trips) none within (codes "args")) λ args args_h.
+    and_then (required_member-kept (list-round_trips _ _ _ text-round_trips) none within (codes "args"))
+    λ args args_h.
     and_then (required_member-kept text-round_trips none within (codes "cwd")) λ cwd cwd_h.
     and_then (required_member-kept runnable_kind-round_trips none within (codes "kind")) λ kind kind_h.
     let written =
@@ -62,4 +79,9 @@ runnable-round_trips = table-round_trips _ runnable_data 0 λ ms.
     (set_member-written (codes "program") program_h
     (no_members-written _ _))))
     in
-    at_last (record { again = rw (args_h.again, runnable_kind-of_text kind kind_h.again) refl; clean = written.clean; nests = omega (arith, written.nests) })
+    at_last
+    (record {
+      again = rw (args_h.again, runnable_kind-of_text kind kind_h.again) refl;
+      clean = written.clean;
+      nests = omega (arith, written.nests);
+    })

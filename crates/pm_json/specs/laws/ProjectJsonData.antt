@@ -30,7 +30,8 @@ unfolding project_level
 project_data-present p = ap is_null (fold_out-ProjectJsonData Data project_level p) ∙ refl
 
 -- what is written of a project, by its parts
-module _ (sysroot : Option (List ℕ)) (sysroot_src : Option (List ℕ)) (cfg_groups : List (List ℕ × List CfgAtom)) (crates : List CrateData) (runnables : List Runnable) where
+module _ (sysroot : Option (List ℕ)) (sysroot_src : Option (List ℕ))
+    (cfg_groups : List (List ℕ × List CfgAtom)) (crates : List CrateData) (runnables : List Runnable) where
   project_members : Option ProjectJsonData → Members
   project_members sysroot_project =
       set_member (codes "runnables") (list_data runnable_data runnables)
@@ -41,31 +42,64 @@ module _ (sysroot : Option (List ℕ)) (sysroot_src : Option (List ℕ)) (cfg_gr
       (set_member (codes "sysroot") (option_data string sysroot) no_members)))))
 
   project_data-roll : (sysroot_project : Option ProjectJsonData)
-      → project_data (roll-ProjectJsonData (record { sysroot = sysroot; sysroot_src = sysroot_src; sysroot_project = sysroot_project; cfg_groups = cfg_groups; crates = crates; runnables = runnables }))
+      → project_data
+      (roll-ProjectJsonData (record {
+        sysroot = sysroot;
+        sysroot_src = sysroot_src;
+        sysroot_project = sysroot_project;
+        cfg_groups = cfg_groups;
+        crates = crates;
+        runnables = runnables;
+      }))
       ≡ object (project_members sysroot_project)
   unfolding project_level project_members
   project_data-roll None =
-      rw (fold-roll-ProjectJsonData Data project_level (record { sysroot = sysroot; sysroot_src = sysroot_src; sysroot_project = None; cfg_groups = cfg_groups; crates = crates; runnables = runnables })) refl
+      rw
+      (fold-roll-ProjectJsonData Data project_level (record {
+        sysroot = sysroot;
+        sysroot_src = sysroot_src;
+        sysroot_project = None;
+        cfg_groups = cfg_groups;
+        crates = crates;
+        runnables = runnables;
+      })) refl
   project_data-roll (Some p) =
-      rw (fold-roll-ProjectJsonData Data project_level (record { sysroot = sysroot; sysroot_src = sysroot_src; sysroot_project = Some p; cfg_groups = cfg_groups; crates = crates; runnables = runnables })) refl
+      rw
+      (fold-roll-ProjectJsonData Data project_level (record {
+        sysroot = sysroot;
+        sysroot_src = sysroot_src;
+        sysroot_project = Some p;
+        cfg_groups = cfg_groups;
+        crates = crates;
+        runnables = runnables;
+      })) refl
 
--- the crates must be a list, so a level nests at least as deep as the empty list and the empty map that it is given for what is missing
-project_row-round_trips : (inner : Data → Reading ProjectJsonData) → RoundTrips inner project_data 0 → RoundTrips (project_row inner) project_data 0
+-- the crates must be a list, so a level nests at least as deep as the empty list and the empty map that it is
+-- given for what is missing
+project_row-round_trips : (inner : Data → Reading ProjectJsonData) → RoundTrips inner project_data 0
+    → RoundTrips (project_row inner) project_data 0
 unfolding project_row required_member optional_member default_member set_member project_members
 project_row-round_trips inner kept = table-round_trips _ project_data 0 λ ms.
     let n = max 1 (members_depth ms) in
     let within : AreWithin n ms = record { within = omega arith } in
     let none : 0 ≤ n = omega arith in
     let some : 1 ≤ n = omega arith in
-    and_then (optional_member-kept text-round_trips none within (λ x. refl) (codes "sysroot")) λ sysroot sysroot_h.
-    and_then (optional_member-kept text-round_trips none within (λ x. refl) (codes "sysroot_src")) λ sysroot_src sysroot_src_h.
-    and_then (optional_member-kept kept none within project_data-present (codes "sysroot_project")) λ sysroot_project sysroot_project_h.
-    and_then (map_member-kept (list-round_trips _ _ _ cfg-round_trips) none some within (codes "cfg_groups")) λ cfg_groups cfg_groups_h.
+    and_then (optional_member-kept text-round_trips none within (λ x. refl) (codes "sysroot"))
+    λ sysroot sysroot_h.
+    and_then (optional_member-kept text-round_trips none within (λ x. refl) (codes "sysroot_src"))
+    λ sysroot_src sysroot_src_h.
+    and_then (optional_member-kept kept none within project_data-present (codes "sysroot_project"))
+    λ sysroot_project sysroot_project_h.
+    and_then (map_member-kept (list-round_trips _ _ _ cfg-round_trips) none some within (codes "cfg_groups"))
+    λ cfg_groups cfg_groups_h.
     let exactly : AreWithin (members_depth ms) ms = record { within = omega arith } in
-    and_then (required_member-kept (list-round_trips _ _ _ crate-round_trips) (omega arith) exactly (codes "crates")) λ crates crates_h.
+    and_then
+    (required_member-kept (list-round_trips _ _ _ crate-round_trips) (omega arith) exactly (codes "crates"))
+    λ crates crates_h.
     let crates_kept : IsKept (list_at crate_at) (list_data crate_data) (members_have_float ms) n crates =
     record { again = crates_h.again; clean = crates_h.clean; nests = omega (arith, crates_h.nests) } in
-    and_then (list_member-kept runnable-round_trips none some within (codes "runnables")) λ runnables runnables_h.
+    and_then (list_member-kept runnable-round_trips none some within (codes "runnables"))
+    λ runnables runnables_h.
     let written =
     set_member-written (codes "runnables") runnables_h
     (set_member-written (codes "crates") crates_kept
@@ -76,7 +110,10 @@ project_row-round_trips inner kept = table-round_trips _ project_data 0 λ ms.
     in
     let is = project_data-roll sysroot sysroot_src cfg_groups crates runnables sysroot_project in
     at_last (record {
-      again = rw (is, sysroot_h.again, sysroot_src_h.again, sysroot_project_h.again, cfg_groups_h.again, crates_h.again, runnables_h.again) refl;
+      again =
+          rw
+          (is, sysroot_h.again, sysroot_src_h.again, sysroot_project_h.again, cfg_groups_h.again, crates_h.again, runnables_h.again)
+          refl;
       clean = λ no_float. ap has_float is ∙ written.clean no_float;
       nests = rw is (omega (arith, written.nests, crates_h.nests));
     })
