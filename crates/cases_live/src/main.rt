@@ -1,4 +1,4 @@
-//! Cases of live_input and live: words of a command line, scripts through the whole program, and sessions step by step.
+//! Cases of live_page and live: words of a command line, scripts through the whole program, and sessions step by step.
 #![tactic(auto)]
 
 mod config;
@@ -15,7 +15,7 @@ use std::io;
 use std::process::ExitCode;
 use std::rt::Files;
 
-/// The calls of live_input and live.
+/// The calls of live_page and live.
 struct LiveFamily;
 
 impl<R: Files + AllocGlobal> Family<R> for LiveFamily {

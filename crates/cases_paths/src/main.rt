@@ -20,7 +20,7 @@ use std::alloc::Global;
 use std::io;
 use std::process::ExitCode;
 
-/// The calls of base_text, streams, trees, vfs_core, vfs_sets and vfs_loader.
+/// The calls of base_text, streams, trees, vfs_core, vfs_sets and vfs_core_loader.
 struct PathFamily;
 
 impl<R: AllocGlobal> Family<R> for PathFamily {

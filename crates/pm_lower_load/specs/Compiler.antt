@@ -1,5 +1,5 @@
 -- What the compiler of a toolchain says in a directory, where no manifest of cargo is asked by: the questions
--- and the answers are those of rust-analyzer's `toolchain_info` for a compiler alone.
+-- and the answers are those of rust-analyzer's `pm_tools_info` for a compiler alone.
 use Rattle.std.specs.Prelude.{ℕ, List, [], ◌∷◌, codes, slice_get, Option, None, Result, Ok}
 use Rattle.std.specs.Option.{ok_or, option_map}
 use Rattle.base_text_outside.specs.declared.cfg.CfgAtom.{CfgAtom}
