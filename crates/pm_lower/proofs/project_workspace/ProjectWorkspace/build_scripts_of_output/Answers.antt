@@ -2,7 +2,7 @@ use Rattle.std.proofs.Common.{Option, ap}
 use Rattle.pm_cargo.specs.Workspace.{Workspace}
 use Rattle.pm_cargo_fetch.proofs.Lines.{TakesLines-none, TakesLines-same}
 use Rattle.pm_lower.specs.Lines.{output_lines_for}
-use Rattle.pm_lower.proofs.build_scripts.ProjectWorkspace.build_scripts_of_output.Goals as goal
+use Rattle.pm_lower.proofs.project_workspace.ProjectWorkspace.build_scripts_of_output.Goals as goal
 
 pub returns-in-Some-clause-lines : goal.returns-in-Some-clause-lines
 returns-in-Some-clause-lines g c =

@@ -6,7 +6,7 @@ use Rattle.base_text.specs.Progress.{TakesFront-none}
 use Rattle.pm_cargo_fetch.proofs.Lines.{TakesLines-same, TakesLines-stopped}
 use Rattle.pm_lower.specs.Lines.{builds_lines_by}
 use Rattle.pm_tools_ask.specs.Ask.{means_of}
-use Rattle.pm_lower.proofs.build_scripts.ProjectWorkspace.run_all_build_scripts.Goals as goal
+use Rattle.pm_lower.proofs.project_workspace.ProjectWorkspace.run_all_build_scripts.Goals as goal
 
 pub returns-in_err-line-clause-lines : goal.returns-in_err-line-clause-lines
 returns-in_err-line-clause-lines g c =

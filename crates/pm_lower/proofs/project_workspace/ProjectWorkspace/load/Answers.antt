@@ -1,6 +1,6 @@
 use Rattle.std.proofs.Common.{refl}
 use Rattle.pm_cargo_fetch.proofs.Lines.{TakesLines-none}
-use Rattle.pm_lower.proofs.load.ProjectWorkspace.load.Goals as goal
+use Rattle.pm_lower.proofs.project_workspace.ProjectWorkspace.load.Goals as goal
 
 pub returns-in-ProjectJson-clause-lines : goal.returns-in-ProjectJson-clause-lines
 returns-in-ProjectJson-clause-lines g c = rw c.in-ProjectJson.is c.json_project.ensures.lines
