@@ -1,98 +1,40 @@
-//! A program to be timed: it builds a graph of crates, or partitions files into sets, which no script times alone. The words
-//! of the command line say which.
+//! A program to be timed: it reads a graph of crates and builds it so many times, and the lines say what follows.
 #![tactic(auto)]
 
-mod graphs;
-mod partition;
+mod graph;
 
-use crate::graphs::{Kind, build};
-use crate::partition::partition;
-use std::process::ExitCode;
-use std::{env, io};
+use crate::graph::build;
+use anyhow::{Result, bail};
+use std::alloc::Global;
+use std::io;
 
-const USAGE: &str = "usage: bench graphs KIND [COUNT] | bench partition SETS TIMES";
-
-fn main(rt: HostRuntime) -> io::Result<ExitCode> {
-    let mut words = env::args(&rt)?.skip(1);
-    let (what, first, second) = (words.next(), words.next(), words.next());
-    run(&rt, text_of(&what), text_of(&first), text_of(&second))
+fn main(rt: HostRuntime) -> Result<()> {
+    let text = io::read_to_string(rt.alloc(), rt.reader())?;
+    let count = run(rt.alloc(), text.as_str())?;
+    println!(rt; "{count}")?;
+    Ok(())
 }
 
-fn text_of(word: &Option<String>) -> Option<&str> {
-    word.as_ref().map(|word| word.as_str())
-}
-
-fn run<R: Print + Eprint + AllocGlobal>(
-    rt: &R,
-    what: Option<&str>,
-    first: Option<&str>,
-    second: Option<&str>,
-) -> io::Result<ExitCode> {
-    match what {
-        Some("graphs") => run_graphs(rt, first, second),
-        Some("partition") => run_partition(rt, first, second),
-        _ => refuse(rt),
-    }
-}
-
-fn refuse<R: Eprint + AllocGlobal>(rt: &R) -> io::Result<ExitCode> {
-    eprintln!(rt; "{USAGE}")?;
-    Ok(ExitCode::from(2))
-}
-
-/// Builds a graph, and prints how many crates its first one reaches.
-fn run_graphs<R: Print + Eprint + AllocGlobal>(
-    rt: &R,
-    word: Option<&str>,
-    count: Option<&str>,
-) -> io::Result<ExitCode> {
-    let Some(kind) = word.and_then(Kind::of_word) else {
-        return refuse(rt);
+// Does what a text says, and returns what the last time counted.
+fn run(alloc: Global, text: &str) -> Result<usize> {
+    let Some((step, rest)) = text.split_once('\n') else {
+        bail!("no graph");
     };
-    match count_of(kind, count) {
-        Some(count) => report(rt, build(rt.alloc(), kind, count)),
-        None => refuse(rt),
+    let numbers = numbers_of(alloc, rest)?;
+    let [times, count, files, pairs @ ..] = numbers.as_slice() else {
+        bail!("no size");
+    };
+    let mut counted = 0;
+    for _ in 0..*times {
+        counted = build(alloc, step, *count, *files, pairs.as_chunks::<2>().0)?;
     }
+    Ok(counted)
 }
 
-/// How many crates a graph has: what the word says, else what is usual. Layers have one size.
-fn count_of(kind: Kind, word: Option<&str>) -> Option<u32> {
-    match word {
-        None => Some(kind.count()),
-        Some(_) if kind == Kind::Layers => None,
-        Some(word) => word.parse::<u32>().ok(),
+fn numbers_of(alloc: Global, text: &str) -> Result<Vec<u32>> {
+    let mut numbers = Vec::new(alloc);
+    for word in text.split_whitespace() {
+        numbers.push(word.parse::<u32>()?)?;
     }
-}
-
-/// Partitions files, and prints how many the last set takes.
-fn run_partition<R: Print + Eprint + AllocGlobal>(
-    rt: &R,
-    sets: Option<&str>,
-    times: Option<&str>,
-) -> io::Result<ExitCode> {
-    match (number_of(sets), number_of(times)) {
-        (Some(sets), Some(times)) => report(rt, partition(rt.alloc(), sets, times)),
-        _ => refuse(rt),
-    }
-}
-
-fn number_of(word: Option<&str>) -> Option<u32> {
-    word.and_then(|word| word.parse::<u32>().ok())
-}
-
-/// Prints a number, or an error.
-fn report<R: Print + Eprint + AllocGlobal>(
-    rt: &R,
-    number: anyhow::Result<usize>,
-) -> io::Result<ExitCode> {
-    match number {
-        Ok(number) => {
-            println!(rt; "{number}")?;
-            Ok(ExitCode::from(0))
-        }
-        Err(error) => {
-            eprintln!(rt; "{error}")?;
-            Ok(ExitCode::from(1))
-        }
-    }
+    Ok(numbers)
 }
