@@ -140,7 +140,7 @@ module _ (P : ℕ → Type 0) where
 
   module _ (files : by_path.FileNumbers) (all : AllFiles files) where
     json-row : (n : ℕ) (krate : document.Crate) → All (λ (row : json_rows.JsonRow). P row.file) (option_to_list (json_rows.json_row files n krate))
-    unfolding Rattle.pm_lower_crates.specs.JsonRows.row_of
+    unfolding Rattle.pm_lower_crates.specs.JsonRows.json_row
     json-row n krate = by (by_path.file_number files krate.root_module) (All-lookup P (path_eq (by_path.path_key krate.root_module)) files all)
       where
         by : (file : Option ℕ) → IfSome file P → All (λ (row : json_rows.JsonRow). P row.file) (option_to_list (option_map (json_rows.row_in n krate) file))
@@ -155,7 +155,7 @@ module _ (P : ℕ → Type 0) where
         All-append (λ (row : json_rows.JsonRow). P row.file) (option_to_list row) (json_rows.rows_among (json_rows.json_rows_from files next crates)) (json-row n krate) (json-rows next crates)
 
     json-begins : (project : ProjectJson) (shared : CrateWorkspaceData) (limit : ℕ) → IfOk (json.json_lowering files project shared limit) (λ crates. All (λ krate. P krate.root) crates)
-    unfolding Rattle.pm_lower_crates.specs.JsonLowering.lowering Rattle.pm_lower_crates.specs.JsonLowering.crates_of
+    unfolding Rattle.pm_lower_crates.specs.JsonLowering.json_lowering Rattle.pm_lower_crates.specs.JsonLowering.json_crates_of_rows
     json-begins project shared limit =
         let rows = json_rows.rows_among (json_rows.rows_by_place files project) in
         let kept = kept_edges (json_edges.json_wanted_edges (json_rows.rows_by_place files project)) in
@@ -163,7 +163,7 @@ module _ (P : ℕ → Type 0) where
         (λ more. tt) (λ few. All-map (λ (krate : Crate). P krate.root) (json.json_crate_of_row project shared kept) rows (json-rows 0 (crates_in project)))
 
     alone-begins : (file : List ℕ) (shared : CrateWorkspaceData) (number : Option ℕ) → IfSome number P → All (λ (krate : Crate). P krate.root) (detached.crates_of_file file shared number)
-    unfolding Rattle.pm_lower_crates.specs.DetachedLowering.crates_of
+    unfolding Rattle.pm_lower_crates.specs.DetachedLowering.crates_of_file
     alone-begins file shared None none = All-nil (λ (krate : Crate). P krate.root)
     alone-begins file shared (Some number) p = All-cons (λ (krate : Crate). P krate.root) (detached.crate_of_file file shared number) [] p (All-nil (λ (krate : Crate). P krate.root))
 

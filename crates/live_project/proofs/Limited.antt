@@ -43,7 +43,7 @@ counted-limit true crates limit is = cc
 counted-limit false crates limit is = cc
 
 json-limit : (files : by_path.FileNumbers) (project : ProjectJson) (shared : CrateWorkspaceData) (most : ℕ) (limit : Limit) → json.json_lowering files project shared most ≡ Err (TooMany limit) → limit ≡ Crates
-unfolding Rattle.pm_lower_crates.specs.JsonLowering.lowering
+unfolding Rattle.pm_lower_crates.specs.JsonLowering.json_lowering
 json-limit files project shared most limit is =
     counted-limit (nat_lt most (length (rows_among (rows_by_place files project)))) (json.json_crates_of_rows files project shared) limit is
 
