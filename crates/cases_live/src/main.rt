@@ -1,4 +1,5 @@
-//! Cases of live_page and live: words of a command line, scripts through the whole program, and sessions step by step.
+//! Cases of live_page, live_script and live: words of a command line, scripts through the whole program, sessions step by step, and
+//! scripts over a session of another state.
 #![tactic(auto)]
 
 mod config;
@@ -6,6 +7,8 @@ mod generated;
 mod runs;
 mod scripts;
 mod sessions;
+mod tallies;
+mod tally;
 mod values;
 mod words;
 
@@ -15,7 +18,7 @@ use std::io;
 use std::process::ExitCode;
 use std::rt::Files;
 
-/// The calls of live_page and live.
+/// The calls of live_page, live_script and live.
 struct LiveFamily;
 
 impl<R: Files + AllocGlobal> Family<R> for LiveFamily {
@@ -25,6 +28,7 @@ impl<R: Files + AllocGlobal> Family<R> for LiveFamily {
             "generated.jsonl" | "recorded.jsonl" => generated::answer(rt.alloc(), case),
             "scripts.jsonl" => scripts::answer(rt, case),
             "sessions.jsonl" => sessions::answer(rt.alloc(), case),
+            "tallies.jsonl" => tallies::answer(rt.alloc(), case),
             "words.jsonl" => words::answer(rt.alloc(), case),
             _ => Err(Fault::Kind),
         }

@@ -12,16 +12,16 @@ use Rattle.live_project.specs.Build.{built_project}
 use Rattle.live_project.specs.Project.{ProjectContent}
 use Rattle.live_page.specs.declared.event.Event.{Event}
 use Rattle.live_page.specs.declared.event.Event.TheVariants.{Build, Flush}
-use Rattle.live.specs.declared.fault.LiveError.{LiveError}
-use Rattle.live.specs.declared.fault.LiveError.TheVariants.{NoCargoProject, OutOfMemory, TooMany, WriteFault}
+use Rattle.live_script.specs.declared.fault.LiveError.{LiveError}
+use Rattle.live_script.specs.declared.fault.LiveError.TheVariants.{NoCargoProject, OutOfMemory, TooMany, WriteFault}
 use Rattle.live.specs.declared.session.Live.{Live}
-use Rattle.live.specs.Fault.{IsOneOf, of_build_error, status_of, turn_statuses}
+use Rattle.live_script.specs.Fault.{IsOneOf, of_build_error, status_of, turn_statuses}
 use Rattle.live.specs.Marked.{BuildsProject, FailsBuild}
 use Rattle.live.specs.Session.{State, build_turn, built_turn, of_building, project_after_build, state_after_failure, turn}
-use Rattle.live.specs.Turn.{EndsTurn, Holds, LeavesAsWas, TakesTurn}
-use Rattle.live.specs.Written.{HasWriteCause}
+use Rattle.live.specs.Turn.{EndsLiveTurn, Holds, LeavesAsWas, TakesLiveTurn}
+use Rattle.live_script.specs.Written.{HasWriteCause}
 use Rattle.live.proofs.Loads.{Holds-project, memory_cause, memory_ends, others_leave}
-use Rattle.live.proofs.Outcomes.{AppendsFront-nil}
+use Rattle.live_script.proofs.Texts.{AppendsFront-nil}
 
 -- ---- refusals
 
@@ -77,38 +77,38 @@ build-is live s h output outcome is = ap (built_turn s) (ap (λ p. project_after
 
 -- a build that is taken
 pub takes_build : (live live' : Live) (output : Output) (result : Result (Unit {0}) LiveError) (held : Option (List ℕ)) (event : Event) → event ≡ Build output
-    → OnOk result (BuildsProject live live' output) → OnOk result ((s : State) → Holds live s → TakesTurn (turn s event) live' (held, held))
+    → OnOk result (BuildsProject live live' output) → OnOk result ((s : State) → Holds live s → TakesLiveTurn (turn s event) live' (held, held))
 unfolding turn
 takes_build live live' output (Ok done) held event is builds = λ s h.
-    subst (λ e. TakesTurn (turn s e) live' (held, held)) (sym is)
-    (subst (λ t. TakesTurn t live' (held, held)) (sym (build-is live s h output (Ok builds.project) builds.given))
+    subst (λ e. TakesLiveTurn (turn s e) live' (held, held)) (sym is)
+    (subst (λ t. TakesLiveTurn t live' (held, held)) (sym (build-is live s h output (Ok builds.project) builds.given))
     (record { accepted = refl; holds = Holds-project live live' s h builds.project builds.after; appended = Appends-nil held }))
 takes_build live live' output (Err error) held event is builds = tt
 
 -- one that is refused
 refused_ends : (live live' : Live) (output : Output) (s : State) (error : LiveError) (held : Option (List ℕ)) → Holds live s → live' ≡ live
-    → project_after_build live.project output ≡ Err error → EndsTurn (build_turn s output) s error live' (held, held)
+    → project_after_build live.project output ≡ Err error → EndsLiveTurn (build_turn s output) s error live' (held, held)
 refused_ends live live' output s error held h same refused =
     let holds : Holds live' s = subst (λ l. Holds l s) (sym same) h in
-    subst (λ t. EndsTurn t s error live' (held, held)) (sym (build-is live s h output (Err error) refused)) (record {
-      fails = record {
-        written = AppendsFront-nil held [];
-        cut = λ e. absurd (no-write error (build-refused live.project output error refused) e);
-        refused = λ refusal. record { refused = refl; holds = holds; appended = Appends-nil held };
-      };
+    subst (λ t. EndsLiveTurn t s error live' (held, held)) (sym (build-is live s h output (Err error) refused)) (record {
+      written = AppendsFront-nil held [];
+      cut = λ e. absurd (no-write error (build-refused live.project output error refused) e);
+      refused = λ refusal. record { refused = refl; holds = holds; appended = Appends-nil held };
+      state = s;
+      left = refl;
       holds = holds;
     })
 
 pub fails_build : (live live' : Live) (output : Output) (result : Result (Unit {0}) LiveError) (held : Option (List ℕ)) (event : Event) → event ≡ Build output
     → IfErr result (FailsBuild live output) → OnErr result (live' ≡ live)
-    → IfErr result (λ e. (s : State) → Holds live s → EndsTurn (turn s event) (state_after_failure s event) e live' (held, held))
+    → IfErr result (λ e. (s : State) → Holds live s → EndsLiveTurn (turn s event) (state_after_failure s event) e live' (held, held))
 unfolding turn
 fails_build live live' output (Ok done) held event is fails same = tt
 fails_build live live' output (Err error) held event is (inl memory) same = λ s h.
     memory_ends live live' s (state_after_failure s event) error held event memory
     (subst (λ e. Holds live' (state_after_failure s e)) (sym is) (subst (λ l. Holds l s) (sym same) h))
 fails_build live live' output (Err error) held event is (inr refused) same = λ s h.
-    subst (λ e. EndsTurn (turn s e) (state_after_failure s e) error live' (held, held)) (sym is) (refused_ends live live' output s error held h same refused)
+    subst (λ e. EndsLiveTurn (turn s e) (state_after_failure s e) error live' (held, held)) (sym is) (refused_ends live live' output s error held h same refused)
 
 -- ---- causes, and what stays
 

@@ -182,7 +182,7 @@ module _ (live live' : Live) (r : RefreshesLive live live') (s : State) (h : Hol
       entries-split live.project r.graph refl r.lowers r.crates of.0 of.1
 
   -- the page of the database is that of the flush
-  pub page_shown : page_of live'.db ≡ page flush made.0
+  pub page_shown : page_of live'.db ≡ page (record { flush = flush; crates = made.0 })
   unfolding page
   page_shown = page_is roots live.files live.db live'.db r.refreshes
       ∙ (λ i. placed.page_of_entries (same_roots i) (same-paths i) (entries-are i))
@@ -220,7 +220,7 @@ module _ (live live' : Live) (r : RefreshesLive live live') (s : State) (h : Hol
 
   -- what the session holds then is the state after the flush, but for what is kept of it
   module _ (after : Live) (last : LastFlush) (keeps : KeepsLast live last) (is : IsStored live' after last) where
-    last-is : IsLast (paths_of after.files) last flush
+    last-is : IsLast (paths_of after.files) last (record { flush = flush; crates = made.0 })
     last-is =
         let same : paths_of after.files ≡ paths_of live.files = ap paths_of (is.files ∙ r.files) in
         record {
@@ -235,7 +235,7 @@ module _ (live live' : Live) (r : RefreshesLive live live') (s : State) (h : Hol
         rows_few : length last.texts ≡ length (paths_of live.files)
         rows_few = ap length keeps.texts ∙ ap length h.texts.texts ∙ length-map _ _ ∙ ap length (sym h.texts.follows.numbers)
 
-    pub holds_flush : Holds after (record s { flushed = Some flush })
+    pub holds_flush : Holds after (record s { flushed = Some (record { flush = flush; crates = made.0 }) })
     holds_flush = record {
       config = is.config ∙ r.config ∙ h.config;
       limit = ap (λ f. f.limit) (is.files ∙ r.files) ∙ h.limit;
@@ -245,7 +245,7 @@ module _ (live live' : Live) (r : RefreshesLive live live') (s : State) (h : Hol
       };
       answers = is.answers ∙ r.answers ∙ h.answers;
       project = is.project ∙ r.project ∙ h.project;
-      flushed = subst (λ kept. KeepsFlush (paths_of after.files) kept (Some flush)) (sym is.flushed) last-is;
+      flushed = subst (λ kept. KeepsFlush (paths_of after.files) kept (Some (record { flush = flush; crates = made.0 }))) (sym is.flushed) last-is;
       ended = is.ended ∙ r.ended ∙ h.ended;
       database = λ _. record {
         brings = rw is.db (subst (λ f. BringsTo f (texts_known live'.db) s.marks) (sym (is.files ∙ r.files)) (record {

@@ -1,6 +1,8 @@
 -- What a session holds after a flush, or after one that failed.
 use Rattle.std.proofs.Common.{◌≡◌, ℕ, Bool, true, false, List, [], ◌∷◌, Option, Some, None, inl, inr, ◌⊎◌, refl, sym, ◌∙◌, ap, subst, arith, append-nil}
 use Rattle.std.specs.Io.KnownBytes.{Appends}
+use Rattle.std.specs.List.{concat}
+use Rattle.base_text_outside.specs.Sink.{AppendsPart}
 use Rattle.std.specs.declared.cmp.Ordering.{Ordering}
 use Rattle.vfs_core.specs.Files.{Follows, existing_files, paths_of}
 use Rattle.vfs_core.specs.VfsPath.{PathContent}
@@ -13,17 +15,17 @@ use Rattle.live_page.proofs.Stable.{same_identities}
 use Rattle.live_page.specs.Refresh.{GivesCrates, KeepsDatabaseCrates, KeepsIdentities, Refreshes}
 use Rattle.vfs_sets.specs.declared.file_root.FileRoot.{FileRoot}
 use Rattle.live_project.specs.Project.{ProjectContent}
-use Rattle.live.specs.declared.fault.LiveError.{LiveError}
-use Rattle.live.specs.declared.fault.LiveError.TheVariants.{OutOfMemory, WriteFault}
+use Rattle.live_script.specs.declared.fault.LiveError.{LiveError}
+use Rattle.live_script.specs.declared.fault.LiveError.TheVariants.{OutOfMemory, WriteFault}
 use Rattle.live.specs.declared.last_flush.LastFlush.{LastFlush}
 use Rattle.live.specs.declared.session.Live.{Live}
-use Rattle.live.specs.Fault.{IsRefusal}
+use Rattle.live_script.specs.Fault.{IsRefusal}
 use Rattle.live.specs.Marked.{SparesFiles}
-use Rattle.live.specs.Page.{page, roots_by}
+use Rattle.live.specs.Page.{Flushed, page, roots_by}
 use Rattle.live.specs.Refresh.{IsGraphBy, KeepsLast, RefreshesLive}
 use Rattle.live.specs.Session.{State, ended_state, flush_of, flush_turn}
-use Rattle.live.specs.Turn.{CountsFlush, EndsTurn, HasEnded, Holds, KeepsFlush, KeepsNames, LeavesAsWas, ShowsShape, TakesTurn}
-use Rattle.live.specs.Written.{AppendsFront, AppendsProperFront}
+use Rattle.live.specs.Turn.{CountsFlush, EndsLiveTurn, HasEnded, Holds, KeepsFlush, KeepsNames, LeavesAsWas, ShowsShape, TakesLiveTurn}
+use Rattle.live_script.specs.Written.{AppendsFront}
 use Rattle.live.proofs.Names.{numbers_same}
 use Rattle.live.proofs.FlushPage.{IsStored, holds_flush, made, page_shown, shows_shape, turn_is}
 
@@ -47,15 +49,14 @@ going_of live s h going = not-true s.ended (λ e. going (h.ended ∙ e))
 
 -- a page that was appended is the flush's turn
 pub takes_flush : (live live' after : Live) (s : State) (last : LastFlush) (old new : Option (List ℕ)) → RefreshesLive live live' → KeepsLast live last → Holds live s → (HasEnded live → ⊥)
-    → IsStored live' after last → Appends old new (page_of live'.db) → TakesTurn (flush_turn s) after (old, new)
+    → IsStored live' after last → Appends old new (page_of live'.db) → TakesLiveTurn (flush_turn s) after (old, new)
 takes_flush live live' after s last old new r keeps h going is appended =
     let on = going_of live s h going in
-    let flush = flush_of s in
-    let crates = (made live live' r s h on).0 in
-    subst (λ t. TakesTurn t after (old, new)) (sym (turn_is live live' r s h on)) (record {
+    let done : Flushed = record { flush = flush_of s; crates = (made live live' r s h on).0 } in
+    subst (λ t. TakesLiveTurn t after (old, new)) (sym (turn_is live live' r s h on)) (record {
       accepted = refl;
       holds = holds_flush live live' r s h on after last keeps is;
-      appended = subst (Appends old new) (page_shown live live' r s h on ∙ sym (append-nil (page flush crates))) appended;
+      appended = subst (Appends old new) (page_shown live live' r s h on ∙ sym (append-nil (page done))) appended;
     })
 
 -- what a flush shows stays shown once it is kept
@@ -85,20 +86,20 @@ holds_ended live ended s h config texts answers project flushed files has_ended 
 
 -- a page that was not written whole ends the session
 pub writes_flush : (live live' ended : Live) (s : State) (error : LiveError) (old new : Option (List ℕ)) → RefreshesLive live live' → Holds live s → (HasEnded live → ⊥)
-    → (error ≡ OutOfMemory) ⊎ (error ≡ WriteFault) → (error ≡ WriteFault → AppendsProperFront (old, new) (page_of live'.db ∷ []))
+    → (error ≡ OutOfMemory) ⊎ (error ≡ WriteFault) → (error ≡ WriteFault → AppendsPart old new (page_of live'.db))
     → AppendsFront (old, new) (page_of live'.db ∷ []) → IsEnded live' ended
-    → EndsTurn (flush_turn s) (ended_state s) error ended (old, new)
+    → EndsLiveTurn (flush_turn s) (ended_state s) error ended (old, new)
 writes_flush live live' ended s error old new r h going only cut front is =
     let on = going_of live s h going in
     let shown = page_shown live live' r s h on in
     let files : ended.files ≡ record live.files { batch = ended.files.batch } =
     is.files ∙ r.files ∙ ap (λ b. record live.files { batch = b }) (sym (ap (λ f. f.batch) (is.files ∙ r.files))) in
-    subst (λ t. EndsTurn t (ended_state s) error ended (old, new)) (sym (turn_is live live' r s h on)) (record {
-      fails = record {
-        written = subst (λ p. AppendsFront (old, new) (p ∷ [])) shown front;
-        cut = λ e. subst (λ p. AppendsProperFront (old, new) (p ∷ [])) shown (cut e);
-        refused = λ refusal. absurd (no-refusal error only refusal);
-      };
+    subst (λ t. EndsLiveTurn t (ended_state s) error ended (old, new)) (sym (turn_is live live' r s h on)) (record {
+      written = subst (λ p. AppendsFront (old, new) (p ∷ [])) shown front;
+      cut = λ e. subst (λ p. AppendsPart old new (concat (p ∷ []))) shown (subst (AppendsPart old new) (sym (append-nil (page_of live'.db))) (cut e));
+      refused = λ refusal. absurd (no-refusal error only refusal);
+      state = ended_state s;
+      left = refl;
       holds = holds_ended live ended s h (is.config ∙ r.config) (is.texts ∙ r.texts) (is.answers ∙ r.answers) (is.project ∙ r.project) (is.flushed ∙ r.flushed) files is.ended;
     })
   where

@@ -13,7 +13,7 @@ use Rattle.vfs_core.specs.VfsPath.{PathContent, vfs_path_eq}
 use Rattle.live_project.specs.Sources.{kept_files, with_kept_file}
 use Rattle.live.specs.declared.last_flush.LastFlush.{LastFlush}
 use Rattle.live.specs.LiveTexts.{KeepsTexts, kept_by, row_text, with_row}
-use Rattle.live.specs.Page.{Flush}
+use Rattle.live.specs.Page.{Flushed}
 use Rattle.live.specs.Turn.{KeepsFlush}
 use Rattle.live.proofs.Existing.{existing_numbered, file_by, live_of, numbered}
 use Rattle.live.proofs.TextRows.{kept_more}
@@ -72,11 +72,11 @@ paths-more old new mark marks before after =
     (rest.0, after.numbers ∙ rest.1 ∙ ap (λ places. places ++ rest.0) (sym before.numbers))
 
 -- more paths leave what is kept of the last flush
-flush-more : (paths more : List PathContent) (last : Option LastFlush) (flushed : Option Flush) → KeepsFlush paths last flushed → KeepsFlush (paths ++ more) last flushed
+flush-more : (paths more : List PathContent) (last : Option LastFlush) (flushed : Option Flushed) → KeepsFlush paths last flushed → KeepsFlush (paths ++ more) last flushed
 flush-more paths more None None keeps = tt
-flush-more paths more None (Some flush) keeps = keeps
+flush-more paths more None (Some done) keeps = keeps
 flush-more paths more (Some last) None keeps = keeps
-flush-more paths more (Some last) (Some flush) keeps =
+flush-more paths more (Some last) (Some done) keeps =
     let long = length-append paths more in record {
       within = omega (arith, keeps.within, long);
       files = kept_more 0 paths more last.texts keeps.within ∙ keeps.files;
@@ -84,7 +84,7 @@ flush-more paths more (Some last) (Some flush) keeps =
     }
 
 -- and so does a mark
-pub flush_mark : (old new : Files) (mark : Mark) (marks : List Mark) (last : Option LastFlush) (flushed : Option Flush) → Follows old marks → Follows new (mark ∷ marks)
+pub flush_mark : (old new : Files) (mark : Mark) (marks : List Mark) (last : Option LastFlush) (flushed : Option Flushed) → Follows old marks → Follows new (mark ∷ marks)
     → KeepsFlush (paths_of old) last flushed → KeepsFlush (paths_of new) last flushed
 flush_mark old new mark marks last flushed before after keeps =
     let more = paths-more old new mark marks before after in

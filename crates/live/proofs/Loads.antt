@@ -16,16 +16,16 @@ use Rattle.live_project.specs.declared.project_error.ProjectError.TheVariants as
 use Rattle.live_project.specs.declared.sources.Sources.{Sources}
 use Rattle.live_page.specs.declared.event.Event.{Event}
 use Rattle.live_page.specs.declared.event.Event.TheVariants.{Answer, Flush, Load}
-use Rattle.live.specs.declared.fault.LiveError.{LiveError}
-use Rattle.live.specs.declared.fault.LiveError.TheVariants.{OutOfMemory, TooMany, WriteFault}
+use Rattle.live_script.specs.declared.fault.LiveError.{LiveError}
+use Rattle.live_script.specs.declared.fault.LiveError.TheVariants.{OutOfMemory, TooMany, WriteFault}
 use Rattle.live.specs.declared.session.Live.{Live}
-use Rattle.live.specs.Fault.{IsOneOf, IsRefusal, live_error_of_load, of_project_error, status_of, turn_statuses}
+use Rattle.live_script.specs.Fault.{IsOneOf, IsRefusal, live_error_of_load, of_project_error, status_of, turn_statuses}
 use Rattle.live.specs.Marked.{AddsAnswer, FailsLoad, IsLoadRefusal, LoadsProject, TakesProject, sources_kept}
 use Rattle.live.specs.Session.{State, load_turn, loaded_turn, sources_of, state_after_failure, turn}
-use Rattle.live.specs.Turn.{EndsTurn, Holds, LeavesAsWas, TakesTurn}
-use Rattle.live.specs.Written.{HasWriteCause}
+use Rattle.live.specs.Turn.{EndsLiveTurn, Holds, LeavesAsWas, TakesLiveTurn}
+use Rattle.live_script.specs.Written.{HasWriteCause}
 use Rattle.live.proofs.Kept.{kept_tree}
-use Rattle.live.proofs.Outcomes.{AppendsFront-nil}
+use Rattle.live_script.proofs.Texts.{AppendsFront-nil}
 use Rattle.live.proofs.Names.{names_by, names_equal, numbers_same}
 use Rattle.live.proofs.Turns.{crates_same}
 
@@ -91,28 +91,28 @@ load-refused s path refusal read = ap (loaded_turn s (sources_of s path)) read
 
 -- an answer that is recorded
 pub takes_answer : (live live' : Live) (line : CommandLine) (output : Output) (result : Result (Unit {0}) LiveError) (held : Option (List ℕ)) (event : Event) → event ≡ Answer line output
-    → OnOk result (AddsAnswer live live' line output) → OnOk result ((s : State) → Holds live s → TakesTurn (turn s event) live' (held, held))
+    → OnOk result (AddsAnswer live live' line output) → OnOk result ((s : State) → Holds live s → TakesLiveTurn (turn s event) live' (held, held))
 unfolding turn
 takes_answer live live' line output (Ok done) held event is adds = λ s h.
-    subst (λ e. TakesTurn (turn s e) live' (held, held)) (sym is)
+    subst (λ e. TakesLiveTurn (turn s e) live' (held, held)) (sym is)
     (record { accepted = refl; holds = Holds-answer live live' s h line output adds; appended = Appends-nil held })
 takes_answer live live' line output (Err error) held event is adds = tt
 
 -- out of memory nothing is said of the turn
 pub memory_ends : (live live' : Live) (s left : State) (error : LiveError) (held : Option (List ℕ)) (event : Event) → error ≡ OutOfMemory → Holds live' left
-    → EndsTurn (turn s event) left error live' (held, held)
+    → EndsLiveTurn (turn s event) left error live' (held, held)
 memory_ends live live' s left error held event memory holds = record {
-  fails = record {
-    written = AppendsFront-nil held (turn s event).pages;
-    cut = λ e. absurd (cc);
-    refused = λ refusal. absurd (let r : IsRefusal OutOfMemory = subst IsRefusal memory refusal in omega (arith, r));
-  };
+  written = AppendsFront-nil held _;
+  cut = λ e. absurd (cc);
+  refused = λ refusal. absurd (let r : IsRefusal OutOfMemory = subst IsRefusal memory refusal in omega (arith, r));
+  state = left;
+  left = refl;
   holds = holds;
 }
 
 pub fails_answer : (live live' : Live) (line : CommandLine) (output : Output) (result : Result (Unit {0}) LiveError) (held : Option (List ℕ)) (event : Event) → event ≡ Answer line output
     → IfErr result (λ e. e ≡ OutOfMemory) → OnErr result (live' ≡ live)
-    → IfErr result (λ e. (s : State) → Holds live s → EndsTurn (turn s event) (state_after_failure s event) e live' (held, held))
+    → IfErr result (λ e. (s : State) → Holds live s → EndsLiveTurn (turn s event) (state_after_failure s event) e live' (held, held))
 fails_answer live live' line output (Ok done) held event is only same = tt
 fails_answer live live' line output (Err error) held event is only same = λ s h.
     memory_ends live live' s (state_after_failure s event) error held event only
@@ -120,30 +120,30 @@ fails_answer live live' line output (Err error) held event is only same = λ s h
 
 -- a project that is loaded
 pub takes_load : (live live' : Live) (path : List ℕ) (result : Result (Unit {0}) LiveError) (held : Option (List ℕ)) (event : Event) → event ≡ Load path
-    → OnOk result (LoadsProject live live' path) → OnOk result ((s : State) → Holds live s → TakesTurn (turn s event) live' (held, held))
+    → OnOk result (LoadsProject live live' path) → OnOk result ((s : State) → Holds live s → TakesLiveTurn (turn s event) live' (held, held))
 unfolding turn
 takes_load live live' path (Ok done) held event is loads = λ s h.
     let same = same_sources live live' s h path in
     let read : read_sources (sources_of s path) ≡ Ok loads.workspace = ap read_sources (sym same) ∙ loads.read in
     let after : TakesProject live live' (record { sources = sources_of s path; workspace = loads.workspace }) =
     subst (λ sources. TakesProject live live' (record { sources = sources; workspace = loads.workspace })) same loads.after in
-    subst (λ e. TakesTurn (turn s e) live' (held, held)) (sym is)
-    (subst (λ t. TakesTurn t live' (held, held)) (sym (load-read s path loads.workspace read))
+    subst (λ e. TakesLiveTurn (turn s e) live' (held, held)) (sym is)
+    (subst (λ t. TakesLiveTurn t live' (held, held)) (sym (load-read s path loads.workspace read))
     (record { accepted = refl; holds = Holds-project live live' s h (record { sources = sources_of s path; workspace = loads.workspace }) after; appended = Appends-nil held }))
 takes_load live live' path (Err error) held event is loads = tt
 
 -- one that is refused
 refused_ends : (live live' : Live) (path : List ℕ) (s : State) (error : LiveError) (held : Option (List ℕ)) → Holds live s → live' ≡ live → IsLoadRefusal live path error
-    → EndsTurn (load_turn s path) s error live' (held, held)
+    → EndsLiveTurn (load_turn s path) s error live' (held, held)
 refused_ends live live' path s error held h same r =
     let read : read_sources (sources_of s path) ≡ Err r.refusal = ap read_sources (sym (same_sources live live' s h path)) ∙ r.read in
     let holds : Holds live' s = subst (λ l. Holds l s) (sym same) h in
-    subst (λ t. EndsTurn t s error live' (held, held)) (sym (load-refused s path r.refusal read)) (record {
-      fails = record {
-        written = AppendsFront-nil held [];
-        cut = λ e. absurd (no-fault r.refusal (sym r.reports ∙ e));
-        refused = λ refusal. record { refused = ap Some (sym r.reports); holds = holds; appended = Appends-nil held };
-      };
+    subst (λ t. EndsLiveTurn t s error live' (held, held)) (sym (load-refused s path r.refusal read)) (record {
+      written = AppendsFront-nil held [];
+      cut = λ e. absurd (no-fault r.refusal (sym r.reports ∙ e));
+      refused = λ refusal. record { refused = ap Some (sym r.reports); holds = holds; appended = Appends-nil held };
+      state = s;
+      left = refl;
       holds = holds;
     })
   where
@@ -166,14 +166,14 @@ refused_ends live live' path s error held h same r =
 
 pub fails_load : (live live' : Live) (path : List ℕ) (result : Result (Unit {0}) LiveError) (held : Option (List ℕ)) (event : Event) → event ≡ Load path
     → IfErr result (FailsLoad live path) → OnErr result (live' ≡ live)
-    → IfErr result (λ e. (s : State) → Holds live s → EndsTurn (turn s event) (state_after_failure s event) e live' (held, held))
+    → IfErr result (λ e. (s : State) → Holds live s → EndsLiveTurn (turn s event) (state_after_failure s event) e live' (held, held))
 unfolding turn
 fails_load live live' path (Ok done) held event is fails same = tt
 fails_load live live' path (Err error) held event is (inl memory) same = λ s h.
     memory_ends live live' s (state_after_failure s event) error held event memory
     (subst (λ e. Holds live' (state_after_failure s e)) (sym is) (subst (λ l. Holds l s) (sym same) h))
 fails_load live live' path (Err error) held event is (inr refused) same = λ s h.
-    subst (λ e. EndsTurn (turn s e) (state_after_failure s e) error live' (held, held)) (sym is) (refused_ends live live' path s error held h same refused)
+    subst (λ e. EndsLiveTurn (turn s e) (state_after_failure s e) error live' (held, held)) (sym is) (refused_ends live live' path s error held h same refused)
 
 -- ---- causes
 

@@ -1,5 +1,5 @@
 -- Names that stay: the numbers of paths, and the crates of identities.
-use Rattle.std.proofs.Common.{◌≡◌, ℕ, List, [], ap, sym, subst, ◌∙◌, position}
+use Rattle.std.proofs.Common.{◌≡◌, ℕ, ap, ◌∙◌, position}
 use Rattle.std.specs.Map.{keys_of}
 use Rattle.std.specs.Prelude.{slice_get}
 use Rattle.input_db.specs.Identity.{Table}
@@ -8,7 +8,7 @@ use Rattle.live_page.specs.Refresh.{KeepsIdentities}
 use Rattle.vfs_core.specs.Files.{Files, KeepsNumbers}
 use Rattle.vfs_core.specs.VfsPath.{vfs_path_eq}
 use Rattle.live.specs.declared.session.Live.{Live}
-use Rattle.live.specs.Turn.{HasEnded, KeepsNames}
+use Rattle.live.specs.Turn.{KeepsNames}
 
 -- files of the same paths
 pub numbers_same : (old new : Files) → new.entries ≡ old.entries → KeepsNumbers old new

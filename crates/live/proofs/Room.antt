@@ -15,18 +15,18 @@ use Rattle.vfs_core.specs.Texts.{BringsTo, all_pass}
 use Rattle.base_text_outside.specs.Sink.{Appends-nil}
 use Rattle.input_db.specs.Database.{empty_database}
 use Rattle.live.specs.declared.session.Live.{Live}
-use Rattle.live.specs.declared.fault.LiveError.{LiveError}
-use Rattle.live.specs.declared.fault.LiveError.TheVariants.{OutOfMemory, TooMany}
+use Rattle.live_script.specs.declared.fault.LiveError.{LiveError}
+use Rattle.live_script.specs.declared.fault.LiveError.TheVariants.{OutOfMemory, TooMany}
 use Rattle.base_text_outside.specs.declared.limits.Limit.TheVariants.{Paths}
 use Rattle.live.specs.Session.{State, has_room, mark_turn}
 use Rattle.live_config.specs.Config.{first_config}
-use Rattle.live.specs.Fault.{IsRefusal}
-use Rattle.live.specs.Image.{ShowsFlush}
+use Rattle.live_script.specs.Fault.{IsRefusal}
 use Rattle.live.specs.Marked.{AddsMarkTo}
-use Rattle.live.specs.Turn.{EndsTurn, Holds, KeepsFlush, RefusesTurn, TakesTurn, first_state}
+use Rattle.live_script.specs.Turn.{RefusesTurn}
+use Rattle.live.specs.Turn.{EndsLiveTurn, Holds, KeepsFlush, TakesLiveTurn, first_state, live_rules}
 use Rattle.live_page.specs.Shape.{texts_known}
 use Rattle.live.proofs.Kept.{flush_mark}
-use Rattle.live.proofs.Outcomes.{AppendsFront-nil}
+use Rattle.live_script.proofs.Texts.{AppendsFront-nil}
 
 -- the paths of the marks are those of the files
 known : (files : Files) (s : State) (path : PathContent) → Follows files s.marks → list_any (vfs_path_eq path) (mentioned_paths s.marks) ≡ is_some (entry_state files path)
@@ -100,39 +100,39 @@ module _ (live live' : Live) (s : State) (path : PathContent) (kind : MarkKind) 
           brings = subst (λ d. BringsTo live'.files (texts_known d) (mark ∷ s.marks)) (sym adds.db)
               (adds.adds.brings (texts_known live.db) s.marks h.texts.follows current.brings);
           valid = adds.adds.texts current.valid;
-          shown = subst (λ d. ShowsFlush d s.flushed) (sym adds.db) current.shown;
+          shown = rw adds.db current.shown;
           crates = λ none. ap (λ db. db.listed) adds.db ∙ current.crates (sym adds.project ∙ none);
         };
   }
 
   -- what is said of a path that has room is taken
-  pub marks_ok : (held : Option (List ℕ)) → (IsFullFor live.files path → ⊥) → AddsMarkTo live live' mark → TakesTurn (mark_turn s path kind) live' (held, held)
+  pub marks_ok : (held : Option (List ℕ)) → (IsFullFor live.files path → ⊥) → AddsMarkTo live live' mark → TakesLiveTurn (mark_turn s path kind) live' (held, held)
   marks_ok held apart adds =
       let room = has_room-not_full live.files s path h.texts.follows h.limit apart in
       rw room (record { accepted = refl; holds = Holds-mark adds; appended = Appends-nil held })
 
   -- and of one that has none is refused
-  pub marks_full : (held : Option (List ℕ)) → IsFullFor live.files path → live' ≡ live → RefusesTurn (mark_turn s path kind) (TooMany Paths) live' (held, held)
+  pub marks_full : (held : Option (List ℕ)) → IsFullFor live.files path → live' ≡ live → RefusesTurn live_rules (mark_turn s path kind) (TooMany Paths) [] live' (held, held)
   marks_full held full same =
       let none = has_room-full live.files s path h.texts.follows h.limit full in
       rw none (record { refused = refl; holds = subst (λ l. Holds l s) (sym same) h; appended = Appends-nil held })
 
   -- an error leaves all as it was, and is that of a full table or none of the session's
   pub marks_err : (error : LiveError) (held : Option (List ℕ)) → (error ≡ OutOfMemory) ⊎ (error ≡ TooMany Paths) → (error ≡ TooMany Paths → IsFullFor live.files path) → live' ≡ live
-      → EndsTurn (mark_turn s path kind) s error live' (held, held)
+      → EndsLiveTurn (mark_turn s path kind) s error live' (held, held)
   marks_err error held (inl memory) full same = record {
-    fails = record {
-      written = AppendsFront-nil held (mark_turn s path kind).pages;
-      cut = λ e. absurd (cc);
-      refused = λ refusal. absurd (let r : IsRefusal OutOfMemory = subst IsRefusal memory refusal in omega (arith, r));
-    };
+    written = AppendsFront-nil held _;
+    cut = λ e. absurd (cc);
+    refused = λ refusal. absurd (let r : IsRefusal OutOfMemory = subst IsRefusal memory refusal in omega (arith, r));
+    state = s;
+    left = refl;
     holds = subst (λ l. Holds l s) (sym same) h;
   }
   marks_err error held (inr paths) full same = record {
-    fails = record {
-      written = AppendsFront-nil held (mark_turn s path kind).pages;
-      cut = λ e. absurd (cc);
-      refused = λ refusal. subst (λ e. RefusesTurn (mark_turn s path kind) e live' (held, held)) (sym paths) (marks_full held (full paths) same);
-    };
+    written = AppendsFront-nil held _;
+    cut = λ e. absurd (cc);
+    refused = λ refusal. subst (λ e. RefusesTurn live_rules (mark_turn s path kind) e [] live' (held, held)) (sym paths) (marks_full held (full paths) same);
+    state = s;
+    left = refl;
     holds = subst (λ l. Holds l s) (sym same) h;
   }

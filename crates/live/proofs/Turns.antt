@@ -1,31 +1,34 @@
 -- One event: a mark that is taken or refused, or a flush.
-use Rattle.std.proofs.Common.{◌≡◌, ℕ, Bool, true, List, [], Option, Some, None, Result, Ok, Err, inl, inr, ◌⊎◌, refl, sym, ap, subst, arith}
+use Rattle.std.proofs.Common.{◌≡◌, ℕ, Bool, true, List, [], ◌∷◌, ◌++◌, Option, Result, Ok, Err, inl, inr, ◌⊎◌, refl, sym, ap, subst, ◌∙◌, arith}
 use Rattle.std.specs.Prelude.{IfErr, IsErrOf, OnErr, OnOk, is_err}
-use Rattle.base_text_outside.specs.Sink.{Appends-nil}
+use Rattle.std.specs.List.{concat}
+use Rattle.base_text_outside.specs.Sink.{AppendsPart}
 use Rattle.base_text_outside.specs.declared.limits.Limit.TheVariants.{Paths}
 use Rattle.vfs_core.specs.Files.{IsFullFor}
 use Rattle.vfs_core.specs.VfsPath.{PathContent}
 use Rattle.vfs_core.specs.declared.marks.Mark.{Mark}
 use Rattle.vfs_core.specs.declared.marks.MarkKind.{MarkKind}
 use Rattle.input_db.specs.Database.{Database}
-use Rattle.live_page.specs.Event.{event}
 use Rattle.live_page.specs.declared.event.Event.{Event}
 use Rattle.live_page.specs.declared.event.Event.TheVariants.{Flush}
-use Rattle.live.specs.declared.fault.LiveError.{LiveError}
-use Rattle.live.specs.declared.fault.LiveError.TheVariants.{OutOfMemory, Script, TooMany}
-use Rattle.live.specs.declared.fault.StepError.{StepError}
-use Rattle.live.specs.declared.fault.StepError.TheVariants.{Refused}
+use Rattle.live_script.specs.declared.fault.LiveError.{LiveError}
+use Rattle.live_script.specs.declared.fault.LiveError.TheVariants.{OutOfMemory, TooMany}
+use Rattle.live_script.specs.declared.fault.StepError.{StepError}
+use Rattle.live_script.specs.declared.fault.StepError.TheVariants.{Refused}
 use Rattle.live.specs.declared.session.Live.{Live}
-use Rattle.live.specs.Fault.{IsOneOf, flush_statuses, line_statuses, status_of, turn_statuses}
+use Rattle.live_script.specs.Fault.{IsOneOf, flush_statuses, status_of, turn_statuses}
+use Rattle.live_script.specs.Session.{texts_by}
+use Rattle.live_script.specs.Turn as script
+use Rattle.live_script.specs.Turn.{StaysOn}
 use Rattle.live.specs.Marked.{AddsMarkTo}
 use Rattle.live_page.specs.Refresh.{KeepsDatabaseCrates}
-use Rattle.live.specs.Session.{State, ended_state, flush_turn, mark_turn, state_after_failure, state_after_line, turn, turn_of}
-use Rattle.live.specs.Turn.{EndsLine, EndsTurn, Holds, LeavesAsWas, TakesTurn}
-use Rattle.live.specs.Written.{HasWriteCause}
+use Rattle.live.specs.Page.{Flushed, page}
+use Rattle.live.specs.Session.{State, ended_state, flush_turn, mark_turn, state_after_failure, turn}
+use Rattle.live.specs.Turn.{EndsLiveTurn, HasEnded, Holds, KeepsNames, LeavesAsWas, TakesLiveTurn, live_rules}
+use Rattle.live_script.specs.Written.{AppendsFront, AppendsTexts, HasWriteCause}
 use Rattle.live.proofs.Names.{names_by, names_equal, names_wider}
-use Rattle.live.proofs.Outcomes.{AppendsFront-nil}
 use Rattle.live.proofs.Room.{marks_err, marks_ok}
-use Rattle.live.proofs.Statuses.{among}
+use Rattle.live_script.proofs.Statuses.{among}
 
 -- an error out of memory or of numbers for paths
 abbrev pub IsMarkError : LiveError → Type 0
@@ -35,20 +38,20 @@ IsMarkError error = (error ≡ OutOfMemory) ⊎ (error ≡ TooMany Paths)
 pub takes_mark : (live live' : Live) (path : PathContent) (kind : MarkKind) (result : Result (Unit {0}) LiveError) (held : Option (List ℕ)) (event : Event)
     → ((s : State) → turn s event ≡ mark_turn s path kind) → OnOk result (¬ IsFullFor live.files path)
     → OnOk result (AddsMarkTo live live' (record { path = path; kind = kind }))
-    → OnOk result ((s : State) → Holds live s → TakesTurn (turn s event) live' (held, held))
+    → OnOk result ((s : State) → Holds live s → TakesLiveTurn (turn s event) live' (held, held))
 takes_mark live live' path kind (Ok done) held event is room adds = λ s h.
-    subst (λ t. TakesTurn t live' (held, held)) (sym (is s)) (marks_ok live live' s path kind h held room adds)
+    subst (λ t. TakesLiveTurn t live' (held, held)) (sym (is s)) (marks_ok live live' s path kind h held room adds)
 takes_mark live live' path kind (Err error) held event is room adds = tt
 
 -- one that was not
 pub fails_mark : (live live' : Live) (path : PathContent) (kind : MarkKind) (result : Result (Unit {0}) LiveError) (held : Option (List ℕ)) (event : Event)
     → ((s : State) → turn s event ≡ mark_turn s path kind) → ((s : State) → state_after_failure s event ≡ s)
     → (IsErrOf result (TooMany Paths) → IsFullFor live.files path) → IfErr result IsMarkError → OnErr result (live' ≡ live)
-    → IfErr result (λ e. (s : State) → Holds live s → EndsTurn (turn s event) (state_after_failure s event) e live' (held, held))
+    → IfErr result (λ e. (s : State) → Holds live s → EndsLiveTurn (turn s event) (state_after_failure s event) e live' (held, held))
 fails_mark live live' path kind (Ok done) held event is stays full only same = tt
 fails_mark live live' path kind (Err error) held event is stays full only same = λ s h.
-    subst (λ l. EndsTurn (turn s event) l error live' (held, held)) (sym (stays s))
-    (subst (λ t. EndsTurn t s error live' (held, held)) (sym (is s))
+    subst (λ l. EndsLiveTurn (turn s event) l error live' (held, held)) (sym (stays s))
+    (subst (λ t. EndsLiveTurn t s error live' (held, held)) (sym (is s))
     (marks_err live live' s path kind h error held only (λ e. full (ap Err e)) same))
 
 -- its cause
@@ -134,16 +137,16 @@ marks_no_flush P (Err error) event other = tt
 
 -- a flush
 module _ (live live' : Live) (result : Result (Unit {0}) LiveError) (old new : Option (List ℕ)) (event : Event) (is : event ≡ Flush) where
-  pub takes_event : OnOk result ((s : State) → Holds live s → TakesTurn (flush_turn s) live' (old, new))
-      → OnOk result ((s : State) → Holds live s → TakesTurn (turn s event) live' (old, new))
+  pub takes_event : OnOk result ((s : State) → Holds live s → TakesLiveTurn (flush_turn s) live' (old, new))
+      → OnOk result ((s : State) → Holds live s → TakesLiveTurn (turn s event) live' (old, new))
   unfolding turn
-  takes_event takes = subst (λ e. OnOk result ((s : State) → Holds live s → TakesTurn (turn s e) live' (old, new))) (sym is) takes
+  takes_event takes = subst (λ e. OnOk result ((s : State) → Holds live s → TakesLiveTurn (turn s e) live' (old, new))) (sym is) takes
 
-  pub fails_event : IfErr result (λ e. (s : State) → Holds live s → EndsTurn (flush_turn s) (ended_state s) e live' (old, new))
-      → IfErr result (λ e. (s : State) → Holds live s → EndsTurn (turn s event) (state_after_failure s event) e live' (old, new))
+  pub fails_event : IfErr result (λ e. (s : State) → Holds live s → EndsLiveTurn (flush_turn s) (ended_state s) e live' (old, new))
+      → IfErr result (λ e. (s : State) → Holds live s → EndsLiveTurn (turn s event) (state_after_failure s event) e live' (old, new))
   unfolding turn
   fails_event fails =
-      subst (λ v. IfErr result (λ e. (s : State) → Holds live s → EndsTurn (turn s v) (state_after_failure s v) e live' (old, new))) (sym is) fails
+      subst (λ v. IfErr result (λ e. (s : State) → Holds live s → EndsLiveTurn (turn s v) (state_after_failure s v) e live' (old, new))) (sym is) fails
 
 wider : (P Q : LiveError → Type 0) (result : Result (Unit {0}) LiveError) → ((error : LiveError) → P error → Q error) → IfErr result P → IfErr result Q
 wider P Q (Ok done) more only = tt
@@ -158,35 +161,45 @@ cause_event result old new cause = record {
   limits = cause.limits;
 }
 
--- and of a turn one of a line
-pub cause_turn : (result : Result (Unit {0}) LiveError) (old new : ℕ) → HasWriteCause result turn_statuses (old, new) → HasWriteCause result line_statuses (old, new)
-cause_turn result old new cause = record {
-  later = cause.later;
-  only = wider _ _ result (λ error only. among turn_statuses line_statuses refl (status_of error) only) cause.only;
-  write = cause.write;
-  limits = cause.limits;
-}
+-- ---- a session as a stepper
 
--- the turn of a line's event
-pub line_ends : (live live' : Live) (result : Result (Unit {0}) LiveError) (line : List ℕ) (number : ℕ) (e : Event) (old new : Option (List ℕ)) → event line ≡ Some e
-    → IfErr result (λ error. (s : State) → Holds live s → EndsTurn (turn s e) (state_after_failure s e) error live' (old, new))
-    → IfErr result (λ error. (s : State) → Holds live s → EndsLine s number line error live' (old, new))
-line_ends live live' (Ok done) line number e old new is ends = tt
-line_ends live live' (Err error) line number e old new is ends = λ s h.
-    inl (subst (λ l. EndsTurn (turn_of s number l) (state_after_line s l) error live' (old, new)) (sym is) (ends s h))
+-- the pages of flushes are the same after any flushes
+pages_after : (before flushes : List Flushed) → texts_by live_rules.text before flushes ≡ texts_by live_rules.text [] flushes
+pages_after before [] = refl
+pages_after before (done ∷ flushes) = ap (λ texts. page done ∷ texts) (pages_after (before ++ done ∷ []) flushes ∙ sym (pages_after (done ∷ []) flushes))
 
--- a line that is no event
-pub line_refused : (live : Live) (line : List ℕ) (number : ℕ) (held : Option (List ℕ)) (s : State) → event line ≡ None → Holds live s → EndsLine s number line (Script number) live (held, held)
-line_refused live line number held s none h =
-    inl (subst (λ l. EndsTurn (turn_of s number l) (state_after_line s l) (Script number) live (held, held)) (sym none) (record {
-      fails = record {
-        written = AppendsFront-nil held [];
-        cut = λ e. absurd (cc);
-        refused = λ _. record { refused = refl; holds = h; appended = Appends-nil held };
-      };
-      holds = h;
-    }))
+-- a turn that was taken, after any flushes
+pub steps_ok : (live live' : Live) (result : Result (Unit {0}) LiveError) (old new : Option (List ℕ)) (event : Event)
+    → OnOk result ((s : State) → Holds live s → TakesLiveTurn (turn s event) live' (old, new))
+    → OnOk result ((s : State) (before : List Flushed) → Holds live s → script.TakesTurn live_rules (turn s event) before live' (old, new))
+steps_ok live live' (Ok done) old new event takes = λ s before h.
+    let here = takes s h in record {
+      accepted = here.accepted;
+      holds = here.holds;
+      appended = subst (AppendsTexts (old, new)) (sym (pages_after before (turn s event).flushes)) here.appended;
+    }
+steps_ok live live' (Err error) old new event takes = tt
 
--- one that was not read
-pub line_missed : (live : Live) (line : List ℕ) (number : ℕ) (held : Option (List ℕ)) (s : State) → Holds live s → EndsLine s number line OutOfMemory live (held, held)
-line_missed live line number held s h = inr (record { memory = refl; holds = h; nothing = Appends-nil held })
+-- and one that failed
+pub steps_err : (live live' : Live) (result : Result (Unit {0}) LiveError) (old new : Option (List ℕ)) (event : Event)
+    → IfErr result (λ e. (s : State) → Holds live s → EndsLiveTurn (turn s event) (state_after_failure s event) e live' (old, new))
+    → IfErr result (λ e. (s : State) (before : List Flushed) → Holds live s → script.EndsTurn live_rules (turn s event) (λ left. left ≡ state_after_failure s event) e before live' (old, new))
+steps_err live live' (Ok done) old new event fails = tt
+steps_err live live' (Err error) old new event fails = λ s before h.
+    let here = fails s h in
+    let same = sym (pages_after before (turn s event).flushes) in record {
+      written = subst (AppendsFront (old, new)) same here.written;
+      cut = λ e. subst (λ texts. AppendsPart old new (concat texts)) same (here.cut e);
+      refused = λ refusal.
+          let refused = here.refused refusal in
+          record { refused = refused.refused; holds = refused.holds; appended = subst (AppendsTexts (old, new)) same refused.appended };
+      state = here.state;
+      left = here.left;
+      holds = here.holds;
+    }
+
+-- what stays
+pub steps_stay : (live live' : Live) (result : Result (Unit {0}) LiveError) (event : Event) → (HasEnded live → ⊥) → LeavesAsWas event (is_err result) (IsErrOf result OutOfMemory) live live'
+    → StaysOn HasEnded (λ r old new. KeepsNames (IsErrOf r OutOfMemory) old new) result live live'
+steps_stay live live' (Ok done) event going leaves = record { kept = leaves.names; going = λ ended. going (sym (leaves.going refl) ∙ ended) }
+steps_stay live live' (Err error) event going leaves = record { kept = leaves.names; going = tt }

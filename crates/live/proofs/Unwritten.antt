@@ -10,28 +10,28 @@ use Rattle.pm_lower_crates.specs.declared.lower_error.LowerError.{LowerError}
 use Rattle.pm_lower_crates.specs.declared.lower_error.LowerError.TheVariants as lower
 use Rattle.live_project.specs.Project.{ProjectContent}
 use Rattle.live_project.proofs.Limited.{lowered_limit}
-use Rattle.live.specs.declared.fault.LiveError.{LiveError}
-use Rattle.live.specs.declared.fault.LiveError.TheVariants.{OutOfMemory, TooMany, WriteFault}
+use Rattle.live_script.specs.declared.fault.LiveError.{LiveError}
+use Rattle.live_script.specs.declared.fault.LiveError.TheVariants.{OutOfMemory, TooMany, WriteFault}
 use Rattle.live.specs.declared.session.Live.{Live}
-use Rattle.live.specs.Fault.{IsOneOf, IsRefusal, flush_statuses, of_lower_error, status_of}
+use Rattle.live_script.specs.Fault.{IsOneOf, IsRefusal, flush_statuses, of_lower_error, status_of}
 use Rattle.live.specs.Marked.{SparesFiles}
 use Rattle.live.specs.Page.{crates_by}
 use Rattle.live.specs.Refresh.{FailsFlush}
 use Rattle.live.specs.Session.{State, ended_state, flush_of, flush_turn, flushed_turn}
-use Rattle.live.specs.Turn.{EndsTurn, Holds}
-use Rattle.live.specs.Written.{HasWriteCause}
+use Rattle.live.specs.Turn.{EndsLiveTurn, Holds}
+use Rattle.live_script.specs.Written.{HasWriteCause}
 use Rattle.live.proofs.Existing.{existing_numbered}
 use Rattle.live.proofs.Flushed.{IsEnded, holds_ended}
-use Rattle.live.proofs.Outcomes.{AppendsFront-nil}
+use Rattle.live_script.proofs.Texts.{AppendsFront-nil}
 
 -- out of memory: nothing was written
-memory-ends : (ended : Live) (s left : State) (error : LiveError) (held : Option (List ℕ)) → error ≡ OutOfMemory → Holds ended left → EndsTurn (flush_turn s) left error ended (held, held)
+memory-ends : (ended : Live) (s left : State) (error : LiveError) (held : Option (List ℕ)) → error ≡ OutOfMemory → Holds ended left → EndsLiveTurn (flush_turn s) left error ended (held, held)
 memory-ends ended s left error held memory holds = record {
-  fails = record {
-    written = AppendsFront-nil held (flush_turn s).pages;
-    cut = λ e. absurd (cc);
-    refused = λ refusal. absurd (let r : IsRefusal OutOfMemory = subst IsRefusal memory refusal in omega (arith, r));
-  };
+  written = AppendsFront-nil held _;
+  cut = λ e. absurd (cc);
+  refused = λ refusal. absurd (let r : IsRefusal OutOfMemory = subst IsRefusal memory refusal in omega (arith, r));
+  state = left;
+  left = refl;
   holds = holds;
 }
 
@@ -48,7 +48,7 @@ no-lower-fault (lower.TooMany limit) e = cc
 no-lower-fault lower.OutOfMemory e = cc
 
 pub fails_flush : (live spared ended : Live) (s : State) (error : LiveError) (held : Option (List ℕ)) → Holds live s → FailsFlush live error → SparesFiles live spared
-    → IsEnded spared ended → EndsTurn (flush_turn s) (ended_state s) error ended (held, held)
+    → IsEnded spared ended → EndsLiveTurn (flush_turn s) (ended_state s) error ended (held, held)
 fails_flush live spared ended s error held h fails spares is =
     by fails
   where
@@ -59,15 +59,15 @@ fails_flush live spared ended s error held h fails spares is =
     holds = holds_ended live ended s h (is.config ∙ spares.config) (is.texts ∙ spares.texts) (is.answers ∙ spares.answers) (is.project ∙ spares.project) (is.flushed ∙ spares.flushed)
         files is.ended
 
-    by : FailsFlush live error → EndsTurn (flush_turn s) (ended_state s) error ended (held, held)
+    by : FailsFlush live error → EndsLiveTurn (flush_turn s) (ended_state s) error ended (held, held)
     by (inl memory) = memory-ends ended s (ended_state s) error held memory holds
     by (inr refused) =
-        subst (λ t. EndsTurn t (ended_state s) error ended (held, held)) (sym (refused-turn live s refused.refusal h refused.lowers)) (record {
-          fails = record {
-            written = AppendsFront-nil held [];
-            cut = λ e. absurd (no-lower-fault refused.refusal (sym refused.reports ∙ e));
-            refused = λ refusal. record { refused = ap Some (sym refused.reports); holds = holds; appended = Appends-nil held };
-          };
+        subst (λ t. EndsLiveTurn t (ended_state s) error ended (held, held)) (sym (refused-turn live s refused.refusal h refused.lowers)) (record {
+          written = AppendsFront-nil held [];
+          cut = λ e. absurd (no-lower-fault refused.refusal (sym refused.reports ∙ e));
+          refused = λ refusal. record { refused = ap Some (sym refused.reports); holds = holds; appended = Appends-nil held };
+          state = ended_state s;
+          left = refl;
           holds = holds;
         })
 

@@ -1,81 +1,134 @@
 -- What the words of the command line make of a run's answers.
-use Rattle.std.proofs.Common.{◌≡◌, ℕ, ◌+◌, List, Option, Some, None, Result, Ok, Err, ◌⊎◌, refl, sym, ap, subst, ◌∙◌, inl, inr, arith}
-use Rattle.std.specs.Option.{option_map}
-use Rattle.live.specs.declared.session.Live.{Live}
-use Rattle.live_config.specs.declared.config.LiveConfig.{LiveConfig}
-use Rattle.live.specs.declared.fault.LiveError.{LiveError}
-use Rattle.live.specs.declared.fault.LiveError.TheVariants.{OutOfMemory, Usage, ReadFault, WriteFault, Script, BadManifest, NoSuchFile, Io, CargoMetadata, NoJson, Json, NotAbsolute, UnknownPackage, BadCrateName, NoParent, NoCargoProject, TooMany}
-use Rattle.std.specs.Prelude.{IfErr, IsErrOf, OnOk, String}
+use Rattle.std.proofs.Common.{◌≡◌, ℕ, ◌+◌, List, [], Option, Some, None, Result, Ok, Err, ◌⊎◌, refl, sym, ap, subst, ◌∙◌, inl, inr, arith}
+use Rattle.std.specs.Option.{option_map, option_map_or, option_or}
+use Rattle.std.specs.Prelude.{IfErr, IsErrOf, OnOk, String, map, string_bytes}
 use Rattle.std.specs.declared.alloc.Global.{Global}
-use Rattle.live.specs.Cli.{CompletesAs, CompletesFor, FailsFor, FinishesAs, KeepsAlways, StatusOf, TakesFor, UsageError, UsageExactly, with_config, state_of_command, state_for, texts_of}
-use Rattle.live_config.specs.declared.config.Command.{Command}
-use Rattle.live_config.specs.declared.config.Command.TheVariants.{Run}
+use Rattle.std.proofs.KnownBytes.{Consumes-nil}
 use Rattle.live_config.specs.Config.{command_of}
-use Rattle.live.specs.Fault.{IsOneOf, IsRefusal, all_statuses, run_statuses, status_of, word_statuses}
-use Rattle.live.specs.Run.{Completes, FailsFrom, Finishes, HasStatusCause, TakesAtMost}
+use Rattle.live_config.specs.declared.config.Command.TheVariants.{Run}
+use Rattle.live_config.specs.declared.config.LiveConfig.{LiveConfig}
+use Rattle.live_script.specs.declared.fault.LiveError.{LiveError}
+use Rattle.live_script.specs.declared.fault.LiveError.TheVariants.{OutOfMemory, Usage, ReadFault, WriteFault, Script, BadManifest, NoSuchFile, Io, CargoMetadata, NoJson, Json, NotAbsolute, UnknownPackage, BadCrateName, NoParent, NoCargoProject, TooMany}
+use Rattle.live_script.specs.Fault.{IsOneOf, all_statuses, run_statuses, status_of, word_statuses}
+use Rattle.live_script.specs.Run.{Completes, EndsFrom, Finishes, HasStatusCause, TakesAtMost}
+use Rattle.live_script.proofs.Statuses.{among}
+use Rattle.live.specs.declared.session.Live.{Live}
+use Rattle.live.specs.Cli.{Asked, CompletesAs, EndsWork, FailsFor, FinishesAs, KeepsAlways, ReadsFor, TakesFor, UsageExactly, Work, asked_by, state_for, status_for, work_of}
 use Rattle.live.specs.Session.{State, session}
-use Rattle.live.specs.Turn.{KeepsNames}
-use Rattle.live.proofs.Names.{names_wider}
-use Rattle.live.proofs.Outcomes.{AppendsFront-nil}
-use Rattle.live.proofs.Statuses.{among}
-
--- an error that is no refusal and comes before anything was written
-pub fails_early : (start : Option State) (error : LiveError) (live : Live) (left held : Option (List ℕ)) → (IsRefusal error → ⊥) → FailsFor start error live left (held, held)
-fails_early start error live left held early =
-    λ s given all known. record { written = AppendsFront-nil held (session s all).pages; refused = λ r. absurd (early r) }
-
--- the state that words give
-state_is : (words : List (String Global)) (s t : State) (config : LiveConfig) → command_of (texts_of words) ≡ Some (Run config) → state_for words s ≡ Some t → t ≡ with_config s config
-state_is words s t config given is =
-    let both : Some (with_config s config) ≡ Some t = sym (ap (option_map (state_of_command s)) given) ∙ is in cc
-
--- the session from it
-pub fails_given : (words : List (String Global)) (s : State) (error : LiveError) (live : Live) (left old new : Option (List ℕ)) (config : LiveConfig) → command_of (texts_of words) ≡ Some (Run config)
-    → FailsFrom (with_config s config) error live left (old, new) → FailsFor (state_for words s) error live left (old, new)
-fails_given words s error live left old new config given fails t is =
-    subst (λ u. FailsFrom u error live left (old, new)) (sym (state_is words s t config given is)) fails
-
--- what a run from it finished
-pub finishes_given : (words : List (String Global)) (s : State) (live : Live) (left left' old new : Option (List ℕ)) (config : LiveConfig) → command_of (texts_of words) ≡ Some (Run config)
-    → Finishes (with_config s config) live (left, left') (old, new) → FinishesAs (state_for words s) live (left, left') (old, new)
-finishes_given words s live left left' old new config given finishes =
-    record { state = with_config s config; given = ap (option_map (state_of_command s)) given; finishes = finishes }
-
--- what a run from the words' configuration took
-pub takes_given : (words : List (String Global)) (left left' : Option (List ℕ)) (config : LiveConfig) → command_of (texts_of words) ≡ Some (Run config) → TakesAtMost (config.limits.bytes + 1) (left, left') → TakesFor words (left, left')
-takes_given words left left' config given taken other other_given =
-    let same : config ≡ other = let both : Some (Run config) ≡ Some (Run other) = sym given ∙ other_given in cc in
-    subst (λ (c : LiveConfig). TakesAtMost (c.limits.bytes + 1) (left, left')) same taken
-
--- what a run from the state completes
-pub completes_given : (words : List (String Global)) (s : State) (all : List ℕ) (config : LiveConfig) (result : Result (Unit {0}) LiveError) → command_of (texts_of words) ≡ Some (Run config)
-    → Completes (session (with_config s config) all).refusal result → CompletesFor (state_for words s) all result
-completes_given words s all config result given done t is =
-    subst (λ u. Completes (session u all).refusal result) (sym (state_is words s t config given is)) done
-
--- wrong words give no state
-pub completes_wrong : (words : List (String Global)) (s : State) (all : List ℕ) (result : Result (Unit {0}) LiveError) → command_of (texts_of words) ≡ None → CompletesFor (state_for words s) all result
-completes_wrong words s all result wrong t is =
-    let none : None ≡ Some t = sym (ap (option_map (state_of_command s)) wrong) ∙ is in absurd (cc)
+use Rattle.live.specs.Turn.{KeepsNames, live_rules}
+use Rattle.live.proofs.Names.{names_equal, names_wider}
 
 -- the status of an answer that completes
-pub memory_as : (refusal : Option LiveError) → StatusOf refusal 1
-memory_as None = inr refl
-memory_as (Some error) = inr refl
+completes_status : (refusal : Option LiveError) (result : Result (Unit {0}) LiveError) → Completes refusal result → (status_for result ≡ option_map_or status_of refusal 0) ⊎ (status_for result ≡ 1)
+completes_status refusal (Ok done) accepted = inl (sym (ap (λ r. option_map_or status_of r 0) accepted))
+completes_status refusal (Err error) (inl memory) = inr (ap status_of memory)
+completes_status refusal (Err error) (inr refused) = inl (sym (ap (λ r. option_map_or status_of r 0) refused))
 
-completes_as : (refusal : Option LiveError) (error : LiveError) → Completes refusal (Err error) → StatusOf refusal (status_of error)
-completes_as refusal error (inl memory) = subst (λ e. StatusOf refusal (status_of e)) (sym memory) (memory_as refusal)
-completes_as refusal error (inr refused) = subst (λ r. StatusOf r (status_of error)) (sym refused) (inl refl)
+-- a run is not of wrong words
+no_usage : (result : Result (Unit {0}) LiveError) (reads reads' writes writes' : ℕ) → IfErr result (λ e. HasStatusCause run_statuses (status_of e) (reads, reads') (writes, writes'))
+    → status_for result ≡ 2 → ⊥
+no_usage (Ok done) reads reads' writes writes' cause two = omega (arith, two)
+no_usage (Err error) reads reads' writes writes' cause two = let only : IsOneOf run_statuses 2 = subst (IsOneOf run_statuses) two cause.only in cc
 
-done_as : (refusal : Option LiveError) → refusal ≡ None → StatusOf refusal 0
-done_as refusal accepted = subst (λ r. StatusOf r 0) (sym accepted) (inl refl)
+-- nothing was read for a work
+early : (script : Option (List ℕ)) (left : Option (List ℕ)) (most : ℕ) → (read : Option (List ℕ) × Option (List ℕ)) × ReadsFor script (left, left) read × TakesAtMost most read
+early None left most = ((left, left), refl, record { bytes = []; read = Consumes-nil left; few = omega arith })
+early (Some script) left most = ((Some script, Some script), (refl, refl), record { bytes = []; read = Consumes-nil (Some script); few = omega arith })
 
-pub status_completes : (start : Option State) (all : List ℕ) (error : LiveError) (status : ℕ) → status ≡ status_of error → CompletesFor start all (Err error) → CompletesAs start all status
-status_completes start all error status is completes s given =
-    subst (StatusOf (session s all).refusal) (sym is) (completes_as (session s all).refusal error (completes s given))
+-- ---- words that are a command
 
-pub zero_completes : (start : Option State) (all : List ℕ) → CompletesFor start all (Ok tt) → CompletesAs start all 0
-zero_completes start all completes s given = done_as (session s all).refusal (completes s given)
+module _ (words : List (String Global)) (config : LiveConfig) (given : command_of (map string_bytes words) ≡ Some (Run config)) where
+  -- their work
+  work_given : (asked_by words).work ≡ Some (work_of (Run config))
+  work_given = ap (option_map work_of) given
+
+  work_is : (work : Work) → (asked_by words).work ≡ Some work → work ≡ work_of (Run config)
+  work_is work is = let both : Some (work_of (Run config)) ≡ Some work = sym work_given ∙ is in cc
+
+  -- the state from which it runs
+  state_given : State → State
+  state_given s = state_for (work_of (Run config)) s
+
+  -- what a run from it finished
+  pub finishes_given : (s : State) (live : Live) (left left' old new : Option (List ℕ))
+      → Finishes live_rules config.limits.bytes (record s { config = config }) [] live (left, left') (old, new) → FinishesAs (asked_by words) s live (left, left') (old, new)
+  finishes_given s live left left' old new finishes = record {
+    work = work_of (Run config);
+    given = work_given;
+    read = (left, left');
+    from = refl;
+    finishes = finishes;
+  }
+
+  -- what ended one
+  pub fails_given : (s : State) (error : LiveError) (live live' : Live) (left left' old new : Option (List ℕ))
+      → EndsFrom live_rules config.limits.bytes (record s { config = config }) [] error live' (left, left') (old, new)
+      → FailsFor (asked_by words) s error (live, live') (left, left') (old, new)
+  fails_given s error live live' left left' old new ends work is =
+      inl (subst (λ w. EndsWork w s error live' (left, left') (old, new)) (sym (work_is work is)) (record { read = (left, left'); from = refl; ends = ends }))
+
+  -- what it took
+  takes_given : (left left' : Option (List ℕ)) → TakesAtMost (config.limits.bytes + 1) (left, left') → TakesFor (asked_by words) (left, left')
+  takes_given left left' taken work is =
+      subst (λ (w : Work). (read : Option (List ℕ) × Option (List ℕ)) × ReadsFor w.script (left, left') read × TakesAtMost (w.config.limits.bytes + 1) read) (sym (work_is work is))
+      ((left, left'), refl, taken)
+
+  -- and what it completes
+  pub completes_given : (s : State) (left : Option (List ℕ)) (result : Result (Unit {0}) LiveError)
+      → ((all : List ℕ) → left ≡ Some all → Completes (session (record s { config = config }) all).refusal result) → CompletesAs (asked_by words) s left (status_for result)
+  completes_given s left result done work is all known =
+      let here : option_or None left ≡ Some all = ap (λ (w : Work). option_or w.script left) (sym (work_is work is)) ∙ known in
+      subst (λ (w : Work). (status_for result ≡ option_map_or status_of (session (state_for w s) all).refusal 0) ⊎ (status_for result ≡ 1)) (sym (work_is work is)) (completes_status (session (record s { config = config }) all).refusal result (done all here))
+
+  -- they are not wrong
+  pub usage_given : {U : Type 0} (result : Result (Unit {0}) LiveError) (reads reads' writes writes' : ℕ)
+      → IfErr result (λ e. HasStatusCause run_statuses (status_of e) (reads, reads') (writes, writes')) → UsageExactly (asked_by words).work (status_for result) U
+  usage_given result reads reads' writes writes' cause = record {
+    only = λ two. absurd (no_usage result reads reads' writes writes' cause two);
+    always = λ none. let both : Some (work_of (Run config)) ≡ None = sym work_given ∙ none in absurd (cc);
+    untouched = λ none. let both : Some (work_of (Run config)) ≡ None = sym work_given ∙ none in absurd (cc);
+  }
+
+  -- what is kept always
+  pub keeps_given : (result : Result (Unit {0}) LiveError) (live live' : Live) (left left' : Option (List ℕ)) → TakesAtMost (config.limits.bytes + 1) (left, left')
+      → KeepsNames (IsErrOf result OutOfMemory) live live' → KeepsAlways (asked_by words) (status_for result) (live, live') (left, left')
+  keeps_given result live live' left left' taken names = record {
+    taken = takes_given left left' taken;
+    names = names_wider live live' (λ out. ap status_for out) names;
+  }
+
+-- ---- words that are none, or for which memory ran out
+
+-- wrong words ask nothing
+nothing_asked : (words : List (String Global)) → command_of (map string_bytes words) ≡ None → (asked_by words).work ≡ None
+nothing_asked words wrong = ap (option_map work_of) wrong
+
+pub fails_wrong : (words : List (String Global)) (s : State) (error : LiveError) (live : Live) (left held : Option (List ℕ)) → command_of (map string_bytes words) ≡ None
+    → FailsFor (asked_by words) s error (live, live) (left, left) (held, held)
+fails_wrong words s error live left held wrong work is = let both : None ≡ Some work = sym (nothing_asked words wrong) ∙ is in absurd (cc)
+
+pub completes_wrong : (words : List (String Global)) (s : State) (left : Option (List ℕ)) (status : ℕ) → command_of (map string_bytes words) ≡ None → CompletesAs (asked_by words) s left status
+completes_wrong words s left status wrong work is = let both : None ≡ Some work = sym (nothing_asked words wrong) ∙ is in absurd (cc)
+
+pub usage_wrong : {U : Type 0} (words : List (String Global)) → command_of (map string_bytes words) ≡ None → U → UsageExactly (asked_by words).work 2 U
+usage_wrong words wrong same = record { only = λ _. nothing_asked words wrong; always = λ _. inl refl; untouched = λ _. same }
+
+-- out of memory
+pub fails_memory : (words : List (String Global)) (s : State) (live : Live) (left held : Option (List ℕ)) → FailsFor (asked_by words) s OutOfMemory (live, live) (left, left) (held, held)
+fails_memory words s live left held work is = inr (record { memory = refl; unread = refl; unwritten = refl }, refl)
+
+pub completes_memory : (words : List (String Global)) (s : State) (left : Option (List ℕ)) → CompletesAs (asked_by words) s left 1
+completes_memory words s left work is all known = inr refl
+
+pub usage_memory : {U : Type 0} (words : List (String Global)) → U → UsageExactly (asked_by words).work 1 U
+usage_memory words same = record { only = λ two. absurd (omega (arith, two)); always = λ _. inr refl; untouched = λ _. same }
+
+-- no run, and a session that is as it was
+pub takes_early : (asked : Asked) (left : Option (List ℕ)) → TakesFor asked (left, left)
+takes_early asked left work is = early work.script left (work.config.limits.bytes + 1)
+
+pub keeps_early : (words : List (String Global)) (status : ℕ) (live : Live) (left : Option (List ℕ)) → KeepsAlways (asked_by words) status (live, live) (left, left)
+keeps_early words status live left = record { taken = takes_early (asked_by words) left; names = names_equal live live refl }
 
 -- what the causes of a run are with more statuses
 wider_words : (error : LiveError) → IsOneOf run_statuses (status_of error) → IsOneOf word_statuses (status_of error)
@@ -121,73 +174,3 @@ on_ok (Err e) more h = tt
 pub if_err : {T E : Type 0} {P Q : E → Type 0} (result : Result T E) → ((e : E) → P e → Q e) → IfErr result P → IfErr result Q
 if_err (Ok x) more h = tt
 if_err (Err e) more h = more e h
-
--- a run is not of wrong words
-no_usage : (result : Result (Unit {0}) LiveError) (reads reads' writes writes' : ℕ) → IfErr result (λ e. HasStatusCause run_statuses (status_of e) (reads, reads') (writes, writes'))
-    → IsErrOf result Usage → ⊥
-no_usage (Ok done) reads reads' writes writes' cause e = cc
-no_usage (Err error) reads reads' writes writes' cause e =
-    let is : error ≡ Usage = cc in
-    let only : IsOneOf run_statuses 2 = subst (λ x. IsOneOf run_statuses (status_of x)) is cause.only in cc
-
-pub usage_given : {U : Type 0} (words : List (String Global)) (config : LiveConfig) (result : Result (Unit {0}) LiveError) (reads reads' writes writes' : ℕ) → command_of (texts_of words) ≡ Some (Run config)
-    → IfErr result (λ e. HasStatusCause run_statuses (status_of e) (reads, reads') (writes, writes')) → UsageError (command_of (texts_of words)) result U
-usage_given words config result reads reads' writes writes' given cause = record {
-  only = λ e. absurd (no_usage result reads reads' writes writes' cause e);
-  always = λ none. let both : Some (Run config) ≡ None = sym given ∙ none in absurd (cc);
-  untouched = λ none. let both : Some (Run config) ≡ None = sym given ∙ none in absurd (cc);
-}
-
--- the status of wrong words
-is_usage : (error : LiveError) → status_of error ≡ 2 → error ≡ Usage
-is_usage OutOfMemory e = absurd (omega arith)
-is_usage Usage e = refl
-is_usage ReadFault e = absurd (omega arith)
-is_usage WriteFault e = absurd (omega arith)
-is_usage (Script line) e = absurd (omega arith)
-is_usage (BadManifest path) e = absurd (omega arith)
-is_usage (NoSuchFile path) e = absurd (omega arith)
-is_usage (Io line) e = absurd (omega arith)
-is_usage (CargoMetadata stderr) e = absurd (omega arith)
-is_usage NoJson e = absurd (omega arith)
-is_usage (Json field) e = absurd (omega arith)
-is_usage (NotAbsolute text) e = absurd (omega arith)
-is_usage (UnknownPackage id) e = absurd (omega arith)
-is_usage (BadCrateName name) e = absurd (omega arith)
-is_usage (NoParent text) e = absurd (omega arith)
-is_usage NoCargoProject e = absurd (omega arith)
-is_usage (TooMany limit) e = absurd (omega arith)
-
-usage_status : (error : LiveError) (status : ℕ) → status ≡ status_of error → IsErrOf {T = Unit {0}} (Err error) Usage ⊎ IsErrOf {T = Unit {0}} (Err error) OutOfMemory → (status ≡ 2) ⊎ (status ≡ 1)
-usage_status error status is (inl usage) = inl (is ∙ ap status_of (let e : error ≡ Usage = cc in e))
-usage_status error status is (inr memory) = inr (is ∙ ap status_of (let e : error ≡ OutOfMemory = cc in e))
-
-pub usage_err : {U : Type 0} (command : Option Command) (error : LiveError) (status : ℕ) → status ≡ status_of error → UsageError command (Err error) U → UsageExactly command status U
-usage_err command error status is usage = record {
-  only = λ two. usage.only (ap Err (is_usage error (sym is ∙ two)));
-  always = λ none. usage_status error status is (usage.always none);
-  untouched = usage.untouched;
-}
-
-usage_never : (command : Option Command) → IsErrOf {T = Unit {0}} (Ok tt) Usage ⊎ IsErrOf {T = Unit {0}} (Ok tt) OutOfMemory → ⊥
-usage_never command (inl e) = cc
-usage_never command (inr e) = cc
-
-pub usage_ok : {U : Type 0} (command : Option Command) → UsageError command (Ok tt) U → UsageExactly command 0 U
-usage_ok command usage = record {
-  only = λ e. absurd (omega arith);
-  always = λ none. absurd (usage_never command (usage.always none));
-  untouched = usage.untouched;
-}
-
--- what is kept always, by the error's status
-pub keeps_err : (words : List (String Global)) (error : LiveError) (status : ℕ) (live live' : Live) (left left' : Option (List ℕ)) → status ≡ status_of error → TakesFor words (left, left')
-    → KeepsNames (IsErrOf {T = Unit {0}} (Err error) OutOfMemory) live live' → KeepsAlways words status (live, live') (left, left')
-keeps_err words error status live live' left left' is taken names = record {
-  taken = taken;
-  names = names_wider live live' (λ e. is ∙ ap status_of (let out : error ≡ OutOfMemory = cc in out)) names;
-}
-
-pub keeps_ok : (words : List (String Global)) (live live' : Live) (left left' : Option (List ℕ)) → TakesFor words (left, left')
-    → KeepsNames (IsErrOf {T = Unit {0}} (Ok tt) OutOfMemory) live live' → KeepsAlways words 0 (live, live') (left, left')
-keeps_ok words live live' left left' taken names = record { taken = taken; names = names_wider live live' (λ e. absurd (cc)) names }

@@ -1,13 +1,11 @@
 pub mod Cli
 pub mod Crates
-pub mod Fault
 pub mod Image
 pub mod Laws
 pub mod LiveTexts
 pub mod Marked
+pub mod Names
 pub mod Page
 pub mod Refresh
-pub mod Run
 pub mod Session
 pub mod Turn
-pub mod Written

@@ -10,10 +10,10 @@ use Rattle.pm_lower.specs.declared.project_workspace.ProjectWorkspace.{ProjectWo
 use Rattle.live_project.specs.Project.{NamesLoadLimit, ProjectContent, read_sources}
 use Rattle.live_project.specs.declared.project_error.ProjectError.{ProjectError}
 use Rattle.live_project.specs.declared.sources.Sources.{Sources}
-use Rattle.live.specs.declared.fault.LiveError.{LiveError}
-use Rattle.live.specs.declared.fault.LiveError.TheVariants.{OutOfMemory}
+use Rattle.live_script.specs.declared.fault.LiveError.{LiveError}
+use Rattle.live_script.specs.declared.fault.LiveError.TheVariants.{OutOfMemory}
 use Rattle.live.specs.declared.session.Live.{Live}
-use Rattle.live.specs.Fault.{of_project_error}
+use Rattle.live_script.specs.Fault.{of_project_error}
 use Rattle.live.specs.LiveTexts.{AddsMark, kept_by}
 use Rattle.live.specs.Session.{project_after_build}
 

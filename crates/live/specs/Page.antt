@@ -27,6 +27,11 @@ pub record Flush : Type 0 where
   pub files : List LiveFile
   pub project : Option ProjectContent
 
+-- a flush that was done: what it brought into the database, and the crates that are shown of it
+pub record Flushed : Type 0 where
+  pub flush : Flush
+  pub crates : List Crate
+
 -- ---- files
 
 -- the paths of a flush's files
@@ -70,7 +75,8 @@ node_seen krate = record {
 abbrev pub entries : Flush → List Crate → List CrateEntry
 entries flush crates = entries_of (path_by (numbers_of_flush flush)) (map node_seen crates)
 
--- the page of a flush with these crates
-unfoldable pub page : Flush → List Crate → List ℕ
-page flush crates =
-    placed.page_of_entries (roots_by flush.project) (paths_of_flush flush) (entries flush crates)
+-- the page of a flush that was done
+unfoldable pub page : Flushed → List ℕ
+page done =
+    placed.page_of_entries (roots_by done.flush.project) (paths_of_flush done.flush)
+    (entries done.flush done.crates)

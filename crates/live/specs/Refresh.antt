@@ -13,11 +13,11 @@ use Rattle.pm_lower_crates.specs.declared.lower_error.LowerError.{LowerError}
 use Rattle.live_page.specs.Refresh.{GivesCrates, KeepsIdentities, Refreshes}
 use Rattle.live_project.specs.Crates.{BeginIn, project_crates, project_edges}
 use Rattle.live_project.specs.Project.{ProjectContent}
-use Rattle.live.specs.declared.fault.LiveError.{LiveError}
-use Rattle.live.specs.declared.fault.LiveError.TheVariants.{OutOfMemory}
+use Rattle.live_script.specs.declared.fault.LiveError.{LiveError}
+use Rattle.live_script.specs.declared.fault.LiveError.TheVariants.{OutOfMemory}
 use Rattle.live.specs.declared.last_flush.LastFlush.{LastFlush}
 use Rattle.live.specs.declared.session.Live.{Live}
-use Rattle.live.specs.Fault.{of_lower_error}
+use Rattle.live_script.specs.Fault.{of_lower_error}
 use Rattle.live.specs.Page.{crates_by, roots_by}
 
 -- ---- the graph

@@ -1,14 +1,13 @@
--- The session: what a script does, line by line, to a state, which pages it writes, and what it refuses.
-use Rattle.std.specs.Prelude.{ℕ, Bool, true, List, [], ◌∷◌, ◌++◌, Option, Some, None, Result, Ok, Err, length, take, unwrap_or, nat_le, nat_lt, ◌||◌, ◌+◌, if◌then◌else◌}
-use Rattle.std.specs.List.{enumerate_from, filter_map, fold, list_any}
+-- The session: what an event does to a state, which flushes it does, and what it refuses. A script is taken
+-- line by line, as `session_by` has it.
+use Rattle.std.specs.Prelude.{ℕ, Bool, true, List, [], ◌∷◌, Option, Some, None, Result, Ok, Err, length, nat_lt, ◌||◌, if◌then◌else◌}
+use Rattle.std.specs.List.{enumerate_from, filter_map, list_any}
 use Rattle.std.specs.Option.{option_map}
 use Rattle.base_text_outside.specs.Command.{question_of}
 use Rattle.base_text_outside.specs.Runner.{with_answer}
-use Rattle.base_text_outside.specs.declared.command.CommandLine.{CommandLine}
 use Rattle.base_text_outside.specs.declared.command.Output.{Output}
 use Rattle.base_text_outside.specs.declared.command.Question.{Question}
-use Rattle.base_text_outside.specs.declared.limits.Limit.TheVariants.{Bytes, Paths}
-use Rattle.base_text.specs.Lines.{lines_of, whole_lines}
+use Rattle.base_text_outside.specs.declared.limits.Limit.TheVariants.{Paths}
 use Rattle.vfs_core.specs.VfsPath.{PathContent, vfs_path_eq}
 use Rattle.vfs_core.specs.declared.marks.Mark.{Mark}
 use Rattle.vfs_core.specs.declared.marks.MarkKind.{MarkKind}
@@ -23,45 +22,31 @@ use Rattle.pm_lower_crates.specs.declared.lower_error.LowerError.{LowerError}
 use Rattle.live_config.specs.declared.config.LiveConfig.{LiveConfig}
 use Rattle.live_page.specs.declared.event.Event.{Event}
 use Rattle.live_page.specs.declared.event.Event.TheVariants.{Answer, Build, Exclude, File, Flush as FlushEvent, Load}
-use Rattle.live_page.specs.Event.{event}
 use Rattle.live_project.specs.Build.{built_project}
 use Rattle.live_project.specs.Project.{ProjectContent, read_sources}
 use Rattle.live_project.specs.Sources.{kept_files}
 use Rattle.live_project.specs.declared.project_error.ProjectError.{ProjectError}
 use Rattle.live_project.specs.declared.sources.Sources.{Sources}
-use Rattle.live.specs.declared.fault.LiveError.{LiveError}
-use Rattle.live.specs.declared.fault.LiveError.TheVariants.{NoCargoProject, Script, TooMany}
-use Rattle.live.specs.Fault.{of_build_error, of_lower_error, of_project_error}
-use Rattle.live.specs.Page.{Flush, LiveFile, crates_of_flush, page}
+use Rattle.live_script.specs.declared.fault.LiveError.{LiveError}
+use Rattle.live_script.specs.declared.fault.LiveError.TheVariants.{NoCargoProject, TooMany}
+use Rattle.live_script.specs.Fault.{of_build_error, of_lower_error, of_project_error}
+use Rattle.live_script.specs.Session.{Outcome, Turn, refuses, session_by, takes}
+use Rattle.live.specs.Page.{Flush, Flushed, LiveFile, crates_of_flush}
 
 -- what a session knows: its configuration, what was said of files (newest first), the answers that were
 -- recorded, by their questions, the project that was loaded last with what its last build gave, if one was
--- loaded, what the last flush brought into the database, if there was one, and whether it has ended
+-- loaded, the last flush that was done, if there was one, and whether it has ended
 pub record State : Type 0 where
   pub config : LiveConfig
   pub marks : List Mark
   pub answers : List (Question × Output)
   pub project : Option ProjectContent
-  pub flushed : Option Flush
+  pub flushed : Option Flushed
   pub ended : Bool
 
 -- the state after it has ended
 abbrev pub ended_state : State → State
 ended_state s = record s { ended = true }
-
--- what one event makes: the state after it, the pages that it writes, and its refusal
-pub record Turn : Type 0 where
-  pub state : State
-  pub pages : List (List ℕ)
-  pub refusal : Option LiveError
-
--- an event that is taken
-abbrev pub takes : State → List (List ℕ) → Turn
-takes s pages = record { state = s; pages = pages; refusal = None }
-
--- an event that is refused leaves this state, and writes nothing
-abbrev pub refuses : State → LiveError → Turn
-refuses s error = record { state = s; pages = []; refusal = Some error }
 
 -- ---- files
 
@@ -72,16 +57,12 @@ has_room s path =
     || nat_lt (length (mentioned_paths s.marks)) s.config.limits.paths
 
 -- what is said of a path that has room
-abbrev pub mark_turn : State → PathContent → MarkKind → Turn
+abbrev pub mark_turn : State → PathContent → MarkKind → Turn State Flushed
 mark_turn s path kind =
     if has_room s path then takes (record s { marks = record { path = path; kind = kind } ∷ s.marks }) []
     else refuses s (TooMany Paths)
 
 -- ---- answers and projects
-
--- an answer is recorded, in place of an earlier one of the same question
-abbrev pub answer_turn : State → CommandLine → Output → Turn
-answer_turn s line output = takes (record s { answers = with_answer (question_of line) output s.answers }) []
 
 -- what a load keeps: the configuration, the answers and the files that live at that load, and its path
 abbrev pub sources_of : State → List ℕ → Sources
@@ -93,13 +74,13 @@ sources_of s path = record {
 }
 
 -- a load of what was read, or of its refusal, which leaves the state as it was
-abbrev pub loaded_turn : State → Sources → Result ProjectWorkspace ProjectError → Turn
+abbrev pub loaded_turn : State → Sources → Result ProjectWorkspace ProjectError → Turn State Flushed
 loaded_turn s sources (Ok workspace) =
     takes (record s { project = Some (record { sources = sources; workspace = workspace }) }) []
 loaded_turn s sources (Err error) = refuses s (of_project_error error)
 
 -- a load is judged by what it keeps alone
-abbrev pub load_turn : State → List ℕ → Turn
+abbrev pub load_turn : State → List ℕ → Turn State Flushed
 load_turn s path = loaded_turn s (sources_of s path) (read_sources (sources_of s path))
 
 -- ---- builds
@@ -118,12 +99,12 @@ project_after_build (Some project) output =
     else Err NoCargoProject
 
 -- a build that gives this project, or its refusal, which leaves the state as it was
-abbrev pub built_turn : State → Result ProjectContent LiveError → Turn
+abbrev pub built_turn : State → Result ProjectContent LiveError → Turn State Flushed
 built_turn s (Ok project) = takes (record s { project = Some project }) []
 built_turn s (Err error) = refuses s error
 
 -- a build
-abbrev pub build_turn : State → Output → Turn
+abbrev pub build_turn : State → Output → Turn State Flushed
 build_turn s output = built_turn s (project_after_build s.project output)
 
 -- ---- flushes
@@ -141,23 +122,26 @@ numbered_files marks = filter_map (live_file marks) (enumerate_from 0 (mentioned
 abbrev pub flush_of : State → Flush
 flush_of s = record { files = numbered_files s.marks; project = s.project }
 
--- a flush with crates writes one page, and is the last flush from then on; one that has none is refused, and
--- ends the session
-abbrev pub flushed_turn : State → Flush → Result (List Crate) LowerError → Turn
-flushed_turn s flush (Ok crates) = takes (record s { flushed = Some flush }) (page flush crates ∷ [])
+-- a flush with crates is done, and is the last flush from then on; one that has none is refused, and ends the
+-- session
+abbrev pub flushed_turn : State → Flush → Result (List Crate) LowerError → Turn State Flushed
+flushed_turn s flush (Ok crates) =
+    let done : Flushed = record { flush = flush; crates = crates } in
+    takes (record s { flushed = Some done }) (done ∷ [])
 flushed_turn s flush (Err error) = refuses (ended_state s) (of_lower_error error)
 
 -- a flush
-abbrev pub flush_turn : State → Turn
+abbrev pub flush_turn : State → Turn State Flushed
 flush_turn s = flushed_turn s (flush_of s) (crates_of_flush (flush_of s))
 
 -- ---- events
 
--- one event
-unfoldable pub turn : State → Event → Turn
+-- one event; an answer is recorded in place of an earlier one of the same question
+unfoldable pub turn : State → Event → Turn State Flushed
 turn s (File path text) = mark_turn s path (kind_of text)
 turn s (Exclude path) = mark_turn s path Out
-turn s (Answer line output) = answer_turn s line output
+turn s (Answer line output) =
+    takes (record s { answers = with_answer (question_of line) output s.answers }) []
 turn s (Load path) = load_turn s path
 turn s (Build output) = build_turn s output
 turn s FlushEvent = flush_turn s
@@ -171,62 +155,8 @@ state_after_failure s (Load path) = s
 state_after_failure s (Build output) = s
 state_after_failure s FlushEvent = ended_state s
 
--- the state after a line that failed: one that is no event leaves it as it was
-abbrev pub state_after_line : State → Option Event → State
-state_after_line s None = s
-state_after_line s (Some e) = state_after_failure s e
-
--- the line of this number: its event's turn, and a line that is no event is refused
-abbrev pub turn_of : State → ℕ → Option Event → Turn
-turn_of s number None = refuses s (Script number)
-turn_of s number (Some e) = turn s e
-
 -- ---- scripts
 
--- what the lines so far made: the state, the pages in order, how many lines there were, the first refusal
-pub record Outcome : Type 0 where
-  pub state : State
-  pub pages : List (List ℕ)
-  pub lines : ℕ
-  pub refusal : Option LiveError
-
--- before the first line
-abbrev pub start : State → Outcome
-start s = record { state = s; pages = []; lines = 0; refusal = None }
-
--- one turn after these lines
-abbrev pub then_turn : Outcome → Turn → Outcome
-then_turn o t = record {
-  state = t.state;
-  pages = o.pages ++ t.pages;
-  lines = o.lines + 1;
-  refusal = t.refusal;
-}
-
--- one more line; none is taken after a refusal
-abbrev pub take_line_after : Option LiveError → Outcome → List ℕ → Outcome
-take_line_after None o line = then_turn o (turn_of o.state (o.lines + 1) (event line))
-take_line_after (Some error) o line = o
-
--- one more line
-abbrev pub take_line : Outcome → List ℕ → Outcome
-take_line o line = take_line_after o.refusal o line
-
--- these lines in order, up to the first refusal
-unfoldable pub turns : State → List (List ℕ) → Outcome
-turns s lines = fold take_line (start s) lines
-
--- the outcome with a refusal that comes behind all lines
-abbrev pub refused_by : Outcome → LiveError → Outcome
-refused_by o error = record o { refusal = Some (unwrap_or o.refusal error) }
-
--- the session of a state and the bytes of a script
-unfoldable pub session : State → List ℕ → Outcome
-session s bytes =
-    if nat_le (length bytes) s.config.limits.bytes then turns s (lines_of bytes)
-    else refused_by (turns s (whole_lines (take s.config.limits.bytes bytes))) (TooMany Bytes)
-
--- the lines of a script within a limit of bytes: of a longer one those whose newline is within it
-unfoldable pub lines_within : ℕ → List ℕ → List (List ℕ)
-lines_within limit bytes =
-    if nat_le (length bytes) limit then lines_of bytes else whole_lines (take limit bytes)
+-- the session of a state and the bytes of a script, within the limit of its configuration
+abbrev pub session : State → List ℕ → Outcome State Flushed
+session s bytes = session_by s.config.limits.bytes turn s bytes

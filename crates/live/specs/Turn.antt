@@ -1,5 +1,6 @@
 -- When a `Live` holds a state, and what one step does to both: the state's parts, one clause each.
-use Rattle.std.specs.Prelude.{◌≡◌, ◌≤◌, ◌⊎◌, ℕ, Bool, true, false, List, [], length, Option, Some, None, Result, Ok, Err}
+use Rattle.std.specs.Prelude.{◌≡◌, ◌≤◌, Bool, true, false, List, [], length, Option, Some, None, Result, Ok, Err}
+use Rattle.std.specs.Option.{IfSome}
 use Rattle.std.specs.Str.{is_utf8}
 use Rattle.std.specs.Io.KnownBytes.{Appends}
 use Rattle.vfs_core.specs.Texts.{BringsTo, all_pass}
@@ -7,48 +8,50 @@ use Rattle.vfs_core.specs.Files.{KeepsNumbers, existing_files, paths_of}
 use Rattle.vfs_core.specs.VfsPath.{PathContent}
 use Rattle.vfs_sets.specs.Probes.{RaisesAtMost, most_probes}
 use Rattle.live_page.specs.Refresh.{KeepsDatabaseCrates, KeepsIdentities}
-use Rattle.live_page.specs.Shape.{image, texts_known}
+use Rattle.live_page.specs.Shape.{base_image, base_shape, image, texts_known}
 use Rattle.live_config.specs.Config.{first_config}
-use Rattle.live_page.specs.Event.{event}
 use Rattle.live_page.specs.declared.event.Event.{Event}
 use Rattle.live_page.specs.declared.event.Event.TheVariants.{Flush as FlushEvent}
-use Rattle.live.specs.declared.fault.LiveError.{LiveError}
-use Rattle.live.specs.declared.fault.LiveError.TheVariants.{OutOfMemory, WriteFault}
-use Rattle.live.specs.declared.fault.StepError.{StepError}
-use Rattle.live.specs.declared.fault.StepError.TheVariants.{Refused, Ended}
+use Rattle.live_script.specs.declared.fault.LiveError.{LiveError}
+use Rattle.live_script.specs.declared.fault.StepError.{StepError}
+use Rattle.live_script.specs.declared.fault.StepError.TheVariants.{Refused, Ended}
 use Rattle.live.specs.declared.last_flush.LastFlush.{LastFlush}
 use Rattle.live.specs.declared.session.Live.{Live}
 use Rattle.live.specs.Crates.{ListsInOrder, ShowsCrates}
-use Rattle.live.specs.Fault.{IsRefusal, turn_statuses}
-use Rattle.live.specs.Image.{ShowsFlush, shape_of_flush}
+use Rattle.live_script.specs.Fault.{turn_statuses}
+use Rattle.live_script.specs.Session.{Rules, Turn}
+use Rattle.live_script.specs.Turn as script
+use Rattle.live.specs.Image.{shape_of_flush}
 use Rattle.live.specs.LiveTexts.{KeepsTexts, files_kept}
-use Rattle.live.specs.Page.{Flush, numbers_of_flush}
-use Rattle.live.specs.Session.{State, Turn, flush_of, state_after_failure, state_after_line, turn, turn_of}
-use Rattle.live.specs.Written.{AppendsFront, AppendsPages, AppendsProperFront, Counts, HasWriteCause, StreamBytes}
+use Rattle.live.specs.Page.{Flushed, numbers_of_flush, page, paths_of_flush, roots_by}
+use Rattle.live.specs.Session.{State, flush_of, state_after_failure, turn}
+use Rattle.live_script.specs.Written.{Counts, HasWriteCause, StreamBytes}
 
 -- ---- a state that is held
 
--- the database of a session shows what the last flush brought into it, and the changes of files since then
--- bring its texts to those that live, each of which is a text. It lists no crates as long as no project was
--- loaded
+-- the database of a session shows the base of the last flush, if there was one, and the changes of files
+-- since then bring its texts to those that live, each of which is a text. It lists no crates as long as no
+-- project was loaded
 pub record IsCurrent (live : Live) (s : State) : Type 0 where
   pub brings : BringsTo live.files (texts_known live.db) s.marks
   pub valid : all_pass is_utf8 live.files.batch ≡ true
-  pub shown : ShowsFlush live.db s.flushed
+  pub shown :
+      IfSome s.flushed
+      (λ done. base_image live.db ≡ base_shape (roots_by done.flush.project) (paths_of_flush done.flush))
   pub crates : live.project ≡ None → live.db.listed ≡ []
 
 -- what is kept of a flush is its files, by the paths of the table, which only grow, and its project
-pub record IsLast (paths : List PathContent) (last : LastFlush) (flush : Flush) : Type 0 where
+pub record IsLast (paths : List PathContent) (last : LastFlush) (done : Flushed) : Type 0 where
   pub within : length last.texts ≤ length paths
-  pub files : files_kept 0 paths last.texts ≡ flush.files
-  pub project : last.project ≡ flush.project
+  pub files : files_kept 0 paths last.texts ≡ done.flush.files
+  pub project : last.project ≡ done.flush.project
 
 -- the last flush is kept, where there was one
-abbrev pub KeepsFlush : List PathContent → Option LastFlush → Option Flush → Type 0
+abbrev pub KeepsFlush : List PathContent → Option LastFlush → Option Flushed → Type 0
 KeepsFlush paths None None = Unit {0}
-KeepsFlush paths None (Some flush) = ⊥
+KeepsFlush paths None (Some done) = ⊥
 KeepsFlush paths (Some last) None = ⊥
-KeepsFlush paths (Some last) (Some flush) = IsLast paths last flush
+KeepsFlush paths (Some last) (Some done) = IsLast paths last done
 
 -- a session holds a state: its files and their texts are those of the marks, it has the answers, the project
 -- and the last flush, and until it ends its database is current
@@ -77,49 +80,41 @@ first_state = record {
   ended = false;
 }
 
+-- ---- the rules of a session
+
+-- names stay: each path that had a number has it still, and each identity its crate, unless memory ran out at
+-- a flush, which ends the session
+pub record KeepsNames (Memory : Type 0) (old new : Live) : Type 0 where
+  pub paths : KeepsNumbers old.files new.files
+  pub crates : (HasEnded new → ¬ Memory) → KeepsIdentities old.db.crates new.db.crates
+
+-- a session as a run of scripts takes it: each flush writes its page, whatever flushes came before
+abbrev pub live_rules : Rules Live
+live_rules = record {
+  State = State;
+  Flush = Flushed;
+  turn = turn;
+  may_leave = λ s event left. left ≡ state_after_failure s event;
+  text = λ before done. page done;
+  holds = λ live before s. Holds live s;
+}
+
 -- ---- one step
 
--- a turn that is not refused was taken: the state after it is held, and its pages were appended
-pub record TakesTurn (t : Turn) (live : Live) (held : StreamBytes) : Type 0 where
-  pub accepted : t.refusal ≡ None
-  pub holds : Holds live t.state
-  pub appended : AppendsPages held t.pages
+-- a turn that is not refused was taken: the state after it is held, and the pages of its flushes were
+-- appended
+abbrev pub TakesLiveTurn : Turn State Flushed → Live → StreamBytes → Type 0
+TakesLiveTurn t live held = script.TakesTurn live_rules t [] live held
 
--- a turn that is refused with this error: the state after it is held, and its pages were appended
-pub record RefusesTurn (t : Turn) (error : LiveError) (live : Live) (held : StreamBytes) : Type 0 where
-  pub refused : t.refusal ≡ Some error
-  pub holds : Holds live t.state
-  pub appended : AppendsPages held t.pages
-
--- an error ends a turn: a front of its pages was appended, not all of them after a write fault, and a refusal
--- is the turn's own
-pub record FailsTurn (t : Turn) (error : LiveError) (live : Live) (held : StreamBytes) : Type 0 where
-  pub written : AppendsFront held t.pages
-  pub cut : error ≡ WriteFault → AppendsProperFront held t.pages
-  pub refused : IsRefusal error → RefusesTurn t error live held
-
--- and the session holds the state that the failure leaves
-pub record EndsTurn (t : Turn) (left : State) (error : LiveError) (live : Live) (held : StreamBytes)
-    : Type 0 where
-  pub fails : FailsTurn t error live held
-  pub holds : Holds live left
-
--- memory ran out before a line was read as an event: the state is as it was, and nothing was written
-pub record MissesLine (s : State) (error : LiveError) (live : Live) (held : StreamBytes) : Type 0 where
-  pub memory : error ≡ OutOfMemory
-  pub holds : Holds live s
-  pub nothing : Appends held.0 held.1 []
-
--- an error ends the line of this number: its turn, or the line was not read
-abbrev pub EndsLine : State → ℕ → List ℕ → LiveError → Live → StreamBytes → Type 0
-EndsLine s number line error live held =
-    EndsTurn (turn_of s number (event line)) (state_after_line s (event line)) error live held
-    ⊎ MissesLine s error live held
+-- an error ends a turn: a front of its pages was appended, not all of them after a write fault, a refusal is
+-- the turn's own, and this state is held
+abbrev pub EndsLiveTurn : Turn State Flushed → State → LiveError → Live → StreamBytes → Type 0
+EndsLiveTurn t state error live held = script.EndsTurn live_rules t (λ left. left ≡ state) error [] live held
 
 -- an error of a step: the turn failed with it, or the session had ended and nothing was done
 abbrev pub FailsStep : State → Event → StepError → Live → StreamBytes → Type 0
 FailsStep s event (Refused error) live held =
-    EndsTurn (turn s event) (state_after_failure s event) error live held
+    EndsLiveTurn (turn s event) (state_after_failure s event) error live held
 FailsStep s event Ended live held = Holds live s × Appends held.0 held.1 []
 
 -- the result of a step as that of its turn
@@ -133,12 +128,6 @@ HasStepCause (Err Ended) writes = writes.0 ≤ writes.1
 abbrev pub CountsFlush : Live → Live → Type 0
 CountsFlush old new =
     RaisesAtMost (most_probes (existing_files old.files)) old.probes.ledger new.probes.ledger
-
--- names stay: each path that had a number has it still, and each identity its crate, unless memory ran out at
--- a flush, which ends the session
-pub record KeepsNames (Memory : Type 0) (old new : Live) : Type 0 where
-  pub paths : KeepsNumbers old.files new.files
-  pub crates : (HasEnded new → ¬ Memory) → KeepsIdentities old.db.crates new.db.crates
 
 -- what a step leaves as it was: the configuration, and names; the database and the count of probes, unless it
 -- is a flush; the crates of the database, where it succeeds and no project was loaded; all, where it fails

@@ -2,7 +2,6 @@
 #![tactic(auto)]
 
 pub mod cli;
-pub mod fault;
 mod kept_files;
 pub mod last_flush;
 pub mod laws;
@@ -12,12 +11,12 @@ mod rows;
 pub mod run;
 pub mod session;
 
-pub use cli::{live_cli, tell};
-pub use fault::{LiveError, StepError, fault_text};
+pub use cli::{fault_text, live_cli, usage_text};
 pub use last_flush::LastFlush;
 pub use live_config::{Command, LiveConfig, WordsError, config};
 pub use live_page::{Event, EventError, LineError, Lines, event, lines};
 pub use live_project::{LiveAnswers, Project, Sources};
+pub use live_script::{LiveError, StepError, Stepper, run_script, tell};
 pub use live_texts::LiveTexts;
 pub use run::live_run;
 pub use session::Live;

@@ -3,15 +3,16 @@
 ghost use Rattle.std.specs.Prelude.{◌≡◌, ◌∷◌, ◌⊎◌, [], IfErr, OnErr, OnOk};
 ghost use Rattle.std.specs.Io.KnownBytes.{Appends};
 ghost use Rattle.std.specs.Result.{IsErrOf};
-ghost use Rattle.live.specs.Fault.{flush_statuses};
-ghost use Rattle.live.specs.Written.{AppendsFront, AppendsProperFront, HasWriteCause};
-ghost use Rattle.live.specs.declared.fault.LiveError.TheVariants.{OutOfMemory, WriteFault};
+ghost use Rattle.live_script.specs.Fault.{flush_statuses};
+ghost use Rattle.live_script.specs.Written.{AppendsFront, HasWriteCause};
+ghost use Rattle.live_script.specs.declared.fault.LiveError.TheVariants.{OutOfMemory, WriteFault};
+ghost use Rattle.base_text_outside.specs.Sink.{AppendsPart};
 ghost use Rattle.live_page.specs.Page.{page_of};
 
-use crate::fault::LiveError;
-use base_text::{ByteSink, SinkError, write_all};
+use base_text::ByteSink;
 use input_db::InputDb;
 use live_page::page;
+use live_script::{LiveError, write_text};
 use std::alloc::Global;
 
 /// Writes the page that a database shows.
@@ -24,14 +25,10 @@ pub(crate) fn write_page<K: ByteSink>(
     ensures err { OnErr result (AppendsFront (K.held out.old, K.held out.new)
         (page_of db.now ∷ [])) }
     ensures cut { IsErrOf result WriteFault
-        → AppendsProperFront (K.held out.old, K.held out.new) (page_of db.now ∷ []) }
+        → AppendsPart (K.held out.old) (K.held out.new) (page_of db.now) }
     ensures only { IfErr result (λ e. (e ≡ OutOfMemory) ⊎ (e ≡ WriteFault)) }
     ensures cause { HasWriteCause result flush_statuses (K.faults out.old, K.faults out.new) }
 {
     let text = page(alloc, db)?;
-    match write_all(out, text.as_str().as_bytes()) {
-        Ok(()) => Ok(()),
-        Err(SinkError::Failed) => Err(LiveError::WriteFault),
-        Err(SinkError::OutOfMemory) => Err(LiveError::OutOfMemory),
-    }
+    write_text(out, text.as_str())
 }

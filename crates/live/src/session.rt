@@ -6,7 +6,6 @@ mod build;
 mod flush;
 mod load;
 
-use crate::fault::{LiveError, StepError};
 use crate::last_flush::LastFlush;
 use crate::live_texts::LiveTexts;
 use base_text::{ByteSink, Counter, Ledger, Limit, Numbers, Shared, Steps, Text, TryClone};
@@ -15,6 +14,7 @@ use input_db_files::Nonce;
 use live_config::LiveConfig;
 use live_page::Event;
 use live_project::{LiveAnswers, Project, SharedConfig};
+use live_script::{LiveError, StepError};
 use pm_lower::ProjectWorkspace;
 use std::alloc::{AllocError, Global};
 use vfs_core::{Vfs, VfsError, VfsPath};
@@ -41,14 +41,14 @@ impl Live {
     ghost use Rattle.vfs_core.specs.Files.{IsFullFor, kind_of};
     ghost use Rattle.vfs_core.specs.declared.marks.MarkKind.TheVariants.{Out};
     ghost use Rattle.live_config.specs.Config.{Fits, config_of};
-    ghost use Rattle.live.specs.Fault.{turn_statuses};
+    ghost use Rattle.live_script.specs.Fault.{turn_statuses};
     ghost use Rattle.live.specs.Marked.{AddsMarkTo};
     ghost use Rattle.live.specs.Session.{State, state_after_failure, turn};
-    ghost use Rattle.live.specs.Turn.{EndsTurn, FailsStep, HasEnded, HasStepCause, Holds, LeavesAsWas, ShowsShape, TakesTurn, first_state};
-    ghost use Rattle.live.specs.Written.{HasWriteCause};
+    ghost use Rattle.live.specs.Turn.{EndsLiveTurn, FailsStep, HasEnded, HasStepCause, Holds, LeavesAsWas, ShowsShape, TakesLiveTurn, first_state};
+    ghost use Rattle.live_script.specs.Written.{HasWriteCause};
     ghost use Rattle.live_page.specs.declared.event.Event.TheVariants.{Flush};
-    ghost use Rattle.live.specs.declared.fault.LiveError.TheVariants.{OutOfMemory, TooMany};
-    ghost use Rattle.live.specs.declared.fault.StepError.TheVariants.{Ended, Refused};
+    ghost use Rattle.live_script.specs.declared.fault.LiveError.TheVariants.{OutOfMemory, TooMany};
+    ghost use Rattle.live_script.specs.declared.fault.StepError.TheVariants.{Ended, Refused};
     ghost use Rattle.base_text_outside.specs.declared.limits.Limit.TheVariants.{Paths};
 
     /// A session to which nothing was said, with the configuration of no words and an empty database.
@@ -179,7 +179,7 @@ impl Live {
         out: &mut K,
     ) -> Result<(), StepError>
         ensures ok { OnOk result ((s : State) → Holds self.old s
-            → TakesTurn (turn s event.now) self.new (K.held out.old, K.held out.new)) }
+            → TakesLiveTurn (turn s event.now) self.new (K.held out.old, K.held out.new)) }
         ensures err { IfErr result (λ e. (s : State) → Holds self.old s
             → FailsStep s event.now e self.new (K.held out.old, K.held out.new)) }
         ensures ended { (result ≡ Err Ended) ↔ HasEnded self.old }
@@ -212,9 +212,9 @@ impl Live {
     ) -> Result<(), LiveError>
         requires { ¬ HasEnded self.old }
         ensures ok { OnOk result ((s : State) → Holds self.old s
-            → TakesTurn (turn s event) self.new (K.held out.old, K.held out.new)) }
+            → TakesLiveTurn (turn s event) self.new (K.held out.old, K.held out.new)) }
         ensures err { IfErr result (λ e. (s : State) → Holds self.old s
-            → EndsTurn (turn s event) (state_after_failure s event) e
+            → EndsLiveTurn (turn s event) (state_after_failure s event) e
             self.new (K.held out.old, K.held out.new)) }
         ensures cause { HasWriteCause result turn_statuses (K.faults out.old, K.faults out.new) }
         ensures image { OnOk result (event ≡ Flush

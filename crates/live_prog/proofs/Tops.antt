@@ -1,29 +1,32 @@
 -- What a call on a new session does, and what stands where there was no memory for one.
-use Rattle.std.proofs.Common.{String, ◌≡◌, ℕ, ◌<◌, List, [], ◌∷◌, ◌++◌, Option, Err, length, length-append, sym, subst, arith}
-use Rattle.std.specs.declared.alloc.Global.{Global}
+use Rattle.std.proofs.Common.{◌≡◌, ℕ, ◌<◌, List, [], ◌∷◌, ◌++◌, Option, Err, inl, inr, ◌⊎◌, length, length-append, refl, sym, arith}
 use Rattle.base_text_outside.specs.Sink.{Appends-nil}
 use Rattle.base_text_outside.specs.declared.sink.SinkError.TheVariants.{OutOfMemory as MemoryOfSink}
-use Rattle.live.specs.declared.fault.LiveError.TheVariants.{OutOfMemory}
+use Rattle.live_script.specs.declared.fault.LiveError.{LiveError}
+use Rattle.live_script.specs.declared.fault.LiveError.TheVariants.{OutOfMemory}
+use Rattle.live_script.specs.Fault.{live_error_text}
 use Rattle.live.specs.declared.session.Live.{Live}
-use Rattle.live.specs.Cli.{CompletesAs, FailsAs, StatusOf}
-use Rattle.live.specs.Fault.{live_error_text}
-use Rattle.live.specs.Session.{State, session}
-use Rattle.live.specs.Turn.{Holds, first_state}
-use Rattle.live.proofs.Outcomes.{AppendsFront-nil}
-use Rattle.live.proofs.Words.{memory_as}
+use Rattle.live.specs.Cli.{Asked, EndsWork, FailsAs, MissesRun, Work}
 use Rattle.live_prog.specs.Top.{FailsTop}
+use Rattle.live.specs.Turn.{Holds, first_state}
+
+-- what ended the run of a session, or came before it
+ended_by : (asked : Asked) (work : Work) (error : LiveError) (lives : Live × Live) (left held : Option (List ℕ) × Option (List ℕ))
+    → EndsWork work first_state error lives.1 left held ⊎ (MissesRun error left held × (lives.1 ≡ lives.0))
+    → ((live : Live) × EndsWork work first_state error live left held) ⊎ MissesRun error left held
+ended_by asked work error lives left held (inl ends) = inl (lives.1, ends)
+ended_by asked work error lives left held (inr misses) = inr misses.0
 
 -- a call on a session that holds the first state
-pub fails_new : (words : List (String Global)) (status : ℕ) (live live' : Live) (left old new told told' : Option (List ℕ)) (faults faults' : ℕ) → Holds live first_state
-    → FailsAs words status (live, live') left ((old, new), (told, told')) (faults, faults') → FailsTop words status left ((old, new), (told, told')) (faults, faults')
-fails_new words status live live' left old new told told' faults faults' h fails = record {
+pub fails_new : (asked : Asked) (status : ℕ) (live live' : Live) (left left' old new told told' : Option (List ℕ)) (faults faults' : ℕ) → Holds live first_state
+    → FailsAs asked status (live, live') (left, left') ((old, new), (told, told')) (faults, faults')
+    → FailsTop asked status (left, left') ((old, new), (told, told')) (faults, faults')
+fails_new asked status live live' left left' old new told told' faults faults' h fails = record {
   error = fails.error;
   reports = fails.reports;
   answer = fails.answer;
   told = fails.told;
-  fails = λ s given all known.
-      let failed = fails.fails first_state h s given all known in
-      record { written = failed.written; refused = λ r. (live', failed.refused r) };
+  fails = λ work given. ended_by asked work fails.error (live, live') (left, left') (old, new) (fails.fails first_state h work given);
 }
 
 -- a line has its newline at least
@@ -31,18 +34,16 @@ some_line : (text : List ℕ) → 0 < length (text ++ 10 ∷ [])
 some_line text = omega (arith, length-append text (10 ∷ []))
 
 -- no memory for a session: nothing was touched
-pub memory_top : (words : List (String Global)) (status : ℕ) (left held told : Option (List ℕ)) (faults : ℕ) → status ≡ 1 → FailsTop words status left ((held, held), (told, told)) (faults, faults)
-memory_top words status left held told faults is = record {
+pub memory_top : (asked : Asked) (status : ℕ) (left held told : Option (List ℕ)) (faults : ℕ) → status ≡ 1
+    → FailsTop asked status (left, left) ((held, held), (told, told)) (faults, faults)
+memory_top asked status left held told faults is = record {
   error = OutOfMemory;
   reports = sym is;
   answer = Err MemoryOfSink;
   told = record {
     whole = tt;
-    cut = record { count = 0; short = some_line (live_error_text OutOfMemory); front = Appends-nil told };
+    cut = record { count = 0; short = some_line (live_error_text asked.usage OutOfMemory); front = Appends-nil told };
     cause = record { later = omega arith; failed = λ e. absurd (cc) };
   };
-  fails = λ s given all known. record { written = AppendsFront-nil held (session s all).pages; refused = λ refusal. absurd (omega (arith, refusal)) };
+  fails = λ work given. inr (record { memory = refl; unread = refl; unwritten = refl });
 }
-
-pub memory_completes : (start : Option State) (all : List ℕ) (status : ℕ) → status ≡ 1 → CompletesAs start all status
-memory_completes start all status is s given = subst (StatusOf (session s all).refusal) (sym is) (memory_as (session s all).refusal)

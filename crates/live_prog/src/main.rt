@@ -7,7 +7,8 @@ ghost use Rattle.std.specs.Prelude.{◌≡◌};
 mod top;
 
 use base_text_outside::{ReaderSource, WriterSink};
-use live::{LiveError, tell};
+use live::usage_text;
+use live_script::{LiveError, tell};
 use std::env;
 use std::io::{self, ErrorKind};
 use std::process::ExitCode;
@@ -19,7 +20,7 @@ fn main(rt: HostRuntime) -> ExitCode {
         Ok(args) => args,
         Err(error) => {
             let fault = refused_words(&error);
-            let _ = tell(rt.alloc(), &fault, &mut err);
+            let _ = tell(rt.alloc(), usage_text(), &fault, &mut err);
             return ExitCode::from(fault.status());
         }
     };

@@ -3,12 +3,12 @@
 ghost use Rattle.std.specs.Prelude.{◌≡◌, ◌⊎◌, IfErr, IfOk, OnErr, OnOk, Err, Ok, Some};
 ghost use Rattle.live.specs.Marked.{BuildsProject, FailsBuild};
 ghost use Rattle.live.specs.Session.{project_after_build};
-ghost use Rattle.live.specs.declared.fault.LiveError.TheVariants.{OutOfMemory};
+ghost use Rattle.live_script.specs.declared.fault.LiveError.TheVariants.{OutOfMemory};
 
-use crate::fault::LiveError;
 use crate::session::Live;
 use base_text::{Output, Shared};
 use live_project::Project;
+use live_script::LiveError;
 use std::alloc::Global;
 use std::rc::Rc;
 

@@ -3,22 +3,22 @@
 ghost use Rattle.std.specs.Prelude.{◌≡◌, ◌+◌, ◌<◌, ◌^◌, ◌⊎◌, IfErr, IfOk, IsErrOf, OnErr, OnOk, is_err, length};
 ghost use Rattle.vfs_core.specs.Files.{existing_files};
 ghost use Rattle.live_page.specs.declared.event.Event.TheVariants.{Flush};
-ghost use Rattle.live.specs.Fault.{flush_statuses};
+ghost use Rattle.live_script.specs.Fault.{flush_statuses};
 ghost use Rattle.live.specs.Marked.{SparesFiles};
 ghost use Rattle.live.specs.Page.{roots_by};
 ghost use Rattle.live.specs.Refresh.{FailsFlush, GivesGraph, KeepsLast, RefreshesLive};
 ghost use Rattle.live.specs.Session.{State, ended_state, flush_turn};
-ghost use Rattle.live.specs.Turn.{CountsFlush, EndsTurn, HasEnded, Holds, LeavesAsWas, ShowsShape, TakesTurn};
-ghost use Rattle.live.specs.Written.{HasWriteCause};
-ghost use Rattle.live.specs.declared.fault.LiveError.TheVariants.{OutOfMemory};
+ghost use Rattle.live.specs.Turn.{CountsFlush, EndsLiveTurn, HasEnded, Holds, LeavesAsWas, ShowsShape, TakesLiveTurn};
+ghost use Rattle.live_script.specs.Written.{HasWriteCause};
+ghost use Rattle.live_script.specs.declared.fault.LiveError.TheVariants.{OutOfMemory};
 
-use crate::fault::LiveError;
 use crate::last_flush::LastFlush;
 use crate::page::write_page;
 use crate::session::Live;
 use base_text::{ByteSink, Items, Shared, TryClone};
 use crate_graph::CrateGraphBuilder;
 use live_project::Project;
+use live_script::LiveError;
 use pm_lower_crates::LowerError;
 use std::alloc::{AllocError, Global};
 use vfs_core::Vfs;
@@ -61,10 +61,10 @@ impl Live {
     pub(crate) fn flush<K: ByteSink>(&mut self, alloc: Global, out: &mut K) -> Result<(), LiveError>
         requires { ¬ HasEnded self.old }
         ensures ok { OnOk result ((s : State) → Holds self.old s
-            → TakesTurn (flush_turn s) self.new (K.held out.old, K.held out.new)) }
+            → TakesLiveTurn (flush_turn s) self.new (K.held out.old, K.held out.new)) }
         ensures image { OnOk result ((s : State) → Holds self.old s → ShowsShape self.new s) }
         ensures err { IfErr result (λ e. (s : State) → Holds self.old s
-            → EndsTurn (flush_turn s) (ended_state s) e self.new (K.held out.old, K.held out.new)) }
+            → EndsLiveTurn (flush_turn s) (ended_state s) e self.new (K.held out.old, K.held out.new)) }
         ensures cause { HasWriteCause result flush_statuses (K.faults out.old, K.faults out.new) }
         ensures rest { LeavesAsWas Flush (is_err result)
             (IsErrOf result OutOfMemory) self.old self.new }

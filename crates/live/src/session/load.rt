@@ -2,13 +2,13 @@
 
 ghost use Rattle.std.specs.Prelude.{◌≡◌, IfErr, IfOk, OnErr, OnOk};
 ghost use Rattle.live.specs.Marked.{AddsAnswer, FailsLoad, LoadsProject, sources_kept};
-ghost use Rattle.live.specs.declared.fault.LiveError.TheVariants.{OutOfMemory};
+ghost use Rattle.live_script.specs.declared.fault.LiveError.TheVariants.{OutOfMemory};
 
-use crate::fault::LiveError;
 use crate::kept_files::kept_files;
 use crate::session::Live;
 use base_text::{CommandLine, Output, Shared, Text, TryClone};
 use live_project::{Project, Sources};
+use live_script::LiveError;
 use std::alloc::{AllocError, Global};
 use std::rc::Rc;
 

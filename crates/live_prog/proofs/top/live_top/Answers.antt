@@ -1,12 +1,14 @@
+use Rattle.std.proofs.Common.{[], Some, inr, refl}
 use Rattle.live.specs.Turn.{first_state}
-use Rattle.live_prog.proofs.Tops.{fails_new, memory_completes, memory_top}
+use Rattle.live_prog.proofs.Tops.{fails_new, memory_top}
+use Rattle.live.proofs.Words.{takes_early}
 use Rattle.live_prog.proofs.top.live_top.Goals as goal
 
 pub returns-in-Ok-clause-ok : goal.returns-in-Ok-clause-ok
 returns-in-Ok-clause-ok g c = λ done. (_, c.live_cli-status.ensures.ok done first_state c.in-Ok.ensures.holds)
 
 pub returns-in-Ok-clause-err : goal.returns-in-Ok-clause-err
-returns-in-Ok-clause-err g c = λ failed. fails_new _ _ _ _ _ _ _ _ _ _ _ c.in-Ok.ensures.holds (c.live_cli-status.ensures.err failed)
+returns-in-Ok-clause-err g c = λ failed. fails_new _ _ _ _ _ _ _ _ _ _ _ _ c.in-Ok.ensures.holds (c.live_cli-status.ensures.err failed)
 
 pub returns-in-Ok-clause-usage : goal.returns-in-Ok-clause-usage
 returns-in-Ok-clause-usage g c =
@@ -26,4 +28,7 @@ pub returns-in-Err-clause-err : goal.returns-in-Err-clause-err
 returns-in-Err-clause-err g c = λ _. memory_top _ _ _ _ _ _ c.status.ensures
 
 pub returns-in-Err-clause-complete : goal.returns-in-Err-clause-complete
-returns-in-Err-clause-complete g c = λ all known faultless. memory_completes _ all _ c.status.ensures
+returns-in-Err-clause-complete g c = λ faultless. λ work given all known. inr c.status.ensures
+
+pub returns-in-Err-clause-taken : goal.returns-in-Err-clause-taken
+returns-in-Err-clause-taken g c = λ work given. takes_early (record { work = Some work; usage = [] }) _ work refl

@@ -1,14 +1,14 @@
--- What a sink took of the pages of a session, all of them or a front, and whether faults were counted.
-use Rattle.std.specs.Prelude.{ℕ, ◌<◌, ◌≤◌, List, [], ◌∷◌, ◌++◌, Option, Result, IfErr, IsErrOf, OnErr, OnOk, length, take}
+-- What a sink took of the texts of a session, all of them or a front, and whether faults were counted.
+use Rattle.std.specs.Prelude.{ℕ, ◌≤◌, List, [], ◌∷◌, ◌++◌, Option, Result, IfErr, IsErrOf, OnErr, OnOk, length, take}
 use Rattle.std.specs.List.{concat}
 use Rattle.std.specs.Io.KnownBytes.{Appends}
 use Rattle.base_text_outside.specs.Causes.{Rose, WritesHaveCause}
 use Rattle.base_text_outside.specs.Sink.{AppendsPart}
 use Rattle.base_text_outside.specs.declared.limits.Limit.TheVariants.{Bytes}
 use Rattle.base_text_outside.specs.declared.sink.SinkError.{SinkError}
-use Rattle.live.specs.declared.fault.LiveError.{LiveError}
-use Rattle.live.specs.declared.fault.LiveError.TheVariants.{TooMany, WriteFault}
-use Rattle.live.specs.Fault.{IsOneOf, status_of}
+use Rattle.live_script.specs.declared.fault.LiveError.{LiveError}
+use Rattle.live_script.specs.declared.fault.LiveError.TheVariants.{TooMany, WriteFault}
+use Rattle.live_script.specs.Fault.{IsOneOf, status_of}
 
 -- the bytes that a stream shows before a call, and after it: those left to read, or those written
 abbrev pub StreamBytes : Type 0
@@ -18,21 +18,15 @@ StreamBytes = Option (List ℕ) × Option (List ℕ)
 abbrev pub Counts : Type 0
 Counts = ℕ × ℕ
 
--- the sink took these pages, whole and in order, and nothing else
-abbrev pub AppendsPages : StreamBytes → List (List ℕ) → Type 0
-AppendsPages held pages = Appends held.0 held.1 (concat pages)
+-- the sink took these texts, whole and in order, and nothing else
+abbrev pub AppendsTexts : StreamBytes → List (List ℕ) → Type 0
+AppendsTexts held texts = Appends held.0 held.1 (concat texts)
 
--- the sink took a front of these pages
-pub record AppendsFront (held : StreamBytes) (pages : List (List ℕ)) : Type 0 where
+-- the sink took a front of these texts
+pub record AppendsFront (held : StreamBytes) (texts : List (List ℕ)) : Type 0 where
   pub count : ℕ
-  pub within : count ≤ length (concat pages)
-  pub front : Appends held.0 held.1 (take count (concat pages))
-
--- the sink took a front of these pages, and not all of them
-pub record AppendsProperFront (held : StreamBytes) (pages : List (List ℕ)) : Type 0 where
-  pub count : ℕ
-  pub short : count < length (concat pages)
-  pub front : Appends held.0 held.1 (take count (concat pages))
+  pub within : count ≤ length (concat texts)
+  pub front : Appends held.0 held.1 (take count (concat texts))
 
 -- an error has one of these statuses, the limit of bytes is none that it names, and the sink's count of
 -- faults, which does not fall, rose where it is a write fault

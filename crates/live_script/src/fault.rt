@@ -1,9 +1,10 @@
 //! What a run can meet, with its exit status and its text.
 
 ghost use Rattle.std.specs.Prelude.{◌≡◌, IfOk, string_bytes};
-ghost use Rattle.live.specs.Fault.{limit_name, status_of, live_error_text};
+ghost use Rattle.live_script.specs.Fault.{limit_name, status_of, live_error_text};
 
-use base_text::{Limit, Text, TryClone};
+use base_text_outside::Limit;
+use base_values::{Text, TryClone};
 use live_project::ProjectError;
 use pm_lower_crates::LowerError;
 use pm_lower_load::LoadError;
@@ -12,7 +13,7 @@ use std::alloc::{AllocError, AllocFailed, Global};
 use std::error::Error;
 use std::fmt;
 
-/// Why a run ended before its input did, or a step was not taken. `fault_text` is its line for people.
+/// Why a run ended before its input did, or a step was not taken. `text_by` is its line for people.
 #[derive(Debug, PartialEq, Eq, Drop)]
 pub enum LiveError {
     /// There was no memory.
@@ -54,7 +55,7 @@ pub enum LiveError {
 /// The variant's name.
 impl fmt::Display for LiveError {
     ghost use Rattle.std.specs.Prelude.{Some};
-    ghost use Rattle.live.specs.Fault.{live_error_name};
+    ghost use Rattle.live_script.specs.Fault.{live_error_name};
 
     ghost output = { λ error. Some (live_error_name error) };
 
@@ -85,7 +86,7 @@ impl Error for LiveError {}
 
 impl From<AllocError> for LiveError {
     ghost use Rattle.std.specs.Prelude.{◌≡◌};
-    ghost use Rattle.live.specs.declared.fault.LiveError.TheVariants.{OutOfMemory};
+    ghost use Rattle.live_script.specs.declared.fault.LiveError.TheVariants.{OutOfMemory};
 
     ghost from_gives = { λ _ e. e ≡ OutOfMemory };
 
@@ -96,7 +97,7 @@ impl From<AllocError> for LiveError {
 
 impl<T: Drop> From<AllocFailed<T>> for LiveError {
     ghost use Rattle.std.specs.Prelude.{◌≡◌};
-    ghost use Rattle.live.specs.declared.fault.LiveError.TheVariants.{OutOfMemory};
+    ghost use Rattle.live_script.specs.declared.fault.LiveError.TheVariants.{OutOfMemory};
 
     ghost from_gives = { λ _ e. e ≡ OutOfMemory };
 
@@ -107,7 +108,7 @@ impl<T: Drop> From<AllocFailed<T>> for LiveError {
 
 impl From<LoadError> for LiveError {
     ghost use Rattle.std.specs.Prelude.{◌≡◌};
-    ghost use Rattle.live.specs.Fault.{live_error_of_load};
+    ghost use Rattle.live_script.specs.Fault.{live_error_of_load};
 
     ghost from_gives = { λ error e. e ≡ live_error_of_load error };
 
@@ -129,7 +130,7 @@ impl From<LoadError> for LiveError {
 
 impl From<ProjectError> for LiveError {
     ghost use Rattle.std.specs.Prelude.{◌≡◌};
-    ghost use Rattle.live.specs.Fault.{of_project_error};
+    ghost use Rattle.live_script.specs.Fault.{of_project_error};
 
     ghost from_gives = { λ error e. e ≡ of_project_error error };
 
@@ -144,7 +145,7 @@ impl From<ProjectError> for LiveError {
 
 impl From<BuildError> for LiveError {
     ghost use Rattle.std.specs.Prelude.{◌≡◌};
-    ghost use Rattle.live.specs.Fault.{of_build_error};
+    ghost use Rattle.live_script.specs.Fault.{of_build_error};
 
     ghost from_gives = { λ error e. e ≡ of_build_error error };
 
@@ -159,7 +160,7 @@ impl From<BuildError> for LiveError {
 
 impl From<LowerError> for LiveError {
     ghost use Rattle.std.specs.Prelude.{◌≡◌};
-    ghost use Rattle.live.specs.Fault.{of_lower_error};
+    ghost use Rattle.live_script.specs.Fault.{of_lower_error};
 
     ghost from_gives = { λ error e. e ≡ of_lower_error error };
 
@@ -243,7 +244,7 @@ impl TryClone for StepError {
 
 impl fmt::Display for StepError {
     ghost use Rattle.std.specs.Prelude.{Some};
-    ghost use Rattle.live.specs.Fault.{step_error_text};
+    ghost use Rattle.live_script.specs.Fault.{step_error_text};
 
     ghost output = { λ error. Some (step_error_text error) };
 
@@ -270,14 +271,14 @@ fn kind_text(limit: Limit) -> &'static str
     }
 }
 
-/// One line of text for people, without a newline.
+/// One line of text for people, without a newline, for a command whose usage text this is.
 #[tactic(auto, unfolding(crate::specs::Fault::live_error_text))]
-pub fn fault_text(alloc: Global, error: &LiveError) -> Result<String, AllocError>
-    ensures { IfOk result (λ text. string_bytes text ≡ live_error_text error.now) }
+pub fn text_by(alloc: Global, usage: &str, error: &LiveError) -> Result<String, AllocError>
+    ensures { IfOk result (λ text. string_bytes text ≡ live_error_text usage.now error.now) }
 {
     match error {
         LiveError::OutOfMemory => String::from_str(alloc, "out of memory"),
-        LiveError::Usage => String::from_str(alloc, "usage: live [options] or live generate N"),
+        LiveError::Usage => String::from_str(alloc, usage),
         LiveError::ReadFault => String::from_str(alloc, "read fault"),
         LiveError::WriteFault => String::from_str(alloc, "write fault"),
         LiveError::Script(line) => format!(in alloc; "script line {line}"),

@@ -1,7 +1,7 @@
 -- A status that is among some is among more.
 use Rattle.std.proofs.Common.{◌≡◌, ℕ, Bool, true, false, ◌||◌, List, [], ◌∷◌, nat_eq, eqb-true, refl, sym, subst}
 use Rattle.std.specs.List.{list_all, list_any}
-use Rattle.live.specs.Fault.{IsOneOf}
+use Rattle.live_script.specs.Fault.{IsOneOf}
 use Rattle.base_values.proofs.Basics.{and_first, and_second}
 
 -- each of some statuses is among others

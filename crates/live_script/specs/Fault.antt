@@ -13,10 +13,10 @@ use Rattle.pm_lower_load.specs.declared.load_error.LoadError.{LoadError}
 use Rattle.pm_lower_load.specs.declared.load_error.LoadError.TheVariants as load
 use Rattle.pm_lower_crates.specs.declared.lower_error.LowerError.{LowerError}
 use Rattle.pm_lower_crates.specs.declared.lower_error.LowerError.TheVariants as lower
-use Rattle.live.specs.declared.fault.LiveError.{LiveError}
-use Rattle.live.specs.declared.fault.LiveError.TheVariants.{OutOfMemory, Usage, ReadFault, WriteFault, Script, BadManifest, NoSuchFile, Io, CargoMetadata, NoJson, Json, NotAbsolute, UnknownPackage, BadCrateName, NoParent, NoCargoProject, TooMany}
-use Rattle.live.specs.declared.fault.StepError.{StepError}
-use Rattle.live.specs.declared.fault.StepError.TheVariants.{Refused, Ended}
+use Rattle.live_script.specs.declared.fault.LiveError.{LiveError}
+use Rattle.live_script.specs.declared.fault.LiveError.TheVariants.{OutOfMemory, Usage, ReadFault, WriteFault, Script, BadManifest, NoSuchFile, Io, CargoMetadata, NoJson, Json, NotAbsolute, UnknownPackage, BadCrateName, NoParent, NoCargoProject, TooMany}
+use Rattle.live_script.specs.declared.fault.StepError.{StepError}
+use Rattle.live_script.specs.declared.fault.StepError.TheVariants.{Refused, Ended}
 
 -- the exit status
 abbrev pub status_of : LiveError → ℕ
@@ -46,25 +46,25 @@ limit_name Packages = codes "packages"
 limit_name Targets = codes "targets"
 limit_name Crates = codes "crates"
 
--- the text that reports an error
-unfoldable pub live_error_text : LiveError → List ℕ
-live_error_text OutOfMemory = codes "out of memory"
-live_error_text Usage = codes "usage: live [options] or live generate N"
-live_error_text ReadFault = codes "read fault"
-live_error_text WriteFault = codes "write fault"
-live_error_text (Script line) = codes "script line " ++ decimal line
-live_error_text (BadManifest path) = codes "bad manifest: " ++ path
-live_error_text (NoSuchFile path) = codes "no such file: " ++ path
-live_error_text (Io line) = codes "cannot start: " ++ line
-live_error_text (CargoMetadata stderr) = codes "cargo metadata failed: " ++ stderr
-live_error_text NoJson = codes "no json in the metadata answer"
-live_error_text (Json field) = codes "bad json at " ++ field
-live_error_text (NotAbsolute text) = codes "not absolute: " ++ text
-live_error_text (UnknownPackage id) = codes "unknown package: " ++ id
-live_error_text (BadCrateName name) = codes "bad crate name: " ++ name
-live_error_text (NoParent text) = codes "no parent: " ++ text
-live_error_text NoCargoProject = codes "no cargo project"
-live_error_text (TooMany limit) = codes "too many " ++ limit_name limit
+-- the text that reports an error, for a command whose usage text this is
+unfoldable pub live_error_text : List ℕ → LiveError → List ℕ
+live_error_text usage OutOfMemory = codes "out of memory"
+live_error_text usage Usage = usage
+live_error_text usage ReadFault = codes "read fault"
+live_error_text usage WriteFault = codes "write fault"
+live_error_text usage (Script line) = codes "script line " ++ decimal line
+live_error_text usage (BadManifest path) = codes "bad manifest: " ++ path
+live_error_text usage (NoSuchFile path) = codes "no such file: " ++ path
+live_error_text usage (Io line) = codes "cannot start: " ++ line
+live_error_text usage (CargoMetadata stderr) = codes "cargo metadata failed: " ++ stderr
+live_error_text usage NoJson = codes "no json in the metadata answer"
+live_error_text usage (Json field) = codes "bad json at " ++ field
+live_error_text usage (NotAbsolute text) = codes "not absolute: " ++ text
+live_error_text usage (UnknownPackage id) = codes "unknown package: " ++ id
+live_error_text usage (BadCrateName name) = codes "bad crate name: " ++ name
+live_error_text usage (NoParent text) = codes "no parent: " ++ text
+live_error_text usage NoCargoProject = codes "no cargo project"
+live_error_text usage (TooMany limit) = codes "too many " ++ limit_name limit
 
 -- the name that an error prints
 abbrev pub live_error_name : LiveError → List ℕ
@@ -166,6 +166,6 @@ run_statuses = 1 ∷ 3 ∷ 4 ∷ 5 ∷ 6 ∷ 7 ∷ 8 ∷ 9 ∷ 10 ∷ 11 ∷ 12 
 abbrev pub word_statuses : List ℕ
 word_statuses = 1 ∷ 2 ∷ 3 ∷ 4 ∷ 5 ∷ 6 ∷ 7 ∷ 8 ∷ 9 ∷ 10 ∷ 11 ∷ 12 ∷ 13 ∷ 14 ∷ 15 ∷ 16 ∷ 17 ∷ []
 
--- all statuses, that of success among them
+-- all statuses: those of a run, of success and of wrong words
 abbrev pub all_statuses : List ℕ
-all_statuses = 0 ∷ word_statuses
+all_statuses = 0 ∷ 2 ∷ run_statuses

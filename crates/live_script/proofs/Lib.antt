@@ -1,0 +1,9 @@
+pub mod Causes
+pub mod Joins
+pub mod Lines
+pub mod Outcomes
+pub mod Running
+pub mod Scripts
+pub mod Statuses
+pub mod Texts
+pub mod Turns
