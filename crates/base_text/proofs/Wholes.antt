@@ -3,7 +3,7 @@ use Rattle.std.proofs.Common.{◌≡◌, ℕ, ◌<◌, ◌^◌, length, length-a
 use Rattle.std.proofs.lemmas.List.{map-append}
 use Rattle.std.specs.Io.KnownBytes.{Consumes}
 use Rattle.std.proofs.KnownBytes.{Consumes-nil}
-use Rattle.base_text_outside.specs.Source.{Knows-after, Knows-all}
+use Rattle.base_text_outside.specs.Source.{SourceShows-after, SourceShows-all}
 use Rattle.base_text.specs.Lines.{last_line, lines_of, partial_line, whole_lines}
 use Rattle.base_text.specs.Part.{item_of}
 use Rattle.base_text.specs.Reader.{GaveLines, IsCut, IsFrontOf, Reader, new_reader}
@@ -49,7 +49,7 @@ module _ (bytes : List ℕ) (left : Option (List ℕ)) (given : List (Option (Li
   Gave-all done =
       let cut : IsCut true gave.front (gave.line ++ reader.piece) left = subst (λ d. IsCut d gave.front (gave.line ++ reader.piece) left) done gave.cut in
       let taken : Consumes (Some bytes) left gave.front = subst (Consumes (Some bytes) left) (ap (λ r. gave.front ++ r) cut.0 ∙ append-nil gave.front) gave.taken in
-      let all : bytes ≡ gave.front = Knows-all (Some bytes) left bytes gave.front refl taken cut.1 in
+      let all : bytes ≡ gave.front = SourceShows-all (Some bytes) left bytes gave.front refl taken cut.1 in
       sym gave.items ∙ ap (λ bs. map (item_of reader.part.max_line) (lines_of bs)) (sym all)
 
   -- the first of them before that
@@ -58,7 +58,7 @@ module _ (bytes : List ℕ) (left : Option (List ℕ)) (given : List (Option (Li
       elim reader.is_done as (λ d. reader.is_done ≡ d → IsCut d gave.front (gave.line ++ reader.piece) left → IsFrontOf given (map (item_of reader.part.max_line) (lines_of bytes))) [
         | true ↦ λ done cut. record { rest = []; is = sym (Gave-all done) ∙ sym (append-nil given) }
         | false ↦ λ done cut.
-            let after = Knows-after (Some bytes) left bytes _ refl gave.taken in
+            let after = SourceShows-after (Some bytes) left bytes _ refl gave.taken in
             let rest = (gave.line ++ reader.piece) ++ after.0 in
             let whole : bytes ≡ gave.front ++ rest = after.1 ∙ append_assoc gave.front (gave.line ++ reader.piece) after.0 in
             let more = lines_of-front gave.front rest cut in

@@ -1,3 +1,4 @@
 pub mod CfgLemmas
+pub mod Counts
 pub mod Filled
 pub mod Questions

@@ -1,6 +1,6 @@
 -- When a source or a sink may fail: its count of faults rises with every failure, and stops at the greatest
 -- u64.
-use Rattle.std.specs.Prelude.{◌≡◌, ℕ, ◌+◌, ◌-◌, ◌^◌, ◌<◌, ◌≤◌, min, List, length, Result, Ok, OnErr, IsErrOf}
+use Rattle.std.specs.Prelude.{◌≡◌, ℕ, zero, suc, ◌+◌, ◌-◌, ◌^◌, ◌<◌, ◌≤◌, min, List, length, Result, Ok, OnErr, IsErrOf}
 use Rattle.std.proofs.Common.{arith}
 use Rattle.base_text_outside.specs.declared.sink.SinkError.{SinkError}
 use Rattle.base_text_outside.specs.declared.sink.SinkError.TheVariants.{Failed}
@@ -8,6 +8,11 @@ use Rattle.base_text_outside.specs.declared.sink.SinkError.TheVariants.{Failed}
 -- one more, but never past the greatest u64
 abbrev pub next_count : ℕ → ℕ
 next_count n = min (n + 1) (2 ^ 64 - 1)
+
+-- a count after so many steps
+abbrev pub raised_by : ℕ → ℕ → ℕ
+raised_by zero count = count
+raised_by (suc steps) count = next_count (raised_by steps count)
 
 -- the count rose, or stands at its end
 abbrev pub Rose : ℕ → ℕ → Type 0

@@ -54,6 +54,10 @@ path_text (part ∷ parts) = with_slashes (part ∷ parts)
 abbrev pub is_absolute : List ℕ → Bool
 is_absolute text = slice_index text 0 == 47
 
+-- what is made of the clean text of an absolute path, and what of any other text
+abbrev pub if_absolute : {A : Type 0} → List ℕ → (List ℕ → A) → A → A
+if_absolute text made other = if is_absolute text then made (path_text (components text)) else other
+
 -- the text begins with `/`, as a fact
 abbrev pub IsAbsolute : List ℕ → Type 0
 IsAbsolute text = slice_index text 0 ≡ 47

@@ -1,4 +1,4 @@
-//! Paths, numbers of files and of values, editions and conditional compilation. The values and the traits of the outside that
+//! Paths, paths of manifests, numbers of files and of values, editions and sets of atoms. The values and the traits of the outside that
 //! they are built on are found here too.
 #![tactic(auto)]
 

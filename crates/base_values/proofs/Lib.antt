@@ -4,6 +4,7 @@ pub mod InOrder
 pub mod MapEntries
 pub mod MapViews
 pub mod NumberMaps
+pub mod Outcomes
 pub mod SortedLists
 pub mod TableCopies
 pub mod TextMaps

@@ -2,7 +2,8 @@
 use Rattle.std.specs.Prelude.{◌≡◌, codes, false, refl, Ok}
 use Rattle.serde_json.specs.Data.{Data, object, no_members, boolean, string}
 use Rattle.json_fields.specs.Fields.{members_at, required_member, optional_member, text_at, flag_at, list_at}
-use Rattle.json_fields.specs.Outcome.{Reading, ◌>>=◌}
+use Rattle.base_values.specs.Outcome.{◌>>=◌}
+use Rattle.json_fields.specs.Outcome.{Reading}
 use Rattle.json_fields.specs.Versions.{requirement_at}
 use Rattle.json_fields.specs.Written.{is_null, list_data, option_data, set_member}
 use Rattle.cargo_meta_values.specs.Kinds.{dependency_kind_at, dependency_kind_data}

@@ -3,7 +3,8 @@ use Rattle.std.specs.Prelude.{◌≡◌, [], Bool, false, codes, find, nat_eq, r
 use Rattle.std.specs.Cmp.Lexicographic.{pointwise}
 use Rattle.serde_json.specs.Data.{Data, object, no_members, string}
 use Rattle.json_fields.specs.Fields.{members_at, required_member, optional_member, default_member, text_at, list_at}
-use Rattle.json_fields.specs.Outcome.{Reading, ◌>>=◌}
+use Rattle.base_values.specs.Outcome.{◌>>=◌}
+use Rattle.json_fields.specs.Outcome.{Reading}
 use Rattle.json_fields.specs.Written.{is_null, list_data, option_data, set_member}
 use Rattle.cargo_meta_values.specs.Kinds.{dependency_kind_at, dependency_kind_data}
 use Rattle.cargo_meta_values.specs.Names.{package_id_at, package_id_data}

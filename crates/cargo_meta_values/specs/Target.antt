@@ -2,7 +2,8 @@
 use Rattle.std.specs.Prelude.{◌≡◌, [], codes, true, false, refl, Ok}
 use Rattle.serde_json.specs.Data.{Data, object, no_members, boolean, string}
 use Rattle.json_fields.specs.Fields.{members_at, required_member, default_member, text_at, flag_at, list_at}
-use Rattle.json_fields.specs.Outcome.{Reading, ◌>>=◌}
+use Rattle.base_values.specs.Outcome.{◌>>=◌}
+use Rattle.json_fields.specs.Outcome.{Reading}
 use Rattle.json_fields.specs.Written.{is_null, list_data, set_member}
 use Rattle.cargo_meta_values.specs.Kinds.{crate_type_at, crate_type_data, edition_at, edition_data, target_kind_at, target_kind_data}
 use Rattle.cargo_meta_values.specs.declared.kinds.Edition.TheVariants.{E2015}

@@ -4,6 +4,7 @@
 pub mod dependency;
 pub mod errors;
 pub mod kinds;
+pub mod laws;
 pub mod names;
 mod printed;
 pub mod resolve;
@@ -12,8 +13,7 @@ pub mod target;
 pub use dependency::Dependency;
 pub use errors::{Error, as_error};
 pub use kinds::{CrateType, DependencyKind, Edition, TargetKind};
-pub use names::{
-    FeatureName, FeatureTag, PackageId, PackageName, PackageTag, Source, names_compare_as_texts,
-};
+pub use laws::names_compare_as_texts;
+pub use names::{FeatureName, FeatureTag, PackageId, PackageName, PackageTag, Source};
 pub use resolve::{DepKindInfo, Node, NodeDep, Resolve};
 pub use target::Target;

@@ -1,23 +1,12 @@
 //! The names of packages and features, and the ids and sources of packages.
 
-ghost use Rattle.std.specs.Prelude.{◌≡◌, ℕ, List, refl};
-ghost use Rattle.cargo_meta_values.specs.Names.{ComparesAsText, is_crates_io, package_id_of, package_id_text, source_of, source_text};
+ghost use Rattle.std.specs.Prelude.{◌≡◌, refl};
+ghost use Rattle.cargo_meta_values.specs.Names.{is_crates_io, package_id_of, package_id_text, source_of, source_text};
 
 use base_values::{Name, Text, TryClone};
 use json_fields::{ReadError, TextJson};
 use std::alloc::{AllocError, Global};
 use std::fmt;
-use std::hash::Hash;
-
-/// Names and ids are equal, ordered and hashed as their texts.
-pub fn names_compare_as_texts()
-    ensures packages { ComparesAsText {T = List ℕ} (λ x. x) ⟦<PackageName as PartialEq>⟧.eq
-        ⟦<PackageName as Ord>⟧.cmp ⟦<PackageName as Hash>⟧.hash_input }
-    ensures features { ComparesAsText {T = List ℕ} (λ x. x) ⟦<FeatureName as PartialEq>⟧.eq
-        ⟦<FeatureName as Ord>⟧.cmp ⟦<FeatureName as Hash>⟧.hash_input }
-    ensures ids { ComparesAsText (λ x. x.repr) ⟦<PackageId as PartialEq>⟧.eq
-        ⟦<PackageId as Ord>⟧.cmp ⟦<PackageId as Hash>⟧.hash_input }
-{}
 
 /// What `PackageName` names.
 pub struct PackageTag;

@@ -2,7 +2,8 @@
 use Rattle.std.proofs.Common.{◌≡◌, ℕ, Bool, List, [], Option, Ok, Err, codes, refl}
 use Rattle.serde_json.specs.Data.{Members}
 use Rattle.json_fields.specs.Fields.{default_member, flag_at, list_at, optional_member, required_member, text_at}
-use Rattle.json_fields.specs.Outcome.{Reading, ◌>>=◌}
+use Rattle.base_values.specs.Outcome.{◌>>=◌}
+use Rattle.json_fields.specs.Outcome.{Reading}
 use Rattle.cargo_meta_values.specs.Names.{package_id_at}
 use Rattle.cargo_meta_values.specs.Target.{target_at}
 use Rattle.cargo_meta_values.specs.declared.names.PackageId.{PackageId}

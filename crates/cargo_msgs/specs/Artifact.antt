@@ -2,7 +2,8 @@
 use Rattle.std.specs.Prelude.{[], codes, Ok}
 use Rattle.serde_json.specs.Data.{Data, Members, object, no_members, boolean, string}
 use Rattle.json_fields.specs.Fields.{default_member, flag_at, list_at, members_at, optional_member, required_member, text_at}
-use Rattle.json_fields.specs.Outcome.{Reading, ◌>>=◌}
+use Rattle.base_values.specs.Outcome.{◌>>=◌}
+use Rattle.json_fields.specs.Outcome.{Reading}
 use Rattle.json_fields.specs.Written.{list_data, option_data, set_member}
 use Rattle.cargo_meta_values.specs.Names.{package_id_at, package_id_data}
 use Rattle.cargo_meta_values.specs.Target.{target_at, target_data}

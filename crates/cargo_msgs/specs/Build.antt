@@ -2,8 +2,9 @@
 use Rattle.std.specs.Prelude.{[], codes, Ok}
 use Rattle.serde_json.specs.Data.{Data, Members, object, no_members, boolean, string}
 use Rattle.json_fields.specs.Fields.{default_member, flag_at, list_at, members_at, required_member, text_at}
-use Rattle.json_fields.specs.Outcome.{Reading, ◌>>=◌}
-use Rattle.json_fields.specs.Pairs.{pair_at, pair_data}
+use Rattle.base_values.specs.Outcome.{◌>>=◌}
+use Rattle.json_fields.specs.Outcome.{Reading}
+use Rattle.json_fields.specs.Pairs.{json_pair_at, pair_data}
 use Rattle.json_fields.specs.Written.{list_data, set_member}
 use Rattle.cargo_meta_values.specs.Names.{package_id_at, package_id_data}
 use Rattle.cargo_msgs.specs.declared.build.BuildFinished.{BuildFinished}
@@ -16,7 +17,7 @@ build_script_from ms = do
   linked_libs ← required_member (codes "linked_libs") (list_at text_at) ms
   linked_paths ← required_member (codes "linked_paths") (list_at text_at) ms
   cfgs ← required_member (codes "cfgs") (list_at text_at) ms
-  env ← required_member (codes "env") (list_at (pair_at text_at text_at)) ms
+  env ← required_member (codes "env") (list_at (json_pair_at text_at text_at)) ms
   out_dir ← default_member (codes "out_dir") [] text_at ms
   Ok (record {
     package_id = package_id;

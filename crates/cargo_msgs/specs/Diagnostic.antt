@@ -5,7 +5,8 @@ use Rattle.serde_json.specs.Read.{max_depth}
 use Rattle.serde_json.specs.View.{items_of}
 use Rattle.json_fields.specs.Fields.{list_at, members_at, optional_member, required_member, text_at}
 use Rattle.json_fields.specs.Nested.{within_levels}
-use Rattle.json_fields.specs.Outcome.{Reading, ◌>>=◌}
+use Rattle.base_values.specs.Outcome.{◌>>=◌}
+use Rattle.json_fields.specs.Outcome.{Reading}
 use Rattle.json_fields.specs.TextJson.{text_form_at, text_form_data}
 use Rattle.json_fields.specs.Written.{is_null, list_data, option_data, set_member}
 use Rattle.cargo_msgs.specs.Levels.{level_of, level_text}

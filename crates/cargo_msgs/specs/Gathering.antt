@@ -2,7 +2,8 @@
 use Rattle.std.specs.Prelude.{codes, Ok}
 use Rattle.serde_json.specs.Data.{Members}
 use Rattle.json_fields.specs.Fields.{flag_at, list_at, optional_member, required_member, text_at}
-use Rattle.json_fields.specs.Outcome.{Reading, ◌>>=◌}
+use Rattle.base_values.specs.Outcome.{◌>>=◌}
+use Rattle.json_fields.specs.Outcome.{Reading}
 use Rattle.cargo_msgs.specs.Artifact.{profile_at}
 use Rattle.cargo_msgs.specs.declared.artifact.ArtifactBuild.{ArtifactBuild}
 

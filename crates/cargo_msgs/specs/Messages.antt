@@ -5,7 +5,8 @@ use Rattle.serde_json.specs.Read.{max_depth, read}
 use Rattle.serde_json.specs.Written.{has_float}
 use Rattle.json_fields.specs.Document.{document}
 use Rattle.json_fields.specs.Fields.{members_at, required_member, text_at, under}
-use Rattle.json_fields.specs.Outcome.{Reading, ◌>>=◌, below_key}
+use Rattle.base_values.specs.Outcome.{◌>>=◌}
+use Rattle.json_fields.specs.Outcome.{Reading, below_key}
 use Rattle.json_fields.specs.Written.{set_member}
 use Rattle.cargo_meta_values.specs.Names.{package_id_at, package_id_data}
 use Rattle.cargo_meta_values.specs.Target.{target_at, target_data}

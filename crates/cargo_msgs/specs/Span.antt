@@ -5,7 +5,8 @@ use Rattle.serde_json.specs.Read.{max_depth}
 use Rattle.json_fields.specs.Fields.{flag_at, list_at, members_at, number_at, optional_member, required_member, text_at}
 use Rattle.json_fields.specs.Nested.{within_levels, or_null}
 use Rattle.json_fields.specs.Numbers.{u32_at}
-use Rattle.json_fields.specs.Outcome.{Reading, ◌>>=◌}
+use Rattle.base_values.specs.Outcome.{◌>>=◌}
+use Rattle.json_fields.specs.Outcome.{Reading}
 use Rattle.json_fields.specs.TextJson.{text_form_at, text_form_data}
 use Rattle.json_fields.specs.Written.{list_data, option_data, set_member}
 use Rattle.cargo_msgs.specs.Levels.{applicability_of, applicability_text}

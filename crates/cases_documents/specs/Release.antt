@@ -2,7 +2,8 @@
 use Rattle.std.specs.Prelude.{[], codes, false, Ok}
 use Rattle.serde_json.specs.Data.{Data, object, no_members, null, boolean, number, string, unsigned}
 use Rattle.json_fields.specs.Fields.{any_at, default_member, flag_at, list_at, map_at, members_at, number_at, optional_member, required_member, text_at}
-use Rattle.json_fields.specs.Outcome.{Reading, ◌>>=◌}
+use Rattle.base_values.specs.Outcome.{◌>>=◌}
+use Rattle.json_fields.specs.Outcome.{Reading}
 use Rattle.json_fields.specs.Versions.{bare_at, requirement_at, version_at, version_data}
 use Rattle.json_fields.specs.Written.{list_data, map_data, option_data, set_member}
 use Rattle.cases_documents.specs.declared.release.Release.{Release}

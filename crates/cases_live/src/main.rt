@@ -5,6 +5,7 @@
 mod config;
 mod generated;
 mod runs;
+mod script_texts;
 mod scripts;
 mod sessions;
 mod tallies;
@@ -25,7 +26,10 @@ impl<R: Files + AllocGlobal> Family<R> for LiveFamily {
     fn answer(rt: &R, file: &str, case: Case<'_>) -> Result<Value, Fault> {
         match file {
             "errors.jsonl" => runs::memory_error(rt.alloc()),
-            "generated.jsonl" | "recorded.jsonl" => generated::answer(rt.alloc(), case),
+            "components.jsonl" | "generated.jsonl" | "recorded.jsonl" => {
+                generated::answer(rt.alloc(), case)
+            }
+            "script_texts.jsonl" => script_texts::answer(rt.alloc(), case),
             "scripts.jsonl" => scripts::answer(rt, case),
             "sessions.jsonl" => sessions::answer(rt.alloc(), case),
             "tallies.jsonl" => tallies::answer(rt.alloc(), case),

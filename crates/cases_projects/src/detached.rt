@@ -1,12 +1,12 @@
 //! The graphs and the roots of detached files, each alone or with the workspace of the case's document.
 
 use crate::loaders::live_loader;
-use crate::lowerings::{graph_answer, limits_of, workspace_data};
-use crate::roots::out_dirs_of;
+use crate::lowerings::{Known, graph_answer, limits_of};
+use crate::roots::outputs_of;
 use crate::values::{roots_answer, workspace_of};
 use cases::{Case, Fault, manifest_of, paths};
 use pm_cargo::CargoWorkspace;
-use pm_lower_crates::lower_detached;
+use pm_lower_crates::{Front, lower_detached};
 use pm_lower_load::detached_roots;
 use serde_json::Value;
 use std::alloc::Global;
@@ -38,14 +38,16 @@ fn lower_case(
     let limits = limits_of(case);
     let file = manifest_of(alloc, case.text("manifest"))?;
     let mut loader = live_loader(alloc, case)?;
-    let shared = workspace_data(alloc)?;
-    let graph = lower_detached(alloc, &file, cargo, &shared, &mut loader, &limits);
+    let in_sysroot = cargo.map_or(false, |cargo| cargo.is_sysroot());
+    let known = Known::of(alloc, in_sysroot)?;
+    let front = Front::empty(alloc, limits.crates);
+    let graph = lower_detached(alloc, front, &file, cargo, &known.facts(), &mut loader);
     graph_answer(alloc, case, &graph)
 }
 
 fn roots(alloc: Global, case: Case<'_>, cargo: Option<&CargoWorkspace>) -> Result<Value, Fault> {
     let file = manifest_of(alloc, case.text("manifest"))?;
-    let (out_dirs, extra) = (out_dirs_of(alloc, case)?, paths(alloc, case, "extra")?);
-    let roots = detached_roots(alloc, &file, cargo, &out_dirs, extra.as_slice())?;
+    let (outputs, extra) = (outputs_of(alloc, case)?, paths(alloc, case, "extra")?);
+    let roots = detached_roots(alloc, &file, cargo, &outputs, extra.as_slice())?;
     roots_answer(alloc, roots.as_slice())
 }

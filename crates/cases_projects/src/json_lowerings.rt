@@ -1,12 +1,12 @@
 //! The graphs and the roots of projects. A project is that of the case's document on its base.
 
 use crate::loaders::live_loader;
-use crate::lowerings::{graph_answer, limits_of, workspace_data};
+use crate::lowerings::{Known, graph_answer, limits_of};
 use crate::values::roots_answer;
 use base_text::Limits;
 use cases::{Case, Fault, absolute, paths};
 use pm_json::{ProjectJson, ProjectJsonData};
-use pm_lower_crates::lower_json;
+use pm_lower_crates::{Front, lower_json};
 use pm_lower_load::json_roots;
 use serde_json::Value;
 use std::alloc::Global;
@@ -24,8 +24,9 @@ fn lower_case(alloc: Global, case: Case<'_>) -> Result<Value, Fault> {
     let limits = limits_of(case);
     let project = project_of(alloc, case)?;
     let mut loader = live_loader(alloc, case)?;
-    let shared = workspace_data(alloc)?;
-    let graph = lower_json(alloc, &project, &shared, &mut loader, &limits);
+    let known = Known::of(alloc, false)?;
+    let front = Front::empty(alloc, limits.crates);
+    let graph = lower_json(alloc, front, &project, &known.facts(), &mut loader);
     graph_answer(alloc, case, &graph)
 }
 

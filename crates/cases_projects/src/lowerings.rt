@@ -5,11 +5,13 @@ mod crates;
 
 use crate::loaders::live_loader;
 use crate::values::{limit_name, limit_of, with_text, workspace_of};
-use base_text::{Limits, Text};
+use base_text::{ArenaMap, CfgAtom, Items, Limits, Text};
 use cases::{Case, Fault};
 use crate_graph::{CrateGraphBuilder, CrateWorkspaceData};
 use crate_graph_values::target::TargetLoadError;
-use pm_lower_crates::{LowerError, lower_cargo};
+use pm_cargo::{BuildScriptOutput, PackageTag};
+use pm_cargo_config::CfgOverrides;
+use pm_lower_crates::{CrateFacts, Front, LowerError, lower_cargo};
 use serde_json::Value;
 use std::alloc::Global;
 use std::rc::Rc;
@@ -38,8 +40,9 @@ fn lower(alloc: Global, case: Case<'_>) -> Result<Result<CrateGraphBuilder, Lowe
     let limits = limits_of(case);
     let workspace = workspace_of(alloc, case)?;
     let mut loader = live_loader(alloc, case)?;
-    let shared = workspace_data(alloc)?;
-    Ok(lower_cargo(alloc, &workspace, &shared, &mut loader, &limits))
+    let known = Known::of(alloc, workspace.is_sysroot())?;
+    let front = Front::empty(alloc, limits.crates);
+    Ok(lower_cargo(alloc, front, &workspace, &known.facts(), &mut loader))
 }
 
 /// The limits of a case. The limit of crates is the greatest where it is left out.
@@ -49,14 +52,44 @@ pub fn limits_of(case: Case<'_>) -> Limits {
     limits
 }
 
-/// What the crates of a graph share.
-pub fn workspace_data(alloc: Global) -> Result<Rc<CrateWorkspaceData>, Fault> {
-    let text = Text::of_str(alloc, "bad target spec")?;
-    let data = CrateWorkspaceData {
-        target: Err(TargetLoadError(text)),
-        toolchain: None,
-    };
-    Ok(Rc::new(alloc, data)?)
+/// What is known of the crates of a case: what they share, and nothing else.
+#[derive(Drop)]
+pub struct Known {
+    atoms: Items<CfgAtom>,
+    overrides: CfgOverrides,
+    outputs: ArenaMap<PackageTag, BuildScriptOutput>,
+    shared: Rc<CrateWorkspaceData>,
+    in_sysroot: bool,
+}
+
+impl Known {
+    pub fn of(alloc: Global, in_sysroot: bool) -> Result<Known, Fault> {
+        let text = Text::of_str(alloc, "bad target spec")?;
+        let data = CrateWorkspaceData {
+            target: Err(TargetLoadError(text)),
+            toolchain: None,
+        };
+        Ok(Known {
+            atoms: Items::empty(alloc),
+            overrides: CfgOverrides::new(alloc),
+            outputs: ArenaMap::new(alloc),
+            shared: Rc::new(alloc, data)?,
+            in_sysroot,
+        })
+    }
+
+    /// The facts that a lowering takes.
+    pub fn facts(&self) -> CrateFacts<'_, ArenaMap<PackageTag, BuildScriptOutput>> {
+        CrateFacts {
+            atoms: &self.atoms,
+            overrides: &self.overrides,
+            set_test: false,
+            cargo: "cargo",
+            outputs: &self.outputs,
+            shared: &self.shared,
+            in_sysroot: self.in_sysroot,
+        }
+    }
 }
 
 /// A refusal by its name, with a text: the bad name, or what there is too much of.

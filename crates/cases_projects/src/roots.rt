@@ -1,9 +1,9 @@
 //! The roots of a workspace.
 
 use crate::values::{roots_answer, workspace_of};
-use base_text::{AbsPathBuf, ArenaMap, Items};
+use base_text::{ArenaMap, Items};
 use cases::{Case, Fault, absolute, copied_answer, paths};
-use pm_cargo::{CargoWorkspace, Package, PackageTag};
+use pm_cargo::{BuildScriptOutput, CargoWorkspace, Package, PackageTag};
 use pm_lower_load::{PackageRoot, cargo_roots};
 use serde_json::Value;
 use std::alloc::Global;
@@ -25,21 +25,22 @@ fn roots_of(
     case: Case<'_>,
     workspace: &CargoWorkspace,
 ) -> Result<Items<PackageRoot>, Fault> {
-    let out_dirs = out_dirs_of(alloc, case)?;
+    let outputs = outputs_of(alloc, case)?;
     let extra = paths(alloc, case, "extra")?;
-    Ok(cargo_roots(alloc, workspace, &out_dirs, extra.as_slice())?)
+    Ok(cargo_roots(alloc, workspace, &outputs, extra.as_slice())?)
 }
 
-/// The directories that builds wrote into, each behind the number of its package.
-pub fn out_dirs_of(
+/// Outputs of builds with nothing but the directories that they wrote into, each by the number of its package.
+pub fn outputs_of(
     alloc: Global,
     case: Case<'_>,
-) -> Result<ArenaMap<PackageTag, AbsPathBuf>, Fault> {
-    let mut out_dirs = ArenaMap::new(alloc);
+) -> Result<ArenaMap<PackageTag, BuildScriptOutput>, Fault> {
+    let mut outputs = ArenaMap::new(alloc);
     for pair in case.list("out_dirs") {
         let pair = case.with(pair);
-        let dir = absolute(alloc, pair.text_at(1))?;
-        drop(out_dirs.insert(Package::from_raw(pair.at(0).as_u32()), dir)?);
+        let mut output = BuildScriptOutput::new(alloc);
+        output.out_dir = Some(absolute(alloc, pair.text_at(1))?);
+        drop(outputs.insert(Package::from_raw(pair.at(0).as_u32()), output)?);
     }
-    Ok(out_dirs)
+    Ok(outputs)
 }

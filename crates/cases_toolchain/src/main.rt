@@ -4,6 +4,7 @@
 
 mod answers;
 mod config;
+mod discoveries;
 mod environments;
 mod fetch;
 mod json;
@@ -33,6 +34,7 @@ impl<R: AllocGlobal> Family<R> for ToolchainFamily {
             "origins.jsonl" => origins::answer(alloc, case),
             "values.jsonl" => values::answer(alloc, case),
             "manifests.jsonl" => manifests::answer(alloc, case),
+            "discoveries.jsonl" => discoveries::answer(alloc, case),
             _ => of_tools(alloc, file, case),
         }
     }

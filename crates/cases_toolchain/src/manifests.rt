@@ -24,7 +24,8 @@ fn of_path(alloc: Global, path: AbsPathBuf) -> Result<Value, Fault> {
     }
 }
 
-fn manifest_answer(alloc: Global, manifest: &ProjectManifest) -> Result<Value, Fault> {
+/// A manifest as it is compared: its kind and its path.
+pub fn manifest_answer(alloc: Global, manifest: &ProjectManifest) -> Result<Value, Fault> {
     let path = manifest.manifest_path().as_path().as_str();
     let kind = match manifest {
         ProjectManifest::ProjectJson(_path) => "ProjectJson",

@@ -1,5 +1,5 @@
 -- What a search that stays above a rank leaves in its trail, and what its nodes say of an edge.
-use Rattle.std.proofs.Common.{◌≡◌, ℕ, zero, suc, ◌+◌, ◌-◌, ◌<◌, ◌≤◌, ◌≢◌, ◌⊎◌, inl, inr, true, false, Bool, eqb, List, [], length, map, get_or, refl, sym, ap, ◌∙◌, add-one, subst, arith}
+use Rattle.std.proofs.Common.{◌≡◌, ℕ, ◌+◌, ◌-◌, ◌<◌, ◌≤◌, ◌≢◌, ◌⊎◌, inl, inr, true, false, Bool, eqb, List, [], length, map, get_or, refl, sym, ap, ◌∙◌, add-one, subst, arith}
 use Rattle.std.specs.Prelude.{◌↔◌, slice_index}
 use Rattle.std.specs.List.{All, AllPairs, Contains}
 use Rattle.std.specs.List.Sorted.{IsPermutation}
@@ -9,7 +9,6 @@ use Rattle.std.proofs.lemmas.Map.Keys.{IsDistinct-IsPermutation, apart_from_dist
 use Rattle.std.proofs.lemmas.Map.Made.{IsDistinct-from_AllPairs}
 use Rattle.std.proofs.lemmas.List.{get_or-map, get_or_default, length-map}
 use Rattle.std.proofs.lemmas.List.Sorted.{Contains-permutation, IsPermutation-sym, length_permutation}
-use Rattle.base_text_outside.specs.Causes.{next_count}
 use Rattle.graph_base.specs.Edges.{HasEdge, IsInRange}
 use Rattle.graph_base.specs.Reach.{IsPathBack, Reaches, itself}
 use Rattle.graph_base.specs.Trail.{IsTraced, IsTrail, IsWhole, Trail}
@@ -19,7 +18,7 @@ use Rattle.graph_base.proofs.TrailLemmas.{reached_placed}
 use Rattle.graph_base.specs.Blocks.{FitAbove, FitBelow, RearrangesAbove, RearrangesBelow}
 use Rattle.graph_base.specs.Listing.{AreAscending}
 use Rattle.graph_base.specs.Ranks.{AreRanks}
-use Rattle.crate_graph.specs.Counting.{raised_by}
+use Rattle.base_text_outside.specs.Causes.{raised_by, next_count}
 use Rattle.crate_graph.specs.Insertion.{AreVisits, CountsVisits, GivesRoom, IsBetween, MakesRoom, most_visits}
 use Rattle.crate_graph.specs.Order.{AreKeptRanks, Descends, IsOrder, Ranking, ranking}
 use Rattle.crate_graph.specs.Placing.{FitsOrder, Placement, Rearranges, placement_below}
@@ -30,6 +29,7 @@ use Rattle.crate_graph.proofs.EachOnceLemmas.{place_in}
 use Rattle.crate_graph.proofs.RankingLemmas.{length-ranking, ranking_is_order}
 use Rattle.crate_graph.proofs.RoomLemmas.{IsReachedPart, room_made, room_of_none}
 use Rattle.graph_base.proofs.ListingLemmas.{few}
+use Rattle.base_text_outside.proofs.Counts.{raised_by-most}
 
 eqb_self : (n : ℕ) → eqb n n ≡ true
 eqb_self n = (Decides-eqb n n).1 refl
@@ -259,16 +259,6 @@ module _ (g : List (List ℕ)) (ranks : List ℕ) (from to : ℕ) (s : IsSearch 
 
 -- ---- counts
 
-pub raised_most : (steps count : ℕ) → raised_by steps count ≤ count + steps
-raised_most zero count = omega arith
-raised_most (suc steps) count =
-    let before = raised_most steps count in
-    let step : next_count (raised_by steps count) ≤ raised_by steps count + 1 = next_most (raised_by steps count) in
-    omega (arith, before, step)
-  where
-    next_most : (n : ℕ) → next_count n ≤ n + 1
-    next_most n = omega arith
-
 pub raised_more : (steps count : ℕ) → next_count (raised_by steps count) ≡ raised_by (steps + 1) count
 raised_more steps count = ap (λ n. raised_by n count) (sym (add-one steps))
 
@@ -285,7 +275,7 @@ none_visited g order from to before lower = record {
 
 pub steps_most : (g : List (List ℕ)) (ranks : List ℕ) (from to : ℕ) (s : IsSearch g ranks from to) (t : Trail) → IsWhole (bounded ranks from g) to t
     → (before now : ℕ) → now ≡ raised_by (length t.nodes) before → now ≤ before + most_visits (ranking ranks) from to
-steps_most g ranks from to s t whole before now is = omega (arith, is, raised_most (length t.nodes) before, visits_few g ranks from to s t whole)
+steps_most g ranks from to s t whole before now is = omega (arith, is, raised_by-most (length t.nodes) before, visits_few g ranks from to s t whole)
 
 -- where the edge leads down already no node has to move
 pub room_fits : (g : List (List ℕ)) (order : Ranking) (from to : ℕ) → IsOrder order → AreRanks order.ranks → IsInRange g → length order.nodes ≡ length g → Descends order.ranks g

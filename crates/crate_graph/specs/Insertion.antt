@@ -3,7 +3,7 @@
 use Rattle.std.specs.Prelude.{◌≡◌, ℕ, ◌+◌, ◌-◌, ◌<◌, ◌≤◌, ◌≢◌, ◌↔◌, List, length, slice_index}
 use Rattle.std.specs.List.{Contains}
 use Rattle.graph_base.specs.Reach.{Reaches}
-use Rattle.crate_graph.specs.Counting.{raised_by}
+use Rattle.base_text_outside.specs.Causes.{raised_by}
 use Rattle.crate_graph.specs.Order.{Descends, Ranking}
 use Rattle.crate_graph.specs.Placing.{FitsOrder, Placement, Rearranges}
 

@@ -1,5 +1,4 @@
 pub mod Blocks
-pub mod Counting
 pub mod Cyclic
 pub mod Extend
 pub mod Graph

@@ -10,6 +10,6 @@ IfCyclic (Cyclic path) P = P path
 IfCyclic OutOfMemory P = Unit {0}
 
 -- a refusal as it is printed: the name of its variant
-abbrev pub refusal_text : AddDepError → List ℕ
-refusal_text (Cyclic path) = codes "Cyclic"
-refusal_text OutOfMemory = codes "OutOfMemory"
+abbrev pub add_dep_error_text : AddDepError → List ℕ
+add_dep_error_text (Cyclic path) = codes "Cyclic"
+add_dep_error_text OutOfMemory = codes "OutOfMemory"

@@ -152,9 +152,9 @@ pub enum AddDepError {
 }
 
 impl fmt::Display for AddDepError {
-    ghost use Rattle.crate_graph.specs.Refused.{refusal_text};
+    ghost use Rattle.crate_graph.specs.Refused.{add_dep_error_text};
 
-    ghost output = { λ error. Some (refusal_text error) };
+    ghost output = { λ error. Some (add_dep_error_text error) };
 
     fn fmt<W: fmt::Write>(&self, f: &mut fmt::Formatter<W>) -> fmt::Result {
         match self {

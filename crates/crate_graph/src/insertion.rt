@@ -5,7 +5,7 @@ ghost use Rattle.graph_base.specs.Edges.{IsInRange};
 ghost use Rattle.graph_base.specs.Reach.{IsPathBack, Reaches};
 ghost use Rattle.graph_base.specs.Trail.{IsClearable, empty_trail};
 ghost use Rattle.graph_base.specs.Ranks.{AreRanks};
-ghost use Rattle.crate_graph.specs.Counting.{raised_by};
+ghost use Rattle.base_text_outside.specs.Causes.{raised_by};
 ghost use Rattle.crate_graph.specs.Insertion.{CountsVisits, GivesRoom, most_visits};
 ghost use Rattle.crate_graph.specs.Order.{AreKeptRanks, Descends, ranking};
 ghost use Rattle.crate_graph.specs.Walking.{IsPlaced};

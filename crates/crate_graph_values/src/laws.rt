@@ -1,4 +1,4 @@
-//! Laws of crate data over any type of number. Each is a function that does nothing: its contract
+//! Laws of crate data over any type of number. Each is a function that changes nothing: its contract
 //! is the law, which is proved once for every type of number.
 
 ghost use Rattle.std.specs.Prelude.{◌≡◌, true};

@@ -23,7 +23,7 @@ pub use input_db_files::{
     Durability, EditionedFileId, FileSourceRootInput, FileText, Files, LibraryRoots, LocalRoots,
     Nonce, SourceRoot, SourceRootId, SourceRootInput,
 };
-pub use lowering::{CratesIdMap, set_in_db};
+pub use lowering::{CratesIdMap, SetCrates, set_graph_in_db, set_in_db};
 pub use queries::{all_crates, set_all_crates_with_durability, toolchain_channel};
 pub use root_crates::{crates_have_source_roots, relevant_crates, source_root_crates};
 pub use source_database::SourceDatabase;

@@ -5,10 +5,10 @@ ghost use Rattle.std.specs.BTreeMap as tree;
 ghost use Rattle.std.specs.List.{All};
 ghost use Rattle.base_text_paths.specs.Arena.{number_of};
 ghost use Rattle.graph_base.specs.Finish.{IsBehindTargets};
-ghost use Rattle.crate_graph.specs.Graph.{edges, target_of};
+ghost use Rattle.crate_graph.specs.Graph.{IsWellMadeGraph, edges, target_of};
 ghost use Rattle.crate_graph.specs.Extend.{Id};
 ghost use Rattle.input_db.specs.Identity.{IsTable, data_of, named_in, number_in};
-ghost use Rattle.input_db.specs.FinishSteps.{IsSetInSteps, LeavesWhatWasSet, finish_crate, progress_after, with_new_list};
+ghost use Rattle.input_db.specs.FinishSteps.{IsSetInSteps, LeavesWhatWasSet, finish_crate, none_finished, progress_after, with_new_list};
 ghost use Rattle.input_db.specs.SetInDb.{IsSetInDb};
 
 mod finished;
@@ -27,6 +27,13 @@ use std::collections::BTreeMap;
 /// The crate of a database that each crate of a graph is.
 pub type CratesIdMap = BTreeMap<CrateBuilderId, Crate>;
 
+/// The crates of a database that those of a graph are, by their numbers in the graph, and in the order of these.
+#[derive(Drop)]
+pub struct SetCrates {
+    pub ids: CratesIdMap,
+    pub numbers: Vec<Crate>,
+}
+
 /// Sets the crates of a graph in a database. They are finished depth first in the order of their numbers,
 /// each after its dependencies. The first of a root file is identified by that file alone, and each further
 /// one by its data, with dependencies as the database numbers them, and its conditional compilation. Crates
@@ -44,12 +51,32 @@ pub fn set_in_db<D: SourceDatabase>(
     ensures again { OnOk result (LeavesWhatWasSet ⟦<CrateBuilderId as Ord>⟧.cmp graph.crates
         (D.seen db.old) (D.seen db.new)) }
 {
-    let order = graph_base::finish_order(alloc, &graph)?;
-    let finished = finish_all(alloc, &graph, &order, db)?;
+    let made = set_graph_in_db(alloc, &graph, db)?;
+    Ok(made.ids)
+}
+
+/// Sets the crates of a graph that is kept, as `set_in_db` does.
+pub fn set_graph_in_db<D: SourceDatabase>(
+    alloc: Global,
+    graph: &CrateGraphBuilder,
+    db: &mut D,
+) -> Result<SetCrates, AllocError>
+    ensures steps { IfOk result (λ made. (steps : IsSetInSteps ⟦<CrateBuilderId as Ord>⟧.cmp
+        graph.now.crates (D.seen db.old) (D.seen db.new) made.ids)
+        × (steps.set.numbers ≡ made.numbers.items)) }
+    ensures again { OnOk result (LeavesWhatWasSet ⟦<CrateBuilderId as Ord>⟧.cmp graph.now.crates
+        (D.seen db.old) (D.seen db.new)) }
+{
+    let unfinished = FinishedCrates::new(alloc, graph.len())?;
+    let order = graph_base::finish_order(alloc, graph)?;
+    let finished = finish_all(alloc, graph, &order, unfinished, db)?;
     let ids = ids_of_numbers(alloc, finished.numbers())?;
     let given = finished.given_crates(alloc)?;
     store_list(db, given);
-    Ok(ids)
+    Ok(SetCrates {
+        ids,
+        numbers: finished.into_numbers(),
+    })
 }
 
 // Finishes one crate of a graph. Those that it depends on are finished.
@@ -80,13 +107,15 @@ fn finish_all<D: SourceDatabase>(
     alloc: Global,
     graph: &CrateGraphBuilder,
     order: &[u32],
+    mut finished: FinishedCrates,
     db: &mut D,
 ) -> Result<FinishedCrates, AllocError>
-    requires { IsBehindTargets (edges graph.now.crates) order.now }
-    ensures { IfOk result (λ finished. record { db = D.seen db.new; finished = finished }
+    requires well_made { IsWellMadeGraph graph.now.crates graph.now.limit }
+    requires behind { IsBehindTargets (edges graph.now.crates) order.now }
+    requires none { finished ≡ none_finished (length graph.now.crates) }
+    ensures { IfOk result (λ made. record { db = D.seen db.new; finished = made }
         ≡ progress_after graph.now.crates (D.seen db.old) order.now) }
 {
-    let mut finished = FinishedCrates::new(alloc, graph.len())?;
     for number in order {
         let krate = &graph[CrateBuilderId::from_raw(*number)];
         finish(alloc, krate, *number, db, &mut finished)?;

@@ -14,7 +14,7 @@ use crate::crate_input::{BuiltCrateData, Crate};
 use crate::source_database::SourceDatabase;
 use base_text_paths::CfgOptions;
 use crate_graph_values::{CrateWorkspaceData, Env, ExtraCrateData, ReleaseChannel};
-use graph_base::Reversed;
+use graph_base::Rows;
 use input_db_files::{Durability, EditionedFileId};
 use std::alloc::{AllocError, Global};
 
@@ -133,7 +133,7 @@ impl Crate {
         ensures once { IfOk result (λ crates. IsWithItselfFirst self crates.items) }
     {
         let table = db.crates_map();
-        let back = Reversed::of(alloc, table)?;
+        let back = Rows::reversed(alloc, table)?;
         let reaching = graph_base::reachable_nodes(alloc, &back, table.number(self))?;
         let is_listed = listed_marks(alloc, table.len(), all_crates(db))?;
         let dependents = marked_among(alloc, &reaching, &is_listed)?;

@@ -1,6 +1,7 @@
 -- A table's rows are read one after another, from what each reads.
 use Rattle.std.proofs.Common.{◌≡◌, ◌∙◌, ap, Ok}
-use Rattle.json_fields.specs.Outcome.{Reading, ◌>>=◌}
+use Rattle.base_values.specs.Outcome.{◌>>=◌}
+use Rattle.json_fields.specs.Outcome.{Reading}
 
 -- that is read
 pub record IsRead {A : Type 0} (r : Reading A) (x : A) : Type 0 where

@@ -27,6 +27,7 @@ num_stored (unsigned n) = gcons (gnum 0) (gnum n)
 num_stored (negative z) = gcons (gnum 1) (coded_ℤ.code z)
 num_stored (float x) = gcons (gnum 2) (coded_float.code x)
 
+-- numbers that are stored alike are equal
 num_inj : (x y : Num) → num_stored x ≡ num_stored y → x ≡ y
 num_inj (unsigned m) (unsigned n) p = ap (λ g. unsigned (num (rest g))) p
 num_inj (negative y) (negative z) p = ap negative (coded_ℤ.inj y z (ap rest p))

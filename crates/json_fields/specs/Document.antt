@@ -6,7 +6,8 @@ use Rattle.serde_json.specs.Data.{Data}
 use Rattle.serde_json.specs.Read.{read}
 use Rattle.serde_json.specs.Written.{compact_text, has_float}
 use Rattle.json_fields.specs.Fields.{read_or}
-use Rattle.json_fields.specs.Outcome.{Reading, ◌>>=◌, whole_place_of}
+use Rattle.base_values.specs.Outcome.{◌>>=◌}
+use Rattle.json_fields.specs.Outcome.{Reading, whole_place_of}
 
 -- the first miss by its whole place
 abbrev pub by_whole_place : {T : Type 0} → Reading T → Reading T

@@ -3,7 +3,8 @@ use Rattle.std.specs.Prelude.{◌^◌, if◌then◌else◌, ℕ, ℤ, pos, negsu
 use Rattle.serde_json.specs.Data.{Data, null, boolean, number, string, array, object, Num, unsigned, negative, float}
 use Rattle.serde_json.specs.Find.{of_integer}
 use Rattle.json_fields.specs.Fields.{number_at}
-use Rattle.json_fields.specs.Outcome.{Reading, ◌>>=◌}
+use Rattle.base_values.specs.Outcome.{◌>>=◌}
+use Rattle.json_fields.specs.Outcome.{Reading}
 
 -- a number from 0 to 2^32 - 1
 abbrev pub u32_at : Data → Reading ℕ

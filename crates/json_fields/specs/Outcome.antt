@@ -10,13 +10,6 @@ use Rattle.json_fields.specs.declared.place.ReadError.TheVariants.{Missed, OutOf
 abbrev pub Reading : Type 0 → Type 0
 Reading T = Result T (List ℕ)
 
--- the next field is read where this one did not miss
-infixl 10 ◌>>=◌
--- a reading, and what is read with its value
-abbrev pub ◌>>=◌ : {A B : Type 0} → Reading A → (A → Reading B) → Reading B
-Ok x >>= f = f x
-Err p >>= f = Err p
-
 -- a call answers what the table gives, unless memory ran out
 abbrev pub Gives : {T : Type 0} → Result T ReadError → Reading T → Type 0
 Gives (Ok x) reading = reading ≡ Ok x

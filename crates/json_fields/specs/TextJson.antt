@@ -2,7 +2,8 @@
 use Rattle.std.specs.Prelude.{ℕ, List}
 use Rattle.serde_json.specs.Data.{Data, string}
 use Rattle.json_fields.specs.Fields.{text_at}
-use Rattle.json_fields.specs.Outcome.{Reading, ◌>>=◌}
+use Rattle.base_values.specs.Outcome.{◌>>=◌}
+use Rattle.json_fields.specs.Outcome.{Reading}
 
 -- a text that is of that form
 abbrev pub text_form_at : {T : Type 0} → (List ℕ → Reading T) → Data → Reading T

@@ -1,7 +1,7 @@
 //! A pair as a list of exactly two.
 
 ghost use Rattle.std.specs.Prelude.{◌≡◌, max, refl};
-ghost use Rattle.json_fields.specs.Pairs.{pair_at, pair_data};
+ghost use Rattle.json_fields.specs.Pairs.{json_pair_at, pair_data};
 ghost use Rattle.json_fields.specs.Laws.Pairs.{pair-round_trips};
 ghost use Rattle.json_fields.specs.RoundTrip.{outer_height};
 
@@ -11,7 +11,7 @@ use serde_json::Value;
 use std::alloc::{AllocError, Global};
 
 impl<A: ReadJson, B: ReadJson> ReadJson for (A, B) {
-    ghost reads = { pair_at A.reads B.reads };
+    ghost reads = { json_pair_at A.reads B.reads };
 
     fn read(alloc: Global, value: &Value) -> Result<(A, B), ReadError> {
         let Some(values) = value.as_array() else {

@@ -128,5 +128,5 @@ build_cause project output (Err error) count (inr refused) =
 pub build_leaves : (live live' : Live) (output : Output) (result : Result (Unit {0}) LiveError) (event : Event) → (event ≡ Flush → ⊥)
     → OnOk result (BuildsProject live live' output) → OnErr result (live' ≡ live) → LeavesAsWas event (is_err result) (IsErrOf result OutOfMemory) live live'
 build_leaves live live' output (Ok done) event other builds same =
-    others_leave live live' (Ok done) event other builds.after.config builds.after.files builds.after.db builds.after.probes builds.after.ended same
+    others_leave live live' (Ok done) event other (ap (λ r. r.config) builds.after.recorded) (ap (λ r. r.files) builds.after.recorded) builds.after.db builds.after.probes builds.after.ended same
 build_leaves live live' output (Err error) event other builds same = others_leave live live' (Err error) event other tt tt tt tt tt same

@@ -4,7 +4,7 @@ use Rattle.std.specs.Io.KnownBytes.{Appends}
 use Rattle.std.specs.List.{concat}
 use Rattle.base_text_outside.specs.Sink.{AppendsPart}
 use Rattle.std.specs.declared.cmp.Ordering.{Ordering}
-use Rattle.vfs_core.specs.Files.{Follows, existing_files, paths_of}
+use Rattle.vfs_core.specs.Files.{existing_files, paths_of}
 use Rattle.vfs_core.specs.VfsPath.{PathContent}
 use Rattle.crate_graph.specs.Graph.{Graph}
 use Rattle.input_db.specs.Database.{Database}
@@ -14,7 +14,9 @@ use Rattle.live_page.specs.Page.{page_of}
 use Rattle.live_page.proofs.Stable.{same_identities}
 use Rattle.live_page.specs.Refresh.{GivesCrates, KeepsDatabaseCrates, KeepsIdentities, Refreshes}
 use Rattle.vfs_sets.specs.declared.file_root.FileRoot.{FileRoot}
+use Rattle.live_project.specs.LiveTexts.{SparesChanges}
 use Rattle.live_project.specs.Project.{ProjectContent}
+use Rattle.live_project.proofs.SaidLemmas.{holds_spared, spares_same}
 use Rattle.live_script.specs.declared.fault.LiveError.{LiveError}
 use Rattle.live_script.specs.declared.fault.LiveError.TheVariants.{OutOfMemory, WriteFault}
 use Rattle.live.specs.declared.last_flush.LastFlush.{LastFlush}
@@ -31,10 +33,7 @@ use Rattle.live.proofs.FlushPage.{IsStored, holds_flush, made, page_shown, shows
 
 -- a session has ended; the rest is as it was, but for the database, of which nothing is said
 pub record IsEnded (old new : Live) : Type 0 where
-  pub config : new.config ≡ old.config
-  pub files : new.files ≡ old.files
-  pub texts : new.texts ≡ old.texts
-  pub answers : new.answers ≡ old.answers
+  pub recorded : new.recorded ≡ old.recorded
   pub project : new.project ≡ old.project
   pub flushed : new.flushed ≡ old.flushed
   pub ended : new.ended ≡ true
@@ -64,22 +63,16 @@ pub shows_after : (live live' after : Live) (s : State) (last : LastFlush) → R
     → ShowsShape after s
 shows_after live live' after s last r h going is =
     let shown = shows_shape live live' r s h (going_of live s h going) in
-    record { shows = rw (is.db, is.files) shown.shows; order = rw is.db shown.order; crates = rw is.db shown.crates }
+    record { shows = rw (is.db, is.recorded) shown.shows; order = rw is.db shown.order; crates = rw is.db shown.crates }
 
 -- a session that has ended holds the state that has, whatever its database is
-pub holds_ended : (live ended : Live) (s : State) → Holds live s → ended.config ≡ live.config → ended.texts ≡ live.texts → ended.answers ≡ live.answers → ended.project ≡ live.project
-    → ended.flushed ≡ live.flushed → ended.files ≡ record live.files { batch = ended.files.batch } → ended.ended ≡ true → Holds ended (ended_state s)
-holds_ended live ended s h config texts answers project flushed files has_ended = record {
-  config = config ∙ h.config;
-  limit = ap (λ f. f.limit) files ∙ h.limit;
-  texts = record {
-    follows = subst (λ f. Follows f s.marks) (sym files) (record { numbers = h.texts.follows.numbers; states = h.texts.follows.states });
-    texts = texts ∙ h.texts.texts;
-  };
-  answers = answers ∙ h.answers;
+pub holds_ended : (live ended : Live) (s : State) → Holds live s → SparesChanges live.recorded ended.recorded → ended.project ≡ live.project → ended.flushed ≡ live.flushed → ended.ended ≡ true
+    → Holds ended (ended_state s)
+holds_ended live ended s h spares project flushed has_ended = record {
+  said = holds_spared live.recorded ended.recorded s.said h.said spares;
   project = project ∙ h.project;
-  flushed = subst (λ last. KeepsFlush (paths_of ended.files) last s.flushed) (sym flushed)
-      (subst (λ paths. KeepsFlush paths live.flushed s.flushed) (sym (ap paths_of files)) h.flushed);
+  flushed = subst (λ last. KeepsFlush (paths_of ended.recorded.files) last s.flushed) (sym flushed)
+      (subst (λ paths. KeepsFlush paths live.flushed s.flushed) (sym (ap paths_of spares.files)) h.flushed);
   ended = has_ended;
   database = λ going. absurd (cc);
 }
@@ -92,15 +85,13 @@ pub writes_flush : (live live' ended : Live) (s : State) (error : LiveError) (ol
 writes_flush live live' ended s error old new r h going only cut front is =
     let on = going_of live s h going in
     let shown = page_shown live live' r s h on in
-    let files : ended.files ≡ record live.files { batch = ended.files.batch } =
-    is.files ∙ r.files ∙ ap (λ b. record live.files { batch = b }) (sym (ap (λ f. f.batch) (is.files ∙ r.files))) in
     subst (λ t. EndsLiveTurn t (ended_state s) error ended (old, new)) (sym (turn_is live live' r s h on)) (record {
       written = subst (λ p. AppendsFront (old, new) (p ∷ [])) shown front;
       cut = λ e. subst (λ p. AppendsPart old new (concat (p ∷ []))) shown (subst (AppendsPart old new) (sym (append-nil (page_of live'.db))) (cut e));
       refused = λ refusal. absurd (no-refusal error only refusal);
       state = ended_state s;
       left = refl;
-      holds = holds_ended live ended s h (is.config ∙ r.config) (is.texts ∙ r.texts) (is.answers ∙ r.answers) (is.project ∙ r.project) (is.flushed ∙ r.flushed) files is.ended;
+      holds = holds_ended live ended s h (spares_same live.recorded live'.recorded ended.recorded r.recorded is.recorded) (is.project ∙ r.project) (is.flushed ∙ r.flushed) is.ended;
     })
   where
     no-refusal : (error : LiveError) → (error ≡ OutOfMemory) ⊎ (error ≡ WriteFault) → IsRefusal error → ⊥
@@ -111,25 +102,31 @@ writes_flush live live' ended s error old new r h going only cut front is =
 
 -- of a session whose files, database and probes it was given, with the roots and the graph of its project
 pub refreshes_live : (live live' : Live) (given : List FileRoot) (graph : Option Graph) (cmp : Id → Id → Ordering) → given ≡ roots_by live.project
-    → IsGraphBy live.project (existing_files live.files) graph → GivesCrates cmp graph live.db live'.db → Refreshes given live.files live.db live'.db
-    → KeepsIdentities live.db.crates live'.db.crates → live'.files ≡ record live.files { batch = [] }
-    → live'.config ≡ live.config → live'.texts ≡ live.texts → live'.answers ≡ live.answers → live'.project ≡ live.project → live'.flushed ≡ live.flushed → live'.ended ≡ live.ended
-    → RefreshesLive live live'
+    → IsGraphBy live.project (existing_files live.recorded.files) graph → GivesCrates cmp graph live.db live'.db → Refreshes given live.recorded.files live.db live'.db
+    → KeepsIdentities live.db.crates live'.db.crates → live'.recorded.files ≡ record live.recorded.files { batch = [] }
+    → live'.recorded.config ≡ live.recorded.config → live'.recorded.texts ≡ live.recorded.texts → live'.recorded.answers ≡ live.recorded.answers
+    → live'.project ≡ live.project → live'.flushed ≡ live.flushed → live'.ended ≡ live.ended → RefreshesLive live live'
 refreshes_live live live' given graph cmp same lowers crates brings stable files config texts answers project flushed ended = record {
   graph = graph;
   lowers = lowers;
   cmp = cmp;
   crates = crates;
-  refreshes = subst (λ rs. Refreshes rs live.files live.db live'.db) same brings;
+  refreshes = subst (λ rs. Refreshes rs live.recorded.files live.db live'.db) same brings;
   stable = stable;
-  config = config;
-  texts = texts;
-  answers = answers;
+  recorded = record {
+    config = config;
+    texts = texts;
+    answers = answers;
+    files = files ∙ ap (λ b. record live.recorded.files { batch = b }) (sym taken);
+  };
+  taken = taken;
   project = project;
   flushed = flushed;
   ended = ended;
-  files = files;
 }
+  where
+    taken : live'.recorded.files.batch ≡ []
+    taken = ap (λ f. f.batch) files
 
 -- without a project no crate is made or changed: the same by what was given
 keeps-split : (p : Option ProjectContent) (files : List (ℕ × PathContent)) (graph : Option Graph) (cmp : Id → Id → Ordering) (old new : Database) → IsGraphBy p files graph → p ≡ None
@@ -138,9 +135,9 @@ keeps-split None files graph cmp old new none is given = subst (λ g. GivesCrate
 keeps-split (Some p) files graph cmp old new lowers is given = absurd (cc)
 
 -- the names of a session after a refresh
-refreshed_names : {Memory : Type 0} (live live' after : Live) → RefreshesLive live live' → after.files ≡ live'.files → after.db ≡ live'.db → KeepsNames Memory live after
-refreshed_names live live' after r files db = record {
-  paths = numbers_same live.files after.files (ap (λ f. f.entries) (files ∙ r.files));
+refreshed_names : {Memory : Type 0} (live live' after : Live) → RefreshesLive live live' → after.recorded ≡ live'.recorded → after.db ≡ live'.db → KeepsNames Memory live after
+refreshed_names live live' after r recorded db = record {
+  paths = numbers_same live.recorded.files after.recorded.files (ap (λ rec. rec.files.entries) recorded ∙ ap (λ f. f.entries) r.recorded.files);
   crates = λ _. subst (λ d. KeepsIdentities live.db.crates d.crates) (sym db) r.stable;
 }
 
@@ -148,11 +145,11 @@ refreshed_names live live' after r files db = record {
 pub flush_leaves : {Memory : Type 0} (live live' after : Live) (last : LastFlush) → RefreshesLive live live' → CountsFlush live live' → IsStored live' after last
     → LeavesAsWas FlushEvent false Memory live after
 flush_leaves live live' after last r counts is = record {
-  names = refreshed_names live live' after r is.files is.db;
-  config = is.config ∙ r.config;
+  names = refreshed_names live live' after r is.recorded is.db;
+  config = ap (λ rec. rec.config) is.recorded ∙ r.recorded.config;
   database = λ other. absurd (other refl);
   all = λ e. absurd (cc);
-  crates = λ _ none. rw is.db (keeps-split live.project (existing_files live.files) r.graph r.cmp live.db live'.db r.lowers none r.crates);
+  crates = λ _ none. rw is.db (keeps-split live.project (existing_files live.recorded.files) r.graph r.cmp live.db live'.db r.lowers none r.crates);
   probes = λ other. absurd (other refl);
   counts = λ _. rw is.probes counts;
   going = λ _. is.ended ∙ r.ended;
@@ -160,7 +157,7 @@ flush_leaves live live' after last r counts is = record {
 }
 
 -- and one that failed
-pub failed_leaves : {Memory : Type 0} (live live' : Live) → KeepsNames Memory live live' → live'.config ≡ live.config → CountsFlush live live' → HasEnded live'
+pub failed_leaves : {Memory : Type 0} (live live' : Live) → KeepsNames Memory live live' → live'.recorded.config ≡ live.recorded.config → CountsFlush live live' → HasEnded live'
     → LeavesAsWas FlushEvent true Memory live live'
 failed_leaves live live' names config counts ended = record {
   names = names;
@@ -175,20 +172,20 @@ failed_leaves live live' names config counts ended = record {
 }
 
 -- a page that was not written whole came after the crates were set
-pub unwritten_leaves : {Memory : Type 0} (live live' ended : Live) → RefreshesLive live live' → CountsFlush live live' → ended.files ≡ live'.files → ended.db ≡ live'.db
-    → ended.config ≡ live'.config → ended.probes ≡ live'.probes → HasEnded ended → LeavesAsWas FlushEvent true Memory live ended
-unwritten_leaves live live' ended r counts files db config probes has_ended =
-    failed_leaves live ended (refreshed_names live live' ended r files db) (config ∙ r.config) (rw probes counts) has_ended
+pub unwritten_leaves : {Memory : Type 0} (live live' ended : Live) → RefreshesLive live live' → CountsFlush live live' → ended.recorded ≡ live'.recorded → ended.db ≡ live'.db
+    → ended.probes ≡ live'.probes → HasEnded ended → LeavesAsWas FlushEvent true Memory live ended
+unwritten_leaves live live' ended r counts recorded db probes has_ended =
+    failed_leaves live ended (refreshed_names live live' ended r recorded db) (ap (λ rec. rec.config) recorded ∙ r.recorded.config) (rw probes counts) has_ended
 
 -- and a flush that is refused, before
 pub refused_leaves : {Memory : Type 0} (live live' ended : Live) (error : LiveError) → SparesFiles live live' → (error ≡ OutOfMemory) ⊎ (live'.db ≡ live.db) → (error ≡ OutOfMemory → Memory)
-    → CountsFlush live live' → ended.files ≡ live'.files → ended.db ≡ live'.db → ended.config ≡ live'.config → ended.probes ≡ live'.probes → HasEnded ended
+    → CountsFlush live live' → ended.recorded ≡ live'.recorded → ended.db ≡ live'.db → ended.probes ≡ live'.probes → HasEnded ended
     → LeavesAsWas FlushEvent true Memory live ended
-refused_leaves {Memory = Memory} live live' ended error spares spared memory counts files db config probes has_ended =
+refused_leaves {Memory = Memory} live live' ended error spares spared memory counts recorded db probes has_ended =
     failed_leaves live ended (record {
-      paths = numbers_same live.files ended.files (ap (λ f. f.entries) (files ∙ spares.files));
+      paths = numbers_same live.recorded.files ended.recorded.files (ap (λ rec. rec.files.entries) recorded ∙ ap (λ f. f.entries) spares.recorded.files);
       crates = λ other. by (other has_ended) spared;
-    }) (config ∙ spares.config) (rw probes counts) has_ended
+    }) (ap (λ rec. rec.config) recorded ∙ spares.recorded.config) (rw probes counts) has_ended
   where
     by : (Memory → ⊥) → (error ≡ OutOfMemory) ⊎ (live'.db ≡ live.db) → KeepsIdentities live.db.crates ended.db.crates
     by none (inl out) = absurd (none (memory out))

@@ -1,5 +1,4 @@
 pub mod Builds
-pub mod Existing
 pub mod FlushPage
 pub mod Flushed
 pub mod Kept
@@ -8,9 +7,7 @@ pub mod Loads
 pub mod Names
 pub mod Room
 pub mod Runs
-pub mod SharedRows
 pub mod Slots
-pub mod TextRows
 pub mod Turns
 pub mod TwoTexts
 pub mod Unwritten

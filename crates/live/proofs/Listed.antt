@@ -31,7 +31,7 @@ use Rattle.live_page.proofs.Members.{first_places_all, first_places_from, holds_
 use Rattle.pm_lower_crates.specs.Lowering.{Crate, HasDep, crate_seen, dep_seen}
 use Rattle.pm_lower_crates.specs.WantedEdges.{Dep}
 use Rattle.vfs_core.specs.VfsPath.{PathContent}
-use Rattle.live_project.specs.Crates.{project_edges}
+use Rattle.live_project.specs.Crates.{project_lowered}
 use Rattle.live_project.specs.Project.{ProjectContent}
 use Rattle.live.specs.Crates.{AreInDatabase, LacksCyclesIn, ListsInOrder, ShowsProject, crate_held, crate_renamed, dep_held, input_at, database_number, renamed_dep}
 use Rattle.live.specs.Refresh.{IsProjectGraph}
@@ -292,7 +292,7 @@ module _ (cmp : Id → Id → Ordering) (crates : List CrateBuilder) (old new : 
           ap (input_in new.crates) (get_or_from_slice_get numbers krate number 0 at) ∙ sym (ap (option_and_then (input_in new.crates)) at) ∙ is,
         )
 
-    pub lacks_cycles : LacksCyclesIn (project_edges p files) new numbers
+    pub lacks_cycles : LacksCyclesIn (project_lowered p files).wants new numbers
     lacks_cycles e wants = (
       λ has reaches.
           let source = source-at e.source has.input has.source in

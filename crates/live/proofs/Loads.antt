@@ -20,11 +20,13 @@ use Rattle.live_script.specs.declared.fault.LiveError.{LiveError}
 use Rattle.live_script.specs.declared.fault.LiveError.TheVariants.{OutOfMemory, TooMany, WriteFault}
 use Rattle.live.specs.declared.session.Live.{Live}
 use Rattle.live_script.specs.Fault.{IsOneOf, IsRefusal, live_error_of_load, of_project_error, status_of, turn_statuses}
-use Rattle.live.specs.Marked.{AddsAnswer, FailsLoad, IsLoadRefusal, LoadsProject, TakesProject, sources_kept}
-use Rattle.live.specs.Session.{State, load_turn, loaded_turn, sources_of, state_after_failure, turn}
+use Rattle.live.specs.Marked.{AddsAnswer, FailsLoad, IsLoadRefusal, LoadsProject, TakesProject}
+use Rattle.live.specs.Session.{State, load_turn, loaded_turn, state_after_failure, turn}
 use Rattle.live.specs.Turn.{EndsLiveTurn, Holds, LeavesAsWas, TakesLiveTurn}
 use Rattle.live_script.specs.Written.{HasWriteCause}
-use Rattle.live.proofs.Kept.{kept_tree}
+use Rattle.live_project.specs.LiveTexts.{HoldsSaid, sources_kept}
+use Rattle.live_project.specs.Sources.{sources_of}
+use Rattle.live_project.proofs.SaidLemmas.{holds_answer, same_sources}
 use Rattle.live_script.proofs.Texts.{AppendsFront-nil}
 use Rattle.live.proofs.Names.{names_by, names_equal, numbers_same}
 use Rattle.live.proofs.Turns.{crates_same}
@@ -34,12 +36,9 @@ use Rattle.live.proofs.Turns.{crates_same}
 module _ (live live' : Live) (s : State) (h : Holds live s) where
   -- one more answer is held
   pub Holds-answer : (line : CommandLine) (output : Output) → AddsAnswer live live' line output
-      → Holds live' (record s { answers = with_answer (question_of line) output s.answers })
+      → Holds live' (record s { said = record s.said { answers = with_answer (question_of line) output s.said.answers } })
   Holds-answer line output after = record {
-    config = ap (λ l. l.config) after ∙ h.config;
-    limit = ap (λ l. l.files.limit) after ∙ h.limit;
-    texts = rw after h.texts;
-    answers = ap (λ l. l.answers) after ∙ ap (with_answer (question_of line) output) h.answers;
+    said = holds_answer live.recorded live'.recorded s.said h.said line output (ap (λ l. l.recorded) after);
     project = ap (λ l. l.project) after ∙ h.project;
     flushed = rw after h.flushed;
     ended = ap (λ l. l.ended) after ∙ h.ended;
@@ -51,28 +50,16 @@ module _ (live live' : Live) (s : State) (h : Holds live s) where
     });
   }
 
-  -- what a load of the session keeps is what one of the state keeps
-  pub same_sources : (path : List ℕ) → sources_kept live path ≡ sources_of s path
-  same_sources path = λ i. record {
-    config = h.config i;
-    answers = h.answers i;
-    files = kept_tree live.files live.texts s.marks h.texts i;
-    path = path;
-  }
-
   -- a project that was loaded or built is held; the database lists crates as before, which is no matter once there is a project
   pub Holds-project : (project : ProjectContent) → TakesProject live live' project → Holds live' (record s { project = Some project })
   Holds-project project after = record {
-    config = after.config ∙ h.config;
-    limit = ap (λ f. f.limit) after.files ∙ h.limit;
-    texts = rw (after.files, after.texts) h.texts;
-    answers = after.answers ∙ h.answers;
+    said = subst (λ r. HoldsSaid r s.said) (sym after.recorded) h.said;
     project = after.project_is;
-    flushed = rw (after.files, after.flushed) h.flushed;
+    flushed = rw (after.recorded, after.flushed) h.flushed;
     ended = after.ended ∙ h.ended;
     database = λ going. let current = h.database going in record {
-      brings = rw (after.files, after.db) current.brings;
-      valid = rw after.files current.valid;
+      brings = rw (after.recorded, after.db) current.brings;
+      valid = rw after.recorded current.valid;
       shown = rw after.db current.shown;
       crates = λ none. absurd (let some = sym after.project_is ∙ none in cc);
     };
@@ -81,13 +68,13 @@ module _ (live live' : Live) (s : State) (h : Holds live s) where
 -- ---- turns
 
 -- what was read is the turn of the load
-load-read : (s : State) (path : List ℕ) (workspace : ProjectWorkspace) → read_sources (sources_of s path) ≡ Ok workspace
-    → load_turn s path ≡ loaded_turn s (sources_of s path) (Ok workspace)
-load-read s path workspace read = ap (loaded_turn s (sources_of s path)) read
+load-read : (s : State) (path : List ℕ) (workspace : ProjectWorkspace) → read_sources (sources_of s.said path) ≡ Ok workspace
+    → load_turn s path ≡ loaded_turn s (sources_of s.said path) (Ok workspace)
+load-read s path workspace read = ap (loaded_turn s (sources_of s.said path)) read
 
-load-refused : (s : State) (path : List ℕ) (refusal : ProjectError) → read_sources (sources_of s path) ≡ Err refusal
-    → load_turn s path ≡ loaded_turn s (sources_of s path) (Err refusal)
-load-refused s path refusal read = ap (loaded_turn s (sources_of s path)) read
+load-refused : (s : State) (path : List ℕ) (refusal : ProjectError) → read_sources (sources_of s.said path) ≡ Err refusal
+    → load_turn s path ≡ loaded_turn s (sources_of s.said path) (Err refusal)
+load-refused s path refusal read = ap (loaded_turn s (sources_of s.said path)) read
 
 -- an answer that is recorded
 pub takes_answer : (live live' : Live) (line : CommandLine) (output : Output) (result : Result (Unit {0}) LiveError) (held : Option (List ℕ)) (event : Event) → event ≡ Answer line output
@@ -123,20 +110,20 @@ pub takes_load : (live live' : Live) (path : List ℕ) (result : Result (Unit {0
     → OnOk result (LoadsProject live live' path) → OnOk result ((s : State) → Holds live s → TakesLiveTurn (turn s event) live' (held, held))
 unfolding turn
 takes_load live live' path (Ok done) held event is loads = λ s h.
-    let same = same_sources live live' s h path in
-    let read : read_sources (sources_of s path) ≡ Ok loads.workspace = ap read_sources (sym same) ∙ loads.read in
-    let after : TakesProject live live' (record { sources = sources_of s path; workspace = loads.workspace }) =
+    let same = same_sources live.recorded s.said h.said path in
+    let read : read_sources (sources_of s.said path) ≡ Ok loads.workspace = ap read_sources (sym same) ∙ loads.read in
+    let after : TakesProject live live' (record { sources = sources_of s.said path; workspace = loads.workspace }) =
     subst (λ sources. TakesProject live live' (record { sources = sources; workspace = loads.workspace })) same loads.after in
     subst (λ e. TakesLiveTurn (turn s e) live' (held, held)) (sym is)
     (subst (λ t. TakesLiveTurn t live' (held, held)) (sym (load-read s path loads.workspace read))
-    (record { accepted = refl; holds = Holds-project live live' s h (record { sources = sources_of s path; workspace = loads.workspace }) after; appended = Appends-nil held }))
+    (record { accepted = refl; holds = Holds-project live live' s h (record { sources = sources_of s.said path; workspace = loads.workspace }) after; appended = Appends-nil held }))
 takes_load live live' path (Err error) held event is loads = tt
 
 -- one that is refused
 refused_ends : (live live' : Live) (path : List ℕ) (s : State) (error : LiveError) (held : Option (List ℕ)) → Holds live s → live' ≡ live → IsLoadRefusal live path error
     → EndsLiveTurn (load_turn s path) s error live' (held, held)
 refused_ends live live' path s error held h same r =
-    let read : read_sources (sources_of s path) ≡ Err r.refusal = ap read_sources (sym (same_sources live live' s h path)) ∙ r.read in
+    let read : read_sources (sources_of s.said path) ≡ Err r.refusal = ap read_sources (sym (same_sources live.recorded s.said h.said path)) ∙ r.read in
     let holds : Holds live' s = subst (λ l. Holds l s) (sym same) h in
     subst (λ t. EndsLiveTurn t s error live' (held, held)) (sym (load-refused s path r.refusal read)) (record {
       written = AppendsFront-nil held [];
@@ -253,10 +240,10 @@ load_cause live path (Err error) count (inr refused) = record {
 
 -- what leaves all but the answers and the project as it was
 pub others_leave : (live live' : Live) (result : Result (Unit {0}) LiveError) (event : Event) → (event ≡ Flush → ⊥)
-    → OnOk result (live'.config ≡ live.config) → OnOk result (live'.files ≡ live.files) → OnOk result (live'.db ≡ live.db) → OnOk result (live'.probes ≡ live.probes) → OnOk result (live'.ended ≡ live.ended)
+    → OnOk result (live'.recorded.config ≡ live.recorded.config) → OnOk result (live'.recorded.files ≡ live.recorded.files) → OnOk result (live'.db ≡ live.db) → OnOk result (live'.probes ≡ live.probes) → OnOk result (live'.ended ≡ live.ended)
     → OnErr result (live' ≡ live) → LeavesAsWas event (is_err result) (IsErrOf result OutOfMemory) live live'
 others_leave live live' (Ok done) event other config files db probes ended same = record {
-  names = names_by live live' (numbers_same live.files live'.files (ap (λ f. f.entries) files)) (ap (λ d. d.crates) db);
+  names = names_by live live' (numbers_same live.recorded.files live'.recorded.files (ap (λ f. f.entries) files)) (ap (λ d. d.crates) db);
   config = config;
   database = λ _. db;
   all = λ e. absurd (cc);
@@ -268,7 +255,7 @@ others_leave live live' (Ok done) event other config files db probes ended same 
 }
 others_leave live live' (Err error) event other config files db probes ended same = record {
   names = names_equal live live' same;
-  config = ap (λ l. l.config) same;
+  config = ap (λ l. l.recorded.config) same;
   database = λ _. ap (λ l. l.db) same;
   all = λ _ _. same;
   crates = λ e none. absurd (cc);
@@ -281,17 +268,17 @@ others_leave live live' (Err error) event other config files db probes ended sam
 pub answer_leaves : (live live' : Live) (line : CommandLine) (output : Output) (result : Result (Unit {0}) LiveError) (event : Event) → (event ≡ Flush → ⊥)
     → OnOk result (AddsAnswer live live' line output) → OnErr result (live' ≡ live) → LeavesAsWas event (is_err result) (IsErrOf result OutOfMemory) live live'
 answer_leaves live live' line output (Ok done) event other after same =
-    others_leave live live' (Ok done) event other (ap (λ l. l.config) after) (ap (λ l. l.files) after) (ap (λ l. l.db) after) (ap (λ l. l.probes) after) (ap (λ l. l.ended) after) same
+    others_leave live live' (Ok done) event other (ap (λ l. l.recorded.config) after) (ap (λ l. l.recorded.files) after) (ap (λ l. l.db) after) (ap (λ l. l.probes) after) (ap (λ l. l.ended) after) same
 answer_leaves live live' line output (Err error) event other after same = others_leave live live' (Err error) event other tt tt tt tt tt same
 
 pub load_leaves : (live live' : Live) (path : List ℕ) (result : Result (Unit {0}) LiveError) (event : Event) → (event ≡ Flush → ⊥)
     → OnOk result (LoadsProject live live' path) → OnErr result (live' ≡ live) → LeavesAsWas event (is_err result) (IsErrOf result OutOfMemory) live live'
 load_leaves live live' path (Ok done) event other loads same =
-    others_leave live live' (Ok done) event other loads.after.config loads.after.files loads.after.db loads.after.probes loads.after.ended same
+    others_leave live live' (Ok done) event other (ap (λ r. r.config) loads.after.recorded) (ap (λ r. r.files) loads.after.recorded) loads.after.db loads.after.probes loads.after.ended same
 load_leaves live live' path (Err error) event other loads same = others_leave live live' (Err error) event other tt tt tt tt tt same
 
 -- what a call of a load gives, of a session
-pub refuses_load : (live : Live) (path : List ℕ) (refusal : ProjectError) (sources : Sources) → sources ≡ sources_kept live path
+pub refuses_load : (live : Live) (path : List ℕ) (refusal : ProjectError) (sources : Sources) → sources ≡ sources_kept live.recorded path
     → Refuses refusal (read_sources sources) → NamesLoadLimit refusal → FailsLoad live path (of_project_error refusal)
 refuses_load live path (project.BadManifest text) sources same h names =
     inr (record { refusal = project.BadManifest text; read = ap read_sources (sym same) ∙ h; reports = refl; limits = names })
@@ -299,11 +286,10 @@ refuses_load live path (project.Refused error) sources same h names =
     inr (record { refusal = project.Refused error; read = ap read_sources (sym same) ∙ h; reports = refl; limits = names })
 refuses_load live path project.OutOfMemory sources same h names = inl refl
 
-pub loads_live : (live mid live' : Live) (path : List ℕ) (sources : Sources) (content : ProjectContent) → sources ≡ sources_kept live path
-    → content.sources ≡ sources → read_sources sources ≡ Ok content.workspace → mid ≡ live → TakesProject mid live' content → LoadsProject live live' path
-loads_live live mid live' path sources content same kept read before after = record {
+pub loads_live : (live live' : Live) (path : List ℕ) (sources : Sources) (content : ProjectContent) → sources ≡ sources_kept live.recorded path
+    → content.sources ≡ sources → read_sources sources ≡ Ok content.workspace → TakesProject live live' content → LoadsProject live live' path
+loads_live live live' path sources content same kept read after = record {
   workspace = content.workspace;
   read = ap read_sources (sym same) ∙ read;
-  after = subst (λ l. TakesProject l live' (record { sources = sources_kept live path; workspace = content.workspace })) before
-      (subst (λ of. TakesProject mid live' (record { sources = of; workspace = content.workspace })) (kept ∙ same) after);
+  after = subst (λ of. TakesProject live live' (record { sources = of; workspace = content.workspace })) (kept ∙ same) after;
 }

@@ -31,12 +31,12 @@ identities_both old mid new first second = record {
 }
 
 -- of a session whose database has the crates that it had
-pub names_by : {Memory : Type 0} (old new : Live) → KeepsNumbers old.files new.files → new.db.crates ≡ old.db.crates → KeepsNames Memory old new
+pub names_by : {Memory : Type 0} (old new : Live) → KeepsNumbers old.recorded.files new.recorded.files → new.db.crates ≡ old.db.crates → KeepsNames Memory old new
 names_by old new numbers same = record { paths = numbers; crates = λ _. same_identities old.db.crates new.db.crates same }
 
 -- and of one that is as it was
 pub names_equal : {Memory : Type 0} (old new : Live) → new ≡ old → KeepsNames Memory old new
-names_equal old new same = names_by old new (numbers_same old.files new.files (ap (λ l. l.files.entries) same)) (ap (λ l. l.db.crates) same)
+names_equal old new same = names_by old new (numbers_same old.recorded.files new.recorded.files (ap (λ l. l.recorded.files.entries) same)) (ap (λ l. l.db.crates) same)
 
 -- what is said of less is said of more
 pub names_wider : {Memory More : Type 0} (old new : Live) → (Memory → More) → KeepsNames Memory old new → KeepsNames More old new
@@ -45,10 +45,10 @@ names_wider old new more names = record { paths = names.paths; crates = λ spare
 -- a step with memory, and then another
 pub names_both : {Memory : Type 0} (old mid new : Live) → KeepsNames ⊥ old mid → KeepsNames Memory mid new → KeepsNames Memory old new
 names_both old mid new first second = record {
-  paths = numbers_both old.files mid.files new.files first.paths second.paths;
+  paths = numbers_both old.recorded.files mid.recorded.files new.recorded.files first.paths second.paths;
   crates = λ spared. identities_both old.db.crates mid.db.crates new.db.crates (first.crates (λ ended none. none)) (second.crates spared);
 }
 
 -- another configuration, which changes the limit of paths alone
-pub configured_names : {Memory : Type 0} (old new : Live) {limit : ℕ} → new.files ≡ record old.files { limit = limit } → new.db ≡ old.db → KeepsNames Memory old new
-configured_names old new files db = names_by old new (numbers_same old.files new.files (ap (λ f. f.entries) files)) (ap (λ d. d.crates) db)
+pub configured_names : {Memory : Type 0} (old new : Live) {limit : ℕ} → new.recorded.files ≡ record old.recorded.files { limit = limit } → new.db ≡ old.db → KeepsNames Memory old new
+configured_names old new files db = names_by old new (numbers_same old.recorded.files new.recorded.files (ap (λ f. f.entries) files)) (ap (λ d. d.crates) db)

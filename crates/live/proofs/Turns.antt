@@ -36,7 +36,7 @@ IsMarkError error = (error ≡ OutOfMemory) ⊎ (error ≡ TooMany Paths)
 
 -- a mark that was taken
 pub takes_mark : (live live' : Live) (path : PathContent) (kind : MarkKind) (result : Result (Unit {0}) LiveError) (held : Option (List ℕ)) (event : Event)
-    → ((s : State) → turn s event ≡ mark_turn s path kind) → OnOk result (¬ IsFullFor live.files path)
+    → ((s : State) → turn s event ≡ mark_turn s path kind) → OnOk result (¬ IsFullFor live.recorded.files path)
     → OnOk result (AddsMarkTo live live' (record { path = path; kind = kind }))
     → OnOk result ((s : State) → Holds live s → TakesLiveTurn (turn s event) live' (held, held))
 takes_mark live live' path kind (Ok done) held event is room adds = λ s h.
@@ -46,7 +46,7 @@ takes_mark live live' path kind (Err error) held event is room adds = tt
 -- one that was not
 pub fails_mark : (live live' : Live) (path : PathContent) (kind : MarkKind) (result : Result (Unit {0}) LiveError) (held : Option (List ℕ)) (event : Event)
     → ((s : State) → turn s event ≡ mark_turn s path kind) → ((s : State) → state_after_failure s event ≡ s)
-    → (IsErrOf result (TooMany Paths) → IsFullFor live.files path) → IfErr result IsMarkError → OnErr result (live' ≡ live)
+    → (IsErrOf result (TooMany Paths) → IsFullFor live.recorded.files path) → IfErr result IsMarkError → OnErr result (live' ≡ live)
     → IfErr result (λ e. (s : State) → Holds live s → EndsLiveTurn (turn s event) (state_after_failure s event) e live' (held, held))
 fails_mark live live' path kind (Ok done) held event is stays full only same = tt
 fails_mark live live' path kind (Err error) held event is stays full only same = λ s h.
@@ -86,19 +86,19 @@ crates_same old new same = record {
 pub marks_leave : (live live' : Live) (mark : Mark) (result : Result (Unit {0}) LiveError) (event : Event) → (event ≡ Flush → ⊥)
     → OnOk result (AddsMarkTo live live' mark) → OnErr result (live' ≡ live) → LeavesAsWas event (is_err result) (IsErrOf result OutOfMemory) live live'
 marks_leave live live' mark (Ok done) event other adds same = record {
-  names = names_by live live' adds.adds.numbers (ap (λ d. d.crates) adds.db);
-  config = adds.config;
-  database = λ _. adds.db;
+  names = names_by live live' adds.adds.adds.numbers (ap (λ l. l.db.crates) adds.rest);
+  config = adds.adds.config;
+  database = λ _. ap (λ l. l.db) adds.rest;
   all = λ e. absurd (cc);
-  crates = λ _ none. crates_same live.db live'.db adds.db;
-  probes = λ _. adds.probes;
+  crates = λ _ none. crates_same live.db live'.db (ap (λ l. l.db) adds.rest);
+  probes = λ _. ap (λ l. l.probes) adds.rest;
   counts = λ e. absurd (other e);
-  going = λ _. adds.ended;
+  going = λ _. ap (λ l. l.ended) adds.rest;
   ends = λ e. absurd (cc);
 }
 marks_leave live live' mark (Err error) event other adds same = record {
   names = names_equal live live' same;
-  config = ap (λ l. l.config) same;
+  config = ap (λ l. l.recorded.config) same;
   database = λ _. ap (λ l. l.db) same;
   all = λ _ _. same;
   crates = λ e none. absurd (cc);

@@ -32,11 +32,12 @@ use Rattle.live_script.proofs.Joins as joins
 use Rattle.live_script.proofs.Scripts.{session-fits}
 use Rattle.live.specs.Laws.{SessionsJoin}
 use Rattle.live.specs.Page.{Flush as FlushContent, Flushed, crates_of_flush}
-use Rattle.live.specs.Session.{State, built_turn, flush_of, flushed_turn, has_room, loaded_turn, mark_turn, of_building, project_after_build, session, sources_of, turn}
+use Rattle.live_project.specs.Sources.{has_room, sources_of}
+use Rattle.live.specs.Session.{State, built_turn, flush_of, flushed_turn, loaded_turn, mark_turn, of_building, project_after_build, session, turn}
 
 -- ---- an event's refusal names no line
 
-mark-unnamed : (s : State) (path : PathContent) (kind : MarkKind) (line : ℕ) (room : Bool) → has_room s path ≡ room → (mark_turn s path kind).refusal ≡ Some (Script line) → ⊥
+mark-unnamed : (s : State) (path : PathContent) (kind : MarkKind) (line : ℕ) (room : Bool) → has_room s.said path ≡ room → (mark_turn s path kind).refusal ≡ Some (Script line) → ⊥
 mark-unnamed s path kind line true is = rw is (λ e. cc)
 mark-unnamed s path kind line false is = rw is (λ e. cc)
 
@@ -80,60 +81,60 @@ flush-unnamed s flush line (Err lower.OutOfMemory) e = cc
 
 turn-unnamed : NamesNoLine turn
 unfolding turn
-turn-unnamed s (File path text) line = mark-unnamed s path _ line (has_room s path) refl
-turn-unnamed s (Exclude path) line = mark-unnamed s path _ line (has_room s path) refl
+turn-unnamed s (File path text) line = mark-unnamed s path _ line (has_room s.said path) refl
+turn-unnamed s (Exclude path) line = mark-unnamed s path _ line (has_room s.said path) refl
 turn-unnamed s (Answer line' output) line = λ e. cc
-turn-unnamed s (Load path) line = load-unnamed s (sources_of s path) line (read_sources (sources_of s path))
+turn-unnamed s (Load path) line = load-unnamed s (sources_of s.said path) line (read_sources (sources_of s.said path))
 turn-unnamed s (Build output) line = build-unnamed s line s.project output
 turn-unnamed s Flush line = flush-unnamed s (flush_of s) line (crates_of_flush (flush_of s))
 
 -- ---- no line changes the configuration
-mark_turn-config : (s : State) (path : PathContent) (kind : MarkKind) (room : Bool) → has_room s path ≡ room → (mark_turn s path kind).state.config ≡ s.config
+mark_turn-config : (s : State) (path : PathContent) (kind : MarkKind) (room : Bool) → has_room s.said path ≡ room → (mark_turn s path kind).state.said.config ≡ s.said.config
 mark_turn-config s path kind true e = rw e refl
 mark_turn-config s path kind false e = rw e refl
 
-load-config : (s : State) (sources : Sources) (reading : Result ProjectWorkspace ProjectError) → (loaded_turn s sources reading).state.config ≡ s.config
+load-config : (s : State) (sources : Sources) (reading : Result ProjectWorkspace ProjectError) → (loaded_turn s sources reading).state.said.config ≡ s.said.config
 load-config s sources (Ok workspace) = refl
 load-config s sources (Err error) = refl
 
-build-config : (s : State) (outcome : Result ProjectContent LiveError) → (built_turn s outcome).state.config ≡ s.config
+build-config : (s : State) (outcome : Result ProjectContent LiveError) → (built_turn s outcome).state.said.config ≡ s.said.config
 build-config s (Ok project) = refl
 build-config s (Err error) = refl
 
-flush-config : (s : State) (flush : FlushContent) (crates : Result (List Crate) LowerError) → (flushed_turn s flush crates).state.config ≡ s.config
+flush-config : (s : State) (flush : FlushContent) (crates : Result (List Crate) LowerError) → (flushed_turn s flush crates).state.said.config ≡ s.said.config
 flush-config s flush (Ok crates) = refl
 flush-config s flush (Err error) = refl
 
-turn-config : (s : State) (e : Event) → (turn s e).state.config ≡ s.config
+turn-config : (s : State) (e : Event) → (turn s e).state.said.config ≡ s.said.config
 unfolding turn
-turn-config s (File path text) = mark_turn-config s path _ (has_room s path) refl
-turn-config s (Exclude path) = mark_turn-config s path _ (has_room s path) refl
+turn-config s (File path text) = mark_turn-config s path _ (has_room s.said path) refl
+turn-config s (Exclude path) = mark_turn-config s path _ (has_room s.said path) refl
 turn-config s (Answer line output) = refl
-turn-config s (Load path) = load-config s (sources_of s path) (read_sources (sources_of s path))
+turn-config s (Load path) = load-config s (sources_of s.said path) (read_sources (sources_of s.said path))
 turn-config s (Build output) = build-config s (project_after_build s.project output)
 turn-config s Flush = flush-config s (flush_of s) (crates_of_flush (flush_of s))
 
-turn_of-config : (s : State) (number : ℕ) (e : Option Event) → (turn_of turn s number e).state.config ≡ s.config
+turn_of-config : (s : State) (number : ℕ) (e : Option Event) → (turn_of turn s number e).state.said.config ≡ s.said.config
 turn_of-config s number None = refl
 turn_of-config s number (Some e) = turn-config s e
 
-line-config : (o : Outcome State Flushed) (line : List ℕ) (r : Option LiveError) → (take_line_after turn r o line).state.config ≡ o.state.config
+line-config : (o : Outcome State Flushed) (line : List ℕ) (r : Option LiveError) → (take_line_after turn r o line).state.said.config ≡ o.state.said.config
 line-config o line None = turn_of-config o.state (o.lines + 1) (event line)
 line-config o line (Some error) = refl
 
-lines-config : (o : Outcome State Flushed) (ls : List (List ℕ)) → (fold (take_line turn) o ls).state.config ≡ o.state.config
+lines-config : (o : Outcome State Flushed) (ls : List (List ℕ)) → (fold (take_line turn) o ls).state.said.config ≡ o.state.said.config
 lines-config o [] = refl
 lines-config o (line ∷ ls) = lines-config (take_line turn o line) ls ∙ line-config o line o.refusal
 
-turns-config : (s : State) (ls : List (List ℕ)) → (turns_by turn s ls).state.config ≡ s.config
+turns-config : (s : State) (ls : List (List ℕ)) → (turns_by turn s ls).state.said.config ≡ s.said.config
 unfolding turns_by
 turns-config s ls = lines-config (start s) ls
 
 pub sessions_join : SessionsJoin
 sessions_join s first second h =
-    let fits : length first ≤ s.config.limits.bytes = omega (arith, h.within, length-append first second) in
-    let own = session-fits s.config.limits.bytes turn s first fits in
-    let same : (session s first).state.config.limits.bytes ≡ s.config.limits.bytes =
-    ap (λ (o : Outcome State Flushed). o.state.config.limits.bytes) own ∙ ap (λ (c : LiveConfig). c.limits.bytes) (turns-config s (lines_within s.config.limits.bytes first)) in
+    let fits : length first ≤ s.said.config.limits.bytes = omega (arith, h.within, length-append first second) in
+    let own = session-fits s.said.config.limits.bytes turn s first fits in
+    let same : (session s first).state.said.config.limits.bytes ≡ s.said.config.limits.bytes =
+    ap (λ (o : Outcome State Flushed). o.state.said.config.limits.bytes) own ∙ ap (λ (c : LiveConfig). c.limits.bytes) (turns-config s (lines_within s.said.config.limits.bytes first)) in
     subst (λ n. IsJoined (session s first) (session_by n turn (session s first).state second) (session s (first ++ second))) (sym same)
-    (joins.sessions_join turn turn-unnamed s.config.limits.bytes s first second h)
+    (joins.sessions_join turn turn-unnamed s.said.config.limits.bytes s first second h)

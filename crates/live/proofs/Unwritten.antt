@@ -10,6 +10,7 @@ use Rattle.pm_lower_crates.specs.declared.lower_error.LowerError.{LowerError}
 use Rattle.pm_lower_crates.specs.declared.lower_error.LowerError.TheVariants as lower
 use Rattle.live_project.specs.Project.{ProjectContent}
 use Rattle.live_project.proofs.Limited.{lowered_limit}
+use Rattle.live_project.proofs.SaidLemmas.{spares_same}
 use Rattle.live_script.specs.declared.fault.LiveError.{LiveError}
 use Rattle.live_script.specs.declared.fault.LiveError.TheVariants.{OutOfMemory, TooMany, WriteFault}
 use Rattle.live.specs.declared.session.Live.{Live}
@@ -20,7 +21,7 @@ use Rattle.live.specs.Refresh.{FailsFlush}
 use Rattle.live.specs.Session.{State, ended_state, flush_of, flush_turn, flushed_turn}
 use Rattle.live.specs.Turn.{EndsLiveTurn, Holds}
 use Rattle.live_script.specs.Written.{HasWriteCause}
-use Rattle.live.proofs.Existing.{existing_numbered}
+use Rattle.live_project.proofs.Existing.{existing_numbered}
 use Rattle.live.proofs.Flushed.{IsEnded, holds_ended}
 use Rattle.live_script.proofs.Texts.{AppendsFront-nil}
 
@@ -36,10 +37,10 @@ memory-ends ended s left error held memory holds = record {
 }
 
 -- or the crates are refused
-refused-turn : (live : Live) (s : State) (refusal : LowerError) → Holds live s → crates_by live.project (existing_files live.files) ≡ Err refusal
+refused-turn : (live : Live) (s : State) (refusal : LowerError) → Holds live s → crates_by live.project (existing_files live.recorded.files) ≡ Err refusal
     → flush_turn s ≡ flushed_turn s (flush_of s) (Err refusal)
 refused-turn live s refusal h lowers =
-    let numbers = existing_numbered live.files s.marks h.texts.follows in
+    let numbers = existing_numbered live.recorded.files s.said.marks h.said.texts.follows in
     ap (flushed_turn s (flush_of s)) ((λ i. crates_by (sym h.project i) (sym numbers i)) ∙ lowers)
 
 no-lower-fault : (refusal : LowerError) → of_lower_error refusal ≡ WriteFault → ⊥
@@ -52,12 +53,8 @@ pub fails_flush : (live spared ended : Live) (s : State) (error : LiveError) (he
 fails_flush live spared ended s error held h fails spares is =
     by fails
   where
-    files : ended.files ≡ record live.files { batch = ended.files.batch }
-    files = is.files ∙ spares.files ∙ ap (λ b. record live.files { batch = b }) (sym (ap (λ f. f.batch) is.files))
-
     holds : Holds ended (ended_state s)
-    holds = holds_ended live ended s h (is.config ∙ spares.config) (is.texts ∙ spares.texts) (is.answers ∙ spares.answers) (is.project ∙ spares.project) (is.flushed ∙ spares.flushed)
-        files is.ended
+    holds = holds_ended live ended s h (spares_same live.recorded spared.recorded ended.recorded spares.recorded is.recorded) (is.project ∙ spares.project) (is.flushed ∙ spares.flushed) is.ended
 
     by : FailsFlush live error → EndsLiveTurn (flush_turn s) (ended_state s) error ended (held, held)
     by (inl memory) = memory-ends ended s (ended_state s) error held memory holds
@@ -83,10 +80,10 @@ crates-limit : (p : Option ProjectContent) (files : List (ℕ × PathContent)) (
 crates-limit None files limit is = cc
 crates-limit (Some p) files limit is = lowered_limit p files limit is
 
-flush-limit : (live : Live) (refusal : LowerError) → crates_by live.project (existing_files live.files) ≡ Err refusal → of_lower_error refusal ≡ TooMany Bytes → ⊥
+flush-limit : (live : Live) (refusal : LowerError) → crates_by live.project (existing_files live.recorded.files) ≡ Err refusal → of_lower_error refusal ≡ TooMany Bytes → ⊥
 flush-limit live (lower.BadCrateName name) lowers e = cc
 flush-limit live (lower.TooMany limit) lowers e =
-    let crates = crates-limit live.project (existing_files live.files) limit lowers in
+    let crates = crates-limit live.project (existing_files live.recorded.files) limit lowers in
     let is : limit ≡ Bytes = cc in let both : Bytes ≡ Crates = sym is ∙ crates in cc
 flush-limit live lower.OutOfMemory lowers e = cc
 
@@ -105,7 +102,7 @@ fails_cause live error count (inr refused) = record {
 }
 
 -- what a call of the lowering gives, of a session
-pub refuses_flush : (live : Live) (refusal : LowerError) → Refuses refusal (crates_by live.project (existing_files live.files)) → FailsFlush live (of_lower_error refusal)
+pub refuses_flush : (live : Live) (refusal : LowerError) → Refuses refusal (crates_by live.project (existing_files live.recorded.files)) → FailsFlush live (of_lower_error refusal)
 refuses_flush live (lower.BadCrateName name) h = inr (record { refusal = lower.BadCrateName name; lowers = h; reports = refl })
 refuses_flush live (lower.TooMany limit) h = inr (record { refusal = lower.TooMany limit; lowers = h; reports = refl })
 refuses_flush live lower.OutOfMemory h = inl refl

@@ -4,6 +4,7 @@ use Rattle.std.specs.Option.{option_map, option_map_or, option_or}
 use Rattle.std.specs.Prelude.{IfErr, IsErrOf, OnOk, String, map, string_bytes}
 use Rattle.std.specs.declared.alloc.Global.{Global}
 use Rattle.std.proofs.KnownBytes.{Consumes-nil}
+use Rattle.std.proofs.lemmas.Option.{same_Some}
 use Rattle.live_config.specs.Config.{command_of}
 use Rattle.live_config.specs.declared.config.Command.TheVariants.{Run}
 use Rattle.live_config.specs.declared.config.LiveConfig.{LiveConfig}
@@ -13,8 +14,8 @@ use Rattle.live_script.specs.Fault.{IsOneOf, all_statuses, run_statuses, status_
 use Rattle.live_script.specs.Run.{Completes, EndsFrom, Finishes, HasStatusCause, TakesAtMost}
 use Rattle.live_script.proofs.Statuses.{among}
 use Rattle.live.specs.declared.session.Live.{Live}
-use Rattle.live.specs.Cli.{Asked, CompletesAs, EndsWork, FailsFor, FinishesAs, KeepsAlways, ReadsFor, TakesFor, UsageExactly, Work, asked_by, state_for, status_for, work_of}
-use Rattle.live.specs.Session.{State, session}
+use Rattle.live.specs.Cli.{Asked, CompletesAs, EndsWork, FailsFor, FinishesAs, KeepsAlways, ReadsFor, TakesFor, UsageExactly, Work, asked_by, status_for, work_of}
+use Rattle.live.specs.Session.{State, session, with_config}
 use Rattle.live.specs.Turn.{KeepsNames, live_rules}
 use Rattle.live.proofs.Names.{names_equal, names_wider}
 
@@ -43,15 +44,11 @@ module _ (words : List (String Global)) (config : LiveConfig) (given : command_o
   work_given = ap (option_map work_of) given
 
   work_is : (work : Work) → (asked_by words).work ≡ Some work → work ≡ work_of (Run config)
-  work_is work is = let both : Some (work_of (Run config)) ≡ Some work = sym work_given ∙ is in cc
-
-  -- the state from which it runs
-  state_given : State → State
-  state_given s = state_for (work_of (Run config)) s
+  work_is work is = sym (same_Some (work_of (Run config)) work (sym work_given ∙ is))
 
   -- what a run from it finished
   pub finishes_given : (s : State) (live : Live) (left left' old new : Option (List ℕ))
-      → Finishes live_rules config.limits.bytes (record s { config = config }) [] live (left, left') (old, new) → FinishesAs (asked_by words) s live (left, left') (old, new)
+      → Finishes live_rules config.limits.bytes (with_config s config) [] live (left, left') (old, new) → FinishesAs (asked_by words) s live (left, left') (old, new)
   finishes_given s live left left' old new finishes = record {
     work = work_of (Run config);
     given = work_given;
@@ -62,7 +59,7 @@ module _ (words : List (String Global)) (config : LiveConfig) (given : command_o
 
   -- what ended one
   pub fails_given : (s : State) (error : LiveError) (live live' : Live) (left left' old new : Option (List ℕ))
-      → EndsFrom live_rules config.limits.bytes (record s { config = config }) [] error live' (left, left') (old, new)
+      → EndsFrom live_rules config.limits.bytes (with_config s config) [] error live' (left, left') (old, new)
       → FailsFor (asked_by words) s error (live, live') (left, left') (old, new)
   fails_given s error live live' left left' old new ends work is =
       inl (subst (λ w. EndsWork w s error live' (left, left') (old, new)) (sym (work_is work is)) (record { read = (left, left'); from = refl; ends = ends }))
@@ -75,10 +72,10 @@ module _ (words : List (String Global)) (config : LiveConfig) (given : command_o
 
   -- and what it completes
   pub completes_given : (s : State) (left : Option (List ℕ)) (result : Result (Unit {0}) LiveError)
-      → ((all : List ℕ) → left ≡ Some all → Completes (session (record s { config = config }) all).refusal result) → CompletesAs (asked_by words) s left (status_for result)
+      → ((all : List ℕ) → left ≡ Some all → Completes (session (with_config s config) all).refusal result) → CompletesAs (asked_by words) s left (status_for result)
   completes_given s left result done work is all known =
       let here : option_or None left ≡ Some all = ap (λ (w : Work). option_or w.script left) (sym (work_is work is)) ∙ known in
-      subst (λ (w : Work). (status_for result ≡ option_map_or status_of (session (state_for w s) all).refusal 0) ⊎ (status_for result ≡ 1)) (sym (work_is work is)) (completes_status (session (record s { config = config }) all).refusal result (done all here))
+      subst (λ (w : Work). (status_for result ≡ option_map_or status_of (session (with_config s w.config) all).refusal 0) ⊎ (status_for result ≡ 1)) (sym (work_is work is)) (completes_status (session (with_config s config) all).refusal result (done all here))
 
   -- they are not wrong
   pub usage_given : {U : Type 0} (result : Result (Unit {0}) LiveError) (reads reads' writes writes' : ℕ)

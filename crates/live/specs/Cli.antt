@@ -15,7 +15,7 @@ use Rattle.live_script.specs.Run.{EndsFrom, Finishes, TakesAtMost}
 use Rattle.live_script.specs.Written.{Counts, StreamBytes, TellsLine}
 use Rattle.live.specs.declared.session.Live.{Live}
 use Rattle.live.specs.Page.{Flushed, page}
-use Rattle.live.specs.Session.{State, session}
+use Rattle.live.specs.Session.{State, session, with_config}
 use Rattle.live.specs.Turn.{Holds, KeepsNames, live_rules}
 
 -- ---- what words ask
@@ -47,10 +47,6 @@ asked_by words = record {
   usage = usage_text;
 }
 
--- the state from which a work runs its script: it has the configuration of the work
-abbrev pub state_for : Work → State → State
-state_for work s = record s { config = work.config }
-
 -- what the run of a work read: its own script, and then nothing of the source, or else the source
 abbrev pub ReadsFor : Option (List ℕ) → StreamBytes → StreamBytes → Type 0
 ReadsFor None left read = read ≡ left
@@ -65,8 +61,8 @@ pub record FinishesAs (asked : Asked) (s : State) (live : Live) (left held : Str
   pub read : StreamBytes
   pub from : ReadsFor work.script left read
   pub finishes :
-      Finishes (record live_rules { text = work.text }) work.config.limits.bytes (state_for work s) [] live
-      read held
+      Finishes (record live_rules { text = work.text }) work.config.limits.bytes
+      (with_config s work.config) [] live read held
 
 -- an error ended the run of a work, from a state
 pub record EndsWork (work : Work) (s : State) (error : LiveError) (live : Live) (left held : StreamBytes)
@@ -74,8 +70,8 @@ pub record EndsWork (work : Work) (s : State) (error : LiveError) (live : Live) 
   pub read : StreamBytes
   pub from : ReadsFor work.script left read
   pub ends :
-      EndsFrom (record live_rules { text = work.text }) work.config.limits.bytes (state_for work s) [] error
-      live read held
+      EndsFrom (record live_rules { text = work.text }) work.config.limits.bytes
+      (with_config s work.config) [] error live read held
 
 -- memory ran out before a run: nothing was read or written
 pub record MissesRun (error : LiveError) (left held : StreamBytes) : Type 0 where
@@ -129,4 +125,4 @@ status_for (Err error) = status_of error
 abbrev pub CompletesAs : Asked → State → Option (List ℕ) → ℕ → Type 0
 CompletesAs asked s left status =
     (work : Work) → asked.work ≡ Some work → (all : List ℕ) → option_or work.script left ≡ Some all
-    → (status ≡ option_map_or status_of (session (state_for work s) all).refusal 0) ⊎ (status ≡ 1)
+    → (status ≡ option_map_or status_of (session (with_config s work.config) all).refusal 0) ⊎ (status ≡ 1)

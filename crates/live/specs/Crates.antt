@@ -10,7 +10,7 @@ use Rattle.crate_graph_values.specs.declared.crate_data.Dependency.{Dependency}
 use Rattle.input_db.specs.Database.{Database}
 use Rattle.input_db.specs.Identity.{Table, crate_edges, input_in, named_in}
 use Rattle.input_db.specs.declared.crate_input.CrateInput.{CrateInput}
-use Rattle.live_project.specs.Crates.{project_crates, project_edges}
+use Rattle.live_project.specs.Crates.{project_lowered}
 use Rattle.live_project.specs.Project.{ProjectContent}
 use Rattle.pm_lower_crates.specs.Lowering.{Crate}
 use Rattle.pm_lower_crates.specs.WantedEdges.{Dep, Edge}
@@ -82,10 +82,10 @@ LacksCyclesIn edges db numbers = (e : Edge) → Contains edges e
 -- a database shows the crates that a project has by these files
 pub record ShowsProject (db : Database) (p : ProjectContent) (files : List (ℕ × PathContent)) : Type 0 where
   pub crates : List Crate
-  pub lowers : project_crates p files ≡ Ok crates
+  pub lowers : (project_lowered p files).crates ≡ Ok crates
   pub numbers : List ℕ
   pub are : AreInDatabase db numbers crates
-  pub missing : LacksCyclesIn (project_edges p files) db numbers
+  pub missing : LacksCyclesIn (project_lowered p files).wants db numbers
 
 -- and none where no project was loaded
 abbrev pub ShowsCrates : Database → Option ProjectContent → List (ℕ × PathContent) → Type 0

@@ -5,5 +5,6 @@ use Rattle.live.specs.Session.{State, session, turn}
 
 -- the session of both is that of the first, and then that of the second from the first's state
 abbrev pub SessionsJoin : Type 0
-SessionsJoin = (s : State) (first second : List ℕ) → AreJoinable turn s.config.limits.bytes s first second
+SessionsJoin = (s : State) (first second : List ℕ)
+    → AreJoinable turn s.said.config.limits.bytes s first second
     → IsJoined (session s first) (session (session s first).state second) (session s (first ++ second))

@@ -2,7 +2,6 @@ pub mod Cli
 pub mod Crates
 pub mod Image
 pub mod Laws
-pub mod LiveTexts
 pub mod Marked
 pub mod Names
 pub mod Page

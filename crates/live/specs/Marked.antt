@@ -4,51 +4,34 @@ use Rattle.base_text_outside.specs.Command.{question_of}
 use Rattle.base_text_outside.specs.Runner.{with_answer}
 use Rattle.base_text_outside.specs.declared.command.CommandLine.{CommandLine}
 use Rattle.base_text_outside.specs.declared.command.Output.{Output}
-use Rattle.vfs_core.specs.Files.{existing_files}
 use Rattle.vfs_core.specs.declared.marks.Mark.{Mark}
 use Rattle.pm_lower.specs.declared.project_workspace.ProjectWorkspace.{ProjectWorkspace}
 use Rattle.live_project.specs.Project.{NamesLoadLimit, ProjectContent, read_sources}
 use Rattle.live_project.specs.declared.project_error.ProjectError.{ProjectError}
-use Rattle.live_project.specs.declared.sources.Sources.{Sources}
 use Rattle.live_script.specs.declared.fault.LiveError.{LiveError}
 use Rattle.live_script.specs.declared.fault.LiveError.TheVariants.{OutOfMemory}
 use Rattle.live.specs.declared.session.Live.{Live}
 use Rattle.live_script.specs.Fault.{of_project_error}
-use Rattle.live.specs.LiveTexts.{AddsMark, kept_by}
+use Rattle.live_project.specs.LiveTexts.{RecordsMark, SparesChanges, sources_kept}
 use Rattle.live.specs.Session.{project_after_build}
 
--- one more mark is taken by the files and their texts; the rest is as it was
+-- one more mark is recorded; the rest is as it was
 pub record AddsMarkTo (old new : Live) (mark : Mark) : Type 0 where
-  pub adds : AddsMark old.files new.files old.texts new.texts mark
-  pub config : new.config ≡ old.config
-  pub answers : new.answers ≡ old.answers
-  pub project : new.project ≡ old.project
-  pub flushed : new.flushed ≡ old.flushed
-  pub db : new.db ≡ old.db
-  pub probes : new.probes ≡ old.probes
-  pub ended : new.ended ≡ old.ended
+  pub adds : RecordsMark old.recorded new.recorded mark
+  pub rest : new ≡ record old { recorded = new.recorded }
 
 -- an answer is recorded; the rest is as it was
 abbrev pub AddsAnswer : Live → Live → CommandLine → Output → Type 0
 AddsAnswer old new line output =
-    new ≡ record old { answers = with_answer (question_of line) output old.answers }
-
--- what a load of a session keeps, as the session has it
-abbrev pub sources_kept : Live → List ℕ → Sources
-sources_kept live path = record {
-  config = live.config;
-  answers = live.answers;
-  files = kept_by live.texts (existing_files live.files);
-  path = path;
-}
+    new
+    ≡ record old {
+      recorded = record old.recorded { answers = with_answer (question_of line) output old.recorded.answers };
+    }
 
 -- a session has another project; the rest is as it was
 pub record TakesProject (old new : Live) (project : ProjectContent) : Type 0 where
   pub project_is : new.project ≡ Some project
-  pub config : new.config ≡ old.config
-  pub files : new.files ≡ old.files
-  pub texts : new.texts ≡ old.texts
-  pub answers : new.answers ≡ old.answers
+  pub recorded : new.recorded ≡ old.recorded
   pub flushed : new.flushed ≡ old.flushed
   pub db : new.db ≡ old.db
   pub probes : new.probes ≡ old.probes
@@ -57,14 +40,14 @@ pub record TakesProject (old new : Live) (project : ProjectContent) : Type 0 whe
 -- a project is loaded: what is read of what it keeps; the rest is as it was
 pub record LoadsProject (old new : Live) (path : List ℕ) : Type 0 where
   pub workspace : ProjectWorkspace
-  pub read : read_sources (sources_kept old path) ≡ Ok workspace
-  pub after : TakesProject old new (record { sources = sources_kept old path; workspace = workspace })
+  pub read : read_sources (sources_kept old.recorded path) ≡ Ok workspace
+  pub after : TakesProject old new (record { sources = sources_kept old.recorded path; workspace = workspace })
 
 -- the refusal of a load is that of what it keeps, and names no other limits than those of packages, targets
 -- and crates
 pub record IsLoadRefusal (live : Live) (path : List ℕ) (error : LiveError) : Type 0 where
   pub refusal : ProjectError
-  pub read : read_sources (sources_kept live path) ≡ Err refusal
+  pub read : read_sources (sources_kept live.recorded path) ≡ Err refusal
   pub reports : error ≡ of_project_error refusal
   pub limits : NamesLoadLimit refusal
 
@@ -84,10 +67,7 @@ FailsBuild live output error = (error ≡ OutOfMemory) ⊎ (project_after_build 
 
 -- all but the database and the changes of files is as it was
 pub record SparesFiles (old new : Live) : Type 0 where
-  pub config : new.config ≡ old.config
-  pub texts : new.texts ≡ old.texts
-  pub answers : new.answers ≡ old.answers
+  pub recorded : SparesChanges old.recorded new.recorded
   pub project : new.project ≡ old.project
   pub flushed : new.flushed ≡ old.flushed
-  pub files : new.files ≡ record old.files { batch = new.files.batch }
   pub ended : new.ended ≡ old.ended

@@ -6,7 +6,8 @@ use Rattle.std.specs.Map.{lookup}
 use Rattle.std.specs.Option.{option_map}
 use Rattle.live_page.specs.FlushPage as placed
 use Rattle.vfs_sets.specs.declared.file_root.FileRoot.{FileRoot}
-use Rattle.live_project.specs.Crates.{project_crates}
+use Rattle.live_project.specs.Crates.{project_lowered}
+use Rattle.live_project.specs.LiveTexts.{LiveFile}
 use Rattle.live_project.specs.Project.{ProjectContent}
 use Rattle.live_project.specs.Roots.{roots_of_project}
 use Rattle.live_page.specs.Entries.{Node, Paths, entries_of}
@@ -14,13 +15,6 @@ use Rattle.live_page.specs.declared.crate_entry.CrateEntry.{CrateEntry}
 use Rattle.pm_lower_crates.specs.Lowering.{Crate}
 use Rattle.pm_lower_crates.specs.declared.lower_error.LowerError.{LowerError}
 use Rattle.vfs_core.specs.VfsPath.{PathContent}
-
--- a file that lives: its number, which is the place of its path among those of which the events spoke, its
--- path and its text
-pub record LiveFile : Type 0 where
-  pub number : ℕ
-  pub path : PathContent
-  pub text : List ℕ
 
 -- what a flush brings into the database: the files that live, by number, and the project, if one was loaded
 pub record Flush : Type 0 where
@@ -56,7 +50,7 @@ roots_by (Some p) = roots_of_project p.workspace
 -- the crates by the files that live, or why there are none; no project has none
 abbrev pub crates_by : Option ProjectContent → List (ℕ × PathContent) → Result (List Crate) LowerError
 crates_by None files = Ok []
-crates_by (Some p) files = project_crates p files
+crates_by (Some p) files = (project_lowered p files).crates
 
 -- the crates of a flush, or why it is refused
 abbrev pub crates_of_flush : Flush → Result (List Crate) LowerError

@@ -11,7 +11,8 @@ use Rattle.pm_lower_crates.specs.Lowering.{LacksCyclesAlone, crate_seen}
 use Rattle.pm_lower_crates.specs.Refusal.{Refuses}
 use Rattle.pm_lower_crates.specs.declared.lower_error.LowerError.{LowerError}
 use Rattle.live_page.specs.Refresh.{GivesCrates, KeepsIdentities, Refreshes}
-use Rattle.live_project.specs.Crates.{BeginIn, project_crates, project_edges}
+use Rattle.live_project.specs.Crates.{BeginIn, project_lowered}
+use Rattle.live_project.specs.LiveTexts.{SparesChanges}
 use Rattle.live_project.specs.Project.{ProjectContent}
 use Rattle.live_script.specs.declared.fault.LiveError.{LiveError}
 use Rattle.live_script.specs.declared.fault.LiveError.TheVariants.{OutOfMemory}
@@ -25,9 +26,9 @@ use Rattle.live.specs.Page.{crates_by, roots_by}
 -- a graph has the crates of a project by these files, each begins in one of them, and a wanted edge is a
 -- dependency exactly where its target does not reach its source
 pub record IsProjectGraph (p : ProjectContent) (files : List (ℕ × PathContent)) (graph : Graph) : Type 0 where
-  pub crates : project_crates p files ≡ Ok (map crate_seen graph.crates)
+  pub crates : (project_lowered p files).crates ≡ Ok (map crate_seen graph.crates)
   pub begins : BeginIn files graph.crates
-  pub missing : LacksCyclesAlone (project_edges p files) graph.crates
+  pub missing : LacksCyclesAlone (project_lowered p files).wants graph.crates
 
 -- the graph of a project, and none where there is no project
 abbrev pub IsGraphBy : Option ProjectContent → List (ℕ × PathContent) → Option Graph → Type 0
@@ -47,28 +48,26 @@ GivesGraph p files (Err error) = Refuses error (crates_by p files)
 -- that were there keep their identities; the changes are taken. All else but the count of probes is as it was
 pub record RefreshesLive (old new : Live) : Type 0 where
   pub graph : Option Graph
-  pub lowers : IsGraphBy old.project (existing_files old.files) graph
+  pub lowers : IsGraphBy old.project (existing_files old.recorded.files) graph
   pub cmp : Id → Id → Ordering
   pub crates : GivesCrates cmp graph old.db new.db
-  pub refreshes : Refreshes (roots_by old.project) old.files old.db new.db
+  pub refreshes : Refreshes (roots_by old.project) old.recorded.files old.db new.db
   pub stable : KeepsIdentities old.db.crates new.db.crates
-  pub config : new.config ≡ old.config
-  pub texts : new.texts ≡ old.texts
-  pub answers : new.answers ≡ old.answers
+  pub recorded : SparesChanges old.recorded new.recorded
+  pub taken : new.recorded.files.batch ≡ []
   pub project : new.project ≡ old.project
   pub flushed : new.flushed ≡ old.flushed
   pub ended : new.ended ≡ old.ended
-  pub files : new.files ≡ record old.files { batch = [] }
 
 -- what is kept of a flush: the texts and the project
 pub record KeepsLast (live : Live) (last : LastFlush) : Type 0 where
-  pub texts : last.texts ≡ live.texts
+  pub texts : last.texts ≡ live.recorded.texts
   pub project : last.project ≡ live.project
 
 -- a flush is refused with the refusal of the project's crates
 pub record IsFlushRefusal (live : Live) (error : LiveError) : Type 0 where
   pub refusal : LowerError
-  pub lowers : crates_by live.project (existing_files live.files) ≡ Err refusal
+  pub lowers : crates_by live.project (existing_files live.recorded.files) ≡ Err refusal
   pub reports : error ≡ of_lower_error refusal
 
 -- a flush fails out of memory, or it is refused

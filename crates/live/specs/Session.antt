@@ -1,18 +1,13 @@
 -- The session: what an event does to a state, which flushes it does, and what it refuses. A script is taken
 -- line by line, as `session_by` has it.
-use Rattle.std.specs.Prelude.{ℕ, Bool, true, List, [], ◌∷◌, Option, Some, None, Result, Ok, Err, length, nat_lt, ◌||◌, if◌then◌else◌}
-use Rattle.std.specs.List.{enumerate_from, filter_map, list_any}
-use Rattle.std.specs.Option.{option_map}
+use Rattle.std.specs.Prelude.{ℕ, Bool, true, List, [], ◌∷◌, Option, Some, None, Result, Ok, Err, if◌then◌else◌}
 use Rattle.base_text_outside.specs.Command.{question_of}
 use Rattle.base_text_outside.specs.Runner.{with_answer}
 use Rattle.base_text_outside.specs.declared.command.Output.{Output}
-use Rattle.base_text_outside.specs.declared.command.Question.{Question}
 use Rattle.base_text_outside.specs.declared.limits.Limit.TheVariants.{Paths}
-use Rattle.vfs_core.specs.VfsPath.{PathContent, vfs_path_eq}
-use Rattle.vfs_core.specs.declared.marks.Mark.{Mark}
+use Rattle.vfs_core.specs.VfsPath.{PathContent}
 use Rattle.vfs_core.specs.declared.marks.MarkKind.{MarkKind}
 use Rattle.vfs_core.specs.declared.marks.MarkKind.TheVariants.{Out}
-use Rattle.vfs_core.specs.Marks.{live_files, live_text, mentioned_paths}
 use Rattle.vfs_core.specs.Files.{kind_of}
 use Rattle.pm_tools.specs.Reading.{Reading}
 use Rattle.pm_lower.specs.ProjectWorkspace.{has_cargo_workspace}
@@ -23,26 +18,28 @@ use Rattle.live_config.specs.declared.config.LiveConfig.{LiveConfig}
 use Rattle.live_page.specs.declared.event.Event.{Event}
 use Rattle.live_page.specs.declared.event.Event.TheVariants.{Answer, Build, Exclude, File, Flush as FlushEvent, Load}
 use Rattle.live_project.specs.Build.{built_project}
+use Rattle.live_project.specs.LiveTexts.{numbered_files}
 use Rattle.live_project.specs.Project.{ProjectContent, read_sources}
-use Rattle.live_project.specs.Sources.{kept_files}
+use Rattle.live_project.specs.Sources.{Said, has_room, sources_of}
 use Rattle.live_project.specs.declared.project_error.ProjectError.{ProjectError}
 use Rattle.live_project.specs.declared.sources.Sources.{Sources}
 use Rattle.live_script.specs.declared.fault.LiveError.{LiveError}
 use Rattle.live_script.specs.declared.fault.LiveError.TheVariants.{NoCargoProject, TooMany}
 use Rattle.live_script.specs.Fault.{of_build_error, of_lower_error, of_project_error}
 use Rattle.live_script.specs.Session.{Outcome, Turn, refuses, session_by, takes}
-use Rattle.live.specs.Page.{Flush, Flushed, LiveFile, crates_of_flush}
+use Rattle.live.specs.Page.{Flush, Flushed, crates_of_flush}
 
--- what a session knows: its configuration, what was said of files (newest first), the answers that were
--- recorded, by their questions, the project that was loaded last with what its last build gave, if one was
--- loaded, the last flush that was done, if there was one, and whether it has ended
+-- what a session knows: what was said to it, the project that was loaded last with what its last build gave,
+-- if one was loaded, the last flush that was done, if there was one, and whether it has ended
 pub record State : Type 0 where
-  pub config : LiveConfig
-  pub marks : List Mark
-  pub answers : List (Question × Output)
+  pub said : Said
   pub project : Option ProjectContent
   pub flushed : Option Flushed
   pub ended : Bool
+
+-- the state with another configuration
+abbrev pub with_config : State → LiveConfig → State
+with_config s config = record s { said = record s.said { config = config } }
 
 -- the state after it has ended
 abbrev pub ended_state : State → State
@@ -50,28 +47,16 @@ ended_state s = record s { ended = true }
 
 -- ---- files
 
--- whether a path has a number, or there is room for one more
-abbrev pub has_room : State → PathContent → Bool
-has_room s path =
-    list_any (vfs_path_eq path) (mentioned_paths s.marks)
-    || nat_lt (length (mentioned_paths s.marks)) s.config.limits.paths
-
 -- what is said of a path that has room
 abbrev pub mark_turn : State → PathContent → MarkKind → Turn State Flushed
 mark_turn s path kind =
-    if has_room s path then takes (record s { marks = record { path = path; kind = kind } ∷ s.marks }) []
+    if has_room s.said path then
+    takes
+    (record s { said = record s.said { marks = record { path = path; kind = kind } ∷ s.said.marks } })
+    []
     else refuses s (TooMany Paths)
 
 -- ---- answers and projects
-
--- what a load keeps: the configuration, the answers and the files that live at that load, and its path
-abbrev pub sources_of : State → List ℕ → Sources
-sources_of s path = record {
-  config = s.config;
-  answers = s.answers;
-  files = kept_files (live_files s.marks);
-  path = path;
-}
 
 -- a load of what was read, or of its refusal, which leaves the state as it was
 abbrev pub loaded_turn : State → Sources → Result ProjectWorkspace ProjectError → Turn State Flushed
@@ -81,7 +66,7 @@ loaded_turn s sources (Err error) = refuses s (of_project_error error)
 
 -- a load is judged by what it keeps alone
 abbrev pub load_turn : State → List ℕ → Turn State Flushed
-load_turn s path = loaded_turn s (sources_of s path) (read_sources (sources_of s path))
+load_turn s path = loaded_turn s (sources_of s.said path) (read_sources (sources_of s.said path))
 
 -- ---- builds
 
@@ -109,18 +94,9 @@ build_turn s output = built_turn s (project_after_build s.project output)
 
 -- ---- flushes
 
--- the file of a numbered path, where it lives
-abbrev pub live_file : List Mark → ℕ × PathContent → Option LiveFile
-live_file marks place =
-    option_map (λ text. record { number = place.0; path = place.1; text = text }) (live_text marks place.1)
-
--- the files that live, by number
-abbrev pub numbered_files : List Mark → List LiveFile
-numbered_files marks = filter_map (live_file marks) (enumerate_from 0 (mentioned_paths marks))
-
 -- what a flush brings into the database: the files that live, and the project
 abbrev pub flush_of : State → Flush
-flush_of s = record { files = numbered_files s.marks; project = s.project }
+flush_of s = record { files = numbered_files s.said.marks; project = s.project }
 
 -- a flush with crates is done, and is the last flush from then on; one that has none is refused, and ends the
 -- session
@@ -141,7 +117,9 @@ unfoldable pub turn : State → Event → Turn State Flushed
 turn s (File path text) = mark_turn s path (kind_of text)
 turn s (Exclude path) = mark_turn s path Out
 turn s (Answer line output) =
-    takes (record s { answers = with_answer (question_of line) output s.answers }) []
+    takes
+    (record s { said = record s.said { answers = with_answer (question_of line) output s.said.answers } })
+    []
 turn s (Load path) = load_turn s path
 turn s (Build output) = build_turn s output
 turn s FlushEvent = flush_turn s
@@ -159,4 +137,4 @@ state_after_failure s FlushEvent = ended_state s
 
 -- the session of a state and the bytes of a script, within the limit of its configuration
 abbrev pub session : State → List ℕ → Outcome State Flushed
-session s bytes = session_by s.config.limits.bytes turn s bytes
+session s bytes = session_by s.said.config.limits.bytes turn s bytes

@@ -22,7 +22,7 @@ use Rattle.live_script.specs.Fault.{turn_statuses}
 use Rattle.live_script.specs.Session.{Rules, Turn}
 use Rattle.live_script.specs.Turn as script
 use Rattle.live.specs.Image.{shape_of_flush}
-use Rattle.live.specs.LiveTexts.{KeepsTexts, files_kept}
+use Rattle.live_project.specs.LiveTexts.{HoldsSaid, files_kept}
 use Rattle.live.specs.Page.{Flushed, numbers_of_flush, page, paths_of_flush, roots_by}
 use Rattle.live.specs.Session.{State, flush_of, state_after_failure, turn}
 use Rattle.live_script.specs.Written.{Counts, HasWriteCause, StreamBytes}
@@ -33,8 +33,8 @@ use Rattle.live_script.specs.Written.{Counts, HasWriteCause, StreamBytes}
 -- since then bring its texts to those that live, each of which is a text. It lists no crates as long as no
 -- project was loaded
 pub record IsCurrent (live : Live) (s : State) : Type 0 where
-  pub brings : BringsTo live.files (texts_known live.db) s.marks
-  pub valid : all_pass is_utf8 live.files.batch ≡ true
+  pub brings : BringsTo live.recorded.files (texts_known live.db) s.said.marks
+  pub valid : all_pass is_utf8 live.recorded.files.batch ≡ true
   pub shown :
       IfSome s.flushed
       (λ done. base_image live.db ≡ base_shape (roots_by done.flush.project) (paths_of_flush done.flush))
@@ -53,15 +53,12 @@ KeepsFlush paths None (Some done) = ⊥
 KeepsFlush paths (Some last) None = ⊥
 KeepsFlush paths (Some last) (Some done) = IsLast paths last done
 
--- a session holds a state: its files and their texts are those of the marks, it has the answers, the project
--- and the last flush, and until it ends its database is current
+-- a session holds a state: it holds what was said, has the project and the last flush, and until it ends its
+-- database is current
 pub record Holds (live : Live) (s : State) : Type 0 where
-  pub config : live.config ≡ s.config
-  pub limit : live.files.limit ≡ s.config.limits.paths
-  pub texts : KeepsTexts live.files live.texts s.marks
-  pub answers : live.answers ≡ s.answers
+  pub said : HoldsSaid live.recorded s.said
   pub project : live.project ≡ s.project
-  pub flushed : KeepsFlush (paths_of live.files) live.flushed s.flushed
+  pub flushed : KeepsFlush (paths_of live.recorded.files) live.flushed s.flushed
   pub ended : live.ended ≡ s.ended
   pub database : s.ended ≡ false → IsCurrent live s
 
@@ -72,9 +69,7 @@ HasEnded live = live.ended ≡ true
 -- before the first event: the configuration is that of no words
 abbrev pub first_state : State
 first_state = record {
-  config = first_config;
-  marks = [];
-  answers = [];
+  said = record { config = first_config; marks = []; answers = [] };
   project = None;
   flushed = None;
   ended = false;
@@ -85,7 +80,7 @@ first_state = record {
 -- names stay: each path that had a number has it still, and each identity its crate, unless memory ran out at
 -- a flush, which ends the session
 pub record KeepsNames (Memory : Type 0) (old new : Live) : Type 0 where
-  pub paths : KeepsNumbers old.files new.files
+  pub paths : KeepsNumbers old.recorded.files new.recorded.files
   pub crates : (HasEnded new → ¬ Memory) → KeepsIdentities old.db.crates new.db.crates
 
 -- a session as a run of scripts takes it: each flush writes its page, whatever flushes came before
@@ -123,11 +118,11 @@ HasStepCause (Ok done) writes = HasWriteCause (Ok done) turn_statuses writes
 HasStepCause (Err (Refused error)) writes = HasWriteCause {T = Unit {0}} (Err error) turn_statuses writes
 HasStepCause (Err Ended) writes = writes.0 ≤ writes.1
 
--- a flush takes at most one probe more for each file that exists than the text by which it is placed has
--- bytes
+-- for each file that exists a flush takes at most one probe more than the text by which it is placed has
+-- bytes, and at most one more than twice its slashes
 abbrev pub CountsFlush : Live → Live → Type 0
 CountsFlush old new =
-    RaisesAtMost (most_probes (existing_files old.files)) old.probes.ledger new.probes.ledger
+    RaisesAtMost (most_probes (existing_files old.recorded.files)) old.probes.ledger new.probes.ledger
 
 -- what a step leaves as it was: the configuration, and names; the database and the count of probes, unless it
 -- is a flush; the crates of the database, where it succeeds and no project was loaded; all, where it fails
@@ -135,7 +130,7 @@ CountsFlush old new =
 -- and each flush counts its probes
 pub record LeavesAsWas (event : Event) (failed : Bool) (Memory : Type 0) (old new : Live) : Type 0 where
   pub names : KeepsNames Memory old new
-  pub config : new.config ≡ old.config
+  pub config : new.recorded.config ≡ old.recorded.config
   pub database : (event ≡ FlushEvent → ⊥) → new.db ≡ old.db
   pub all : failed ≡ true → (event ≡ FlushEvent → ⊥) → new ≡ old
   pub crates : failed ≡ false → old.project ≡ None → KeepsDatabaseCrates old.db new.db
@@ -147,6 +142,6 @@ pub record LeavesAsWas (event : Event) (failed : Bool) (Memory : Type 0) (old ne
 -- after a flush the database shows the shape of the files that live, by the roots of the project; its list
 -- names each crate once and after its dependencies, and its crates are those of the project
 pub record ShowsShape (live : Live) (s : State) : Type 0 where
-  pub shows : image live.db live.files ≡ shape_of_flush (flush_of s)
+  pub shows : image live.db live.recorded.files ≡ shape_of_flush (flush_of s)
   pub order : ListsInOrder live.db
   pub crates : ShowsCrates live.db s.project (numbers_of_flush (flush_of s))

@@ -1,8 +1,7 @@
 //! What is kept of the last flush.
 
-use crate::live_texts::LiveTexts;
 use base_text::{Shared, TryClone};
-use live_project::Project;
+use live_project::{LiveTexts, Project};
 use std::alloc::{AllocError, Global};
 
 /// What the last flush brought into the database: the texts of the files that lived, by file number, and the project. To keep it, and

@@ -2,12 +2,9 @@
 #![tactic(auto)]
 
 pub mod cli;
-mod kept_files;
 pub mod last_flush;
 pub mod laws;
-pub mod live_texts;
 mod page;
-mod rows;
 pub mod run;
 pub mod session;
 
@@ -15,8 +12,7 @@ pub use cli::{fault_text, live_cli, usage_text};
 pub use last_flush::LastFlush;
 pub use live_config::{Command, LiveConfig, WordsError, config};
 pub use live_page::{Event, EventError, LineError, Lines, event, lines};
-pub use live_project::{LiveAnswers, Project, Sources};
+pub use live_project::{LiveAnswers, LiveTexts, Project, Recorded, Sources};
 pub use live_script::{LiveError, StepError, Stepper, run_script, tell};
-pub use live_texts::LiveTexts;
 pub use run::live_run;
 pub use session::Live;

@@ -49,14 +49,14 @@ pub fn live_run<S: ByteSource, K: ByteSink>(
 ) -> Result<(), LiveError>
     requires { ¬ HasEnded live.old }
     ensures ok { OnOk result ((s : State) → Holds live.old s
-        → Finishes live_rules s.config.limits.bytes s [] live.new
+        → Finishes live_rules s.said.config.limits.bytes s [] live.new
         (S.left input.old, S.left input.new) (K.held out.old, K.held out.new)) }
     ensures err { IfErr result (λ e. (s : State) → Holds live.old s
-        → EndsFrom live_rules s.config.limits.bytes s [] e live.new
+        → EndsFrom live_rules s.said.config.limits.bytes s [] e live.new
         (S.left input.old, S.left input.new) (K.held out.old, K.held out.new)) }
     ensures cause { IfErr result (λ e. HasStatusCause run_statuses (status_of e)
         (S.faults input.old, S.faults input.new) (K.faults out.old, K.faults out.new)) }
-    ensures taken { TakesAtMost (live.old.config.limits.bytes + 1)
+    ensures taken { TakesAtMost (live.old.recorded.config.limits.bytes + 1)
         (S.left input.old, S.left input.new) }
     ensures names { KeepsNames (IsErrOf result OutOfMemory) live.old live.new }
     ensures complete { (s : State) → Holds live.old s → (all : List ℕ) → S.left input.old ≡ Some all

@@ -1,19 +1,16 @@
 //! A session that takes events one by one.
 
-ghost use Rattle.live_config.specs.Config.{Fits};
-
 mod build;
 mod flush;
 mod load;
 
 use crate::last_flush::LastFlush;
-use crate::live_texts::LiveTexts;
 use base_text::{ByteSink, Counter, Ledger, Limit, Numbers, Shared, Steps, Text, TryClone};
 use input_db::InputDb;
 use input_db_files::Nonce;
 use live_config::LiveConfig;
 use live_page::Event;
-use live_project::{LiveAnswers, Project, SharedConfig};
+use live_project::{LiveAnswers, LiveTexts, Project, Recorded};
 use live_script::{LiveError, StepError};
 use pm_lower::ProjectWorkspace;
 use std::alloc::{AllocError, Global};
@@ -22,20 +19,16 @@ use vfs_core::{Vfs, VfsError, VfsPath};
 /// A session: what a script said so far.
 #[derive(Drop)]
 pub struct Live {
-    config: SharedConfig,
-    files: Vfs,
-    texts: LiveTexts,
-    answers: LiveAnswers,
+    recorded: Recorded,
     project: Option<Shared<Project>>,
     flushed: Option<LastFlush>,
     db: InputDb,
     probes: Steps<Counter>,
     ended: bool,
-    ghost fits: { Fits config },
 }
 
 impl Live {
-    ghost use Rattle.std.specs.Prelude.{◌≡◌, ◌↔◌, ◌⊎◌, ◌≤◌, ◌^◌, [], ◌∷◌, IfOk, IfErr, IsErrOf, IsTrue, None, OnErr, OnOk, Some, Err, is_err};
+    ghost use Rattle.std.specs.Prelude.{◌≡◌, ◌↔◌, ◌⊎◌, ◌≤◌, ◌^◌, [], IfOk, IfErr, IsErrOf, IsTrue, OnErr, OnOk, Some, Err, is_err};
     ghost use Rattle.std.specs.Option.{option_copied, option_map};
     ghost use Rattle.input_db.specs.Database.{empty_database};
     ghost use Rattle.vfs_core.specs.Files.{IsFullFor, kind_of};
@@ -43,7 +36,7 @@ impl Live {
     ghost use Rattle.live_config.specs.Config.{Fits, config_of};
     ghost use Rattle.live_script.specs.Fault.{turn_statuses};
     ghost use Rattle.live.specs.Marked.{AddsMarkTo};
-    ghost use Rattle.live.specs.Session.{State, state_after_failure, turn};
+    ghost use Rattle.live.specs.Session.{State, state_after_failure, turn, with_config};
     ghost use Rattle.live.specs.Turn.{EndsLiveTurn, FailsStep, HasEnded, HasStepCause, Holds, LeavesAsWas, ShowsShape, TakesLiveTurn, first_state};
     ghost use Rattle.live_script.specs.Written.{HasWriteCause};
     ghost use Rattle.live_page.specs.declared.event.Event.TheVariants.{Flush};
@@ -55,19 +48,14 @@ impl Live {
     pub fn new(alloc: Global) -> Result<Live, AllocError>
         ensures holds { IfOk result (λ live. Holds live first_state) }
         ensures not_ended { IfOk result (λ live. ¬ HasEnded live) }
-        ensures config { IfOk result (λ live. config_of [] ≡ Some live.config) }
+        ensures config { IfOk result (λ live. config_of [] ≡ Some live.recorded.config) }
         ensures empty { IfOk result (λ live. live.db ≡ empty_database 0) }
         ensures probes { IfOk result (λ live. live.probes.ledger ≡ 0) }
     {
         let nonce = Nonce::new(&mut Numbers::new()).unwrap_or(Nonce::invalid());
-        let texts = LiveTexts::new(alloc)?;
-        let answers = LiveAnswers::new(alloc)?;
         let config = LiveConfig::new(alloc)?;
         Ok(Live {
-            files: Vfs::new(alloc, config.limits.paths),
-            config: SharedConfig::new(config),
-            texts,
-            answers,
+            recorded: Recorded::new(alloc, config)?,
             project: None,
             flushed: None,
             db: InputDb::new(alloc, nonce),
@@ -82,25 +70,26 @@ impl Live {
     pub fn configure(&mut self, config: LiveConfig)
         requires { Fits config }
         ensures holds { (s : State) → Holds self.old s
-            → Holds self.new (record s { config = config }) }
+            → Holds self.new (with_config s config) }
         ensures ended { HasEnded self.new ↔ HasEnded self.old }
-        ensures config { self.new.config ≡ config }
-        ensures files { self.new.files ≡ record self.old.files { limit = config.limits.paths } }
-        ensures kept { (self.new.db ≡ self.old.db) × (self.new.texts ≡ self.old.texts)
+        ensures config { self.new.recorded.config ≡ config }
+        ensures files { self.new.recorded.files
+            ≡ record self.old.recorded.files { limit = config.limits.paths } }
+        ensures kept { (self.new.db ≡ self.old.db)
+            × (self.new.recorded.texts ≡ self.old.recorded.texts)
             × (self.new.probes ≡ self.old.probes) }
-        ensures projects { (self.new.answers ≡ self.old.answers)
+        ensures projects { (self.new.recorded.answers ≡ self.old.recorded.answers)
             × (self.new.project ≡ self.old.project) × (self.new.flushed ≡ self.old.flushed) }
     {
-        self.files.set_limit(config.limits.paths);
-        self.config = SharedConfig::new(config);
+        self.recorded.configure(config);
     }
 
     /// The configuration. A changed one can be given to `configure`.
     pub fn config(&self) -> &LiveConfig
-        ensures config { result.now ≡ self.now.config }
+        ensures config { result.now ≡ self.now.recorded.config }
         ensures fits { Fits result.now }
     {
-        self.config.get()
+        self.recorded.config()
     }
 
     /// Whether an earlier flush was refused. No event is taken any more then.
@@ -112,23 +101,23 @@ impl Live {
 
     /// The files of which the events spoke.
     pub fn files(&self) -> &Vfs
-        ensures { result.now ≡ self.now.files }
+        ensures { result.now ≡ self.now.recorded.files }
     {
-        &self.files
+        &self.recorded.files
     }
 
     /// The texts of the files that live, by file number.
     pub fn texts(&self) -> &LiveTexts
-        ensures { result.now ≡ self.now.texts }
+        ensures { result.now ≡ self.now.recorded.texts }
     {
-        &self.texts
+        &self.recorded.texts
     }
 
     /// The answers that were recorded.
     pub fn answers(&self) -> &LiveAnswers
-        ensures { result.now ≡ self.now.answers }
+        ensures { result.now ≡ self.now.recorded.answers }
     {
-        &self.answers
+        &self.recorded.answers
     }
 
     /// The project that was loaded last, as its load read it, with what its last build gave.
@@ -165,7 +154,7 @@ impl Live {
 
     // How many bytes one run takes.
     pub(crate) fn byte_limit(&self) -> u64
-        ensures limit { result ≡ self.now.config.limits.bytes }
+        ensures limit { result ≡ self.now.recorded.config.limits.bytes }
         ensures small { result ≤ 2 ^ 30 }
     {
         self.config().limits.bytes
@@ -241,12 +230,12 @@ impl Live {
     ) -> Result<(), LiveError>
         ensures ok { OnOk result (AddsMarkTo self.old self.new
             (record { path = path; kind = kind_of text })) }
-        ensures room { OnOk result (¬ (IsFullFor self.old.files path)) }
-        ensures too_many { IsErrOf result (TooMany Paths) → IsFullFor self.old.files path }
+        ensures room { OnOk result (¬ (IsFullFor self.old.recorded.files path)) }
+        ensures too_many { IsErrOf result (TooMany Paths) → IsFullFor self.old.recorded.files path }
         ensures only { IfErr result (λ e. (e ≡ OutOfMemory) ⊎ (e ≡ TooMany Paths)) }
         ensures err { OnErr result (self.new ≡ self.old) }
     {
-        match self.texts.put(alloc, &mut self.files, path, text) {
+        match self.recorded.put(alloc, path, text) {
             Ok(()) => Ok(()),
             Err(VfsError::TooMany) => Err(LiveError::TooMany(Limit::Paths)),
             Err(VfsError::OutOfMemory) => Err(LiveError::OutOfMemory),
@@ -257,12 +246,12 @@ impl Live {
     fn exclude(&mut self, path: VfsPath) -> Result<(), LiveError>
         ensures ok { OnOk result (AddsMarkTo self.old self.new
             (record { path = path; kind = Out })) }
-        ensures room { OnOk result (¬ (IsFullFor self.old.files path)) }
-        ensures too_many { IsErrOf result (TooMany Paths) → IsFullFor self.old.files path }
+        ensures room { OnOk result (¬ (IsFullFor self.old.recorded.files path)) }
+        ensures too_many { IsErrOf result (TooMany Paths) → IsFullFor self.old.recorded.files path }
         ensures only { IfErr result (λ e. (e ≡ OutOfMemory) ⊎ (e ≡ TooMany Paths)) }
         ensures err { OnErr result (self.new ≡ self.old) }
     {
-        match self.texts.exclude(&mut self.files, path) {
+        match self.recorded.exclude(path) {
             Ok(()) => Ok(()),
             Err(VfsError::TooMany) => Err(LiveError::TooMany(Limit::Paths)),
             Err(VfsError::OutOfMemory) => Err(LiveError::OutOfMemory),

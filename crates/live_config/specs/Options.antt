@@ -152,7 +152,7 @@ abbrev pub split_texts : Option (Bor (List ℕ) × Bor (List (String Global))) �
 split_texts split = option_map (λ found. (found.0.now, map string_bytes found.1.now)) split
 
 -- the value of an option, and the words that follow it
-abbrev pub value_of : OptionForm → List (List ℕ) → Option (List ℕ × List (List ℕ))
-value_of Flag words = Some ([], words)
-value_of Valued [] = None
-value_of Valued (value ∷ words) = Some (value, words)
+abbrev pub option_value : OptionForm → List (List ℕ) → Option (List ℕ × List (List ℕ))
+option_value Flag words = Some ([], words)
+option_value Valued [] = None
+option_value Valued (value ∷ words) = Some (value, words)

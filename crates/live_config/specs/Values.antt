@@ -6,7 +6,7 @@ use Rattle.std.specs.Option.{option_map}
 use Rattle.std.specs.Str.{bytes_eq}
 use Rattle.std.specs.Str.Parse.{digits_value}
 use Rattle.base_text_outside.specs.Cfg.{is_equals}
-use Rattle.base_text_paths.specs.Paths.{components, is_absolute, path_text}
+use Rattle.base_text_paths.specs.Paths.{if_absolute}
 use Rattle.base_values.specs.ByText.{with_value}
 use Rattle.base_text.specs.Tools.{Variables}
 
@@ -31,7 +31,7 @@ feature_names text =
 
 -- the clean path of a text that begins with `/`
 unfoldable pub absolute_option_path : List ℕ → Option (List ℕ)
-absolute_option_path text = if is_absolute text then Some (path_text (components text)) else None
+absolute_option_path text = if_absolute text (λ path. Some path) None
 
 -- these paths and one more
 abbrev pub with_option_path : List (List ℕ) → List ℕ → Option (List (List ℕ))

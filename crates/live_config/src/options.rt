@@ -2,7 +2,7 @@
 
 ghost use Rattle.std.specs.Prelude.{◌≡◌, ◌≤◌, IfOk, IfSome, IsErrOf, OnErr, OnOk, map, string_bytes, Some, None};
 ghost use Rattle.live_config.specs.Config.{features_by, limits_by, set_by};
-ghost use Rattle.live_config.specs.Options.{FitsGiven, flag_row, has_conflict, nothing_given, given_options, with_flag, option_row, set_once, split_texts, value_of, valued_row};
+ghost use Rattle.live_config.specs.Options.{FitsGiven, flag_row, has_conflict, nothing_given, given_options, with_flag, option_row, set_once, split_texts, option_value, valued_row};
 ghost use Rattle.live_config.specs.Options.{with_limit, with_option, with_options};
 ghost use Rattle.live_config.specs.Values.{number_up_to};
 
@@ -85,8 +85,8 @@ fn row_of(word: &str) -> Option<OptionRow>
 }
 
 // The value of an option, which is empty for a flag, and the words that follow it.
-fn value_of(form: OptionForm, words: &[String]) -> Option<(&str, &[String])>
-    ensures { split_texts result ≡ value_of form (map string_bytes words.now) }
+fn option_value(form: OptionForm, words: &[String]) -> Option<(&str, &[String])>
+    ensures { split_texts result ≡ option_value form (map string_bytes words.now) }
 {
     match form {
         OptionForm::Flag => Some(("", words)),
@@ -181,7 +181,7 @@ impl Given {
             let Some(row) = row_of(word) else {
                 return Err(WordsError::Usage);
             };
-            let Some((value, more)) = value_of(row.form, after) else {
+            let Some((value, more)) = option_value(row.form, after) else {
                 return Err(WordsError::Usage);
             };
             self.take(alloc, row.option, value)?;

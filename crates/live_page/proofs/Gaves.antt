@@ -13,7 +13,7 @@ use Rattle.live_page.specs.Pieces.{MovesToLine, ReadsWithin}
 use Rattle.live_page.specs.Reader.{ScriptReader, GaveScriptLines, IsPast, IsPastLimit, TellsScriptLine, TooManyExactly, bytes_ahead, fresh, script_lines_after}
 use Rattle.live_page.specs.declared.lines.LineError.{LineError}
 use Rattle.live_page.specs.declared.lines.LineError.TheVariants.{ReadFault, TooMany, OutOfMemory, Ended}
-use Rattle.base_text_outside.specs.Source.{Knows-after, Knows-all}
+use Rattle.base_text_outside.specs.Source.{SourceShows-after, SourceShows-all}
 use Rattle.std.proofs.Math.Seq.{take-append-add, take-append_seam}
 
 -- a reader by its fields: a line that is being read, and what was not looked at
@@ -160,7 +160,7 @@ module _ (limit : ℕ) (left' : Option (List ℕ)) (given : List (List ℕ)) (al
   -- the rest of the source
   spent_past : GaveScriptLines limit (Some all) left' given reader' → reader'.is_past ≡ true → has_newline reader'.waiting ≡ false → IsPastLimit limit given all
   spent_past gave past uncut =
-      let after = Knows-after (Some all) left' all _ refl gave.taken in
+      let after = SourceShows-after (Some all) left' all _ refl gave.taken in
       let one : IsPast true reader'.room gave.beyond = subst (λ p. IsPast p reader'.room gave.beyond) past gave.past in
       let whole : all ≡ (gave.front ++ reader'.waiting) ++ (gave.beyond ++ after.0) = after.1 ∙ append_assoc gave.front (reader'.waiting ++ gave.beyond) after.0
       ∙ ap (λ r. gave.front ++ r) (append_assoc reader'.waiting gave.beyond after.0) ∙ sym (append_assoc gave.front reader'.waiting (gave.beyond ++ after.0)) in
@@ -179,13 +179,13 @@ module _ (limit : ℕ) (left' : Option (List ℕ)) (given : List (List ℕ)) (al
   done_within gave done =
       let cut : IsCut true gave.front (reader'.waiting ++ gave.beyond) left' = subst (λ d. IsCut d gave.front (reader'.waiting ++ gave.beyond) left') done gave.cut in
       let whole : Consumes (Some all) left' gave.front = subst (Consumes (Some all) left') (ap (λ r. gave.front ++ r) cut.0 ∙ append-nil gave.front) gave.taken in
-      let ends : all ≡ gave.front = Knows-all (Some all) left' all gave.front refl whole cut.1 in
+      let ends : all ≡ gave.front = SourceShows-all (Some all) left' all gave.front refl whole cut.1 in
       omega (arith, ap length ends, gave.within)
 
   -- and where one more line was given it ended within the limit
   line_within : (line : List ℕ) → GaveScriptLines limit (Some all) left' (given ++ line ∷ []) reader' → IsPastLimit limit given all → ⊥
   line_within line gave spent =
-      let after = Knows-after (Some all) left' all _ refl gave.taken in
+      let after = SourceShows-after (Some all) left' all _ refl gave.taken in
       let rest = (reader'.waiting ++ gave.beyond) ++ after.0 in
       let whole : all ≡ gave.front ++ rest = after.1 ∙ append_assoc gave.front (reader'.waiting ++ gave.beyond) after.0 in
       let cut_at : limit ≡ length gave.front + (limit - length gave.front) = omega (arith, gave.within) in
@@ -193,7 +193,7 @@ module _ (limit : ℕ) (left' : Option (List ℕ)) (given : List (List ℕ)) (al
       elim reader'.is_done as (λ d. IsCut d gave.front (reader'.waiting ++ gave.beyond) left' → ⊥) [
         | true ↦ λ cut.
             let read : Consumes (Some all) left' gave.front = subst (Consumes (Some all) left') (ap (λ r. gave.front ++ r) cut.0 ∙ append-nil gave.front) gave.taken in
-            let ends : all ≡ gave.front = Knows-all (Some all) left' all gave.front refl read cut.1 in
+            let ends : all ≡ gave.front = SourceShows-all (Some all) left' all gave.front refl read cut.1 in
             omega (arith, spent.past, ap length ends, gave.within)
         | false ↦ λ cut.
             let more = whole_lines-append gave.front (take (limit - length gave.front) rest) in

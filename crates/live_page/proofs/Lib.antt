@@ -5,12 +5,14 @@ mod Called
 pub mod Distinct
 pub mod FlushShown
 pub mod Gaves
+pub mod GeneratedLemmas
 pub mod GraphEntries
 pub mod Members
 pub mod Pages
 pub mod Parts
 pub mod Placed
 pub mod Ranges
+pub mod ScriptLemmas
 pub mod Shown
 pub mod Stable
 pub mod Taken

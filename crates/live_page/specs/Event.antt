@@ -7,7 +7,8 @@ use Rattle.base_text_paths.specs.Paths.{normal, path_text}
 use Rattle.base_text_outside.specs.declared.command.Output.{Output}
 use Rattle.json_fields.specs.Document.{bytes_document}
 use Rattle.json_fields.specs.Fields.{default_member, flag_at, list_at, members_at, optional_member, required_member, text_at}
-use Rattle.json_fields.specs.Outcome.{Reading, ◌>>=◌}
+use Rattle.base_values.specs.Outcome.{◌>>=◌}
+use Rattle.json_fields.specs.Outcome.{Reading}
 use Rattle.vfs_core.specs.VfsPath.{PathContent}
 use Rattle.live_page.specs.declared.event.Event.{Event}
 use Rattle.live_page.specs.declared.event.Event.TheVariants.{Answer, Build, Exclude, File, Flush, Load}

@@ -1,6 +1,8 @@
 pub mod Entries
 pub mod Event
 pub mod FlushPage
+pub mod Generated
+pub mod GeneratedScript
 pub mod Page
 pub mod Pieces
 pub mod Reader

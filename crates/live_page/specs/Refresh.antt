@@ -50,7 +50,7 @@ pub record KeepsDatabaseCrates (old new : Database) : Type 0 where
   pub writes : new.writes ≡ old.writes
 
 -- the crates of a graph are set in a database that has the crates of an old one, and nothing else is written
-pub record SetsGraph (cmp : Id → Id → Ordering) (graph : Graph) (old new : Database) : Type 0 where
+pub record RefreshesGraph (cmp : Id → Id → Ordering) (graph : Graph) (old new : Database) : Type 0 where
   pub before : Database
   pub kept : KeepsDatabaseCrates old before
   pub ids : tree.BTreeMap Id ℕ
@@ -59,7 +59,7 @@ pub record SetsGraph (cmp : Id → Id → Ordering) (graph : Graph) (old new : D
 -- the crates of a graph are set, where one is given; else they stay
 abbrev pub GivesCrates : (Id → Id → Ordering) → Option Graph → Database → Database → Type 0
 GivesCrates cmp None old new = KeepsDatabaseCrates old new
-GivesCrates cmp (Some graph) old new = SetsGraph cmp graph old new
+GivesCrates cmp (Some graph) old new = RefreshesGraph cmp graph old new
 
 -- each identity that has a crate in a table keeps it, and each crate its identity
 pub record KeepsIdentities (old new : Table) : Type 0 where

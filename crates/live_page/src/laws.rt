@@ -1,4 +1,4 @@
-//! Laws of entries. Each is a function that does nothing: its contract is the law.
+//! Laws of entries. Each is a function that changes nothing: its contract is the law.
 
 ghost use Rattle.base_values.specs.Equality.{IsContentEquality};
 

@@ -33,7 +33,8 @@ pub fn live_top<S: ByteSource, K: ByteSink, E: ByteSink>(
     ensures usage { UsageExactly (asked_by words.now).work result
         ((input.new ≡ input.old) × (out.new ≡ out.old)) }
     ensures taken { TakesFor (asked_by words.now) (S.left input.old, S.left input.new) }
-    ensures complete { IsFaultless (S.faults input.old, S.faults input.new) (K.faults out.old, K.faults out.new)
+    ensures complete { IsFaultless (S.faults input.old, S.faults input.new)
+        (K.faults out.old, K.faults out.new)
         → CompletesAs (asked_by words.now) first_state (S.left input.old) result }
 {
     match Live::new(alloc) {

@@ -3,7 +3,7 @@ use Rattle.std.proofs.Common.{◌≡◌, ℕ, ◌+◌, ◌≤◌, true, false, c
 use Rattle.std.specs.List.{All, enumerate_from, fold}
 use Rattle.std.specs.Map.{lookup}
 use Rattle.std.specs.Option.{option_and_then, option_map, option_to_list}
-use Rattle.std.specs.Prelude.{nat_lt, slice_get}
+use Rattle.std.specs.Prelude.{slice_get}
 use Rattle.std.proofs.lemmas.Bool.{cond_both}
 use Rattle.std.proofs.lemmas.Bool.Decides.{nat_tests}
 use Rattle.std.proofs.lemmas.List.Elements.{All-append, All-cons, All-head, All-map, All-nil, All-tail, All-weaker}
@@ -14,7 +14,6 @@ use Rattle.base_text_paths.specs.declared.arena.Idx.{Idx}
 use Rattle.base_text_paths.specs.PathOrder.{path_eq}
 use Rattle.crate_graph.specs.Graph.{Graph}
 use Rattle.crate_graph_values.specs.declared.builder.CrateBuilder.{CrateBuilder}
-use Rattle.crate_graph_values.specs.declared.workspace_data.CrateWorkspaceData.{CrateWorkspaceData}
 use Rattle.pm_cargo.specs.Workspace.{Workspace}
 use Rattle.pm_lower_crates.specs.DetachedLowering as detached
 use Rattle.pm_json.specs.Queries.{crates_in}
@@ -22,19 +21,20 @@ use Rattle.pm_json.specs.declared.krate.Crate as document
 use Rattle.pm_json.specs.declared.project_json.ProjectJson.{ProjectJson}
 use Rattle.pm_lower_crates.specs.JsonLowering as json
 use Rattle.pm_lower_crates.specs.JsonRows as json_rows
-use Rattle.pm_lower_crates.specs.JsonWantedEdges as json_edges
 use Rattle.pm_lower_crates.specs.Loader as by_path
 use Rattle.pm_lower.specs.ProjectWorkspace.{script_workspace}
-use Rattle.pm_lower.specs.ToCrateGraph.{kind_lowering, shared_of}
+use Rattle.pm_lower.specs.ToCrateGraph.{facts_with, kind_rows, project_rows, shared_of}
+use Rattle.pm_lower.specs.declared.project_workspace.ProjectWorkspace.{ProjectWorkspace}
 use Rattle.pm_lower.specs.declared.project_workspace.ProjectWorkspaceKind.{ProjectWorkspaceKind}
 use Rattle.pm_lower.specs.declared.project_workspace.ProjectWorkspaceKind.TheVariants.{Cargo, Json, DetachedFile}
 use Rattle.pm_cargo_packages.specs.declared.package.PackageData.{PackageData}
 use Rattle.pm_cargo_packages.specs.declared.target.TargetData.{TargetData}
 use Rattle.pm_cargo_packages.specs.declared.target.TargetTag.{TargetTag}
-use Rattle.pm_lower_crates.specs.KeptEdges.{kept_edges}
-use Rattle.pm_lower_crates.specs.Lowering.{Crate, IsLowered, crate_of_row, crate_seen, crates_of_rows, lowering, named_crates}
-use Rattle.pm_lower_crates.specs.Rows.{Row, live_target, live_targets, may_be_row, owner, owners_from, parts, root_file, row_at, rows_from, rows_of, rows_of_parts}
-use Rattle.pm_lower_crates.specs.WantedEdges.{bad_names, wanted_edges}
+use Rattle.pm_lower_crates.specs.Facts.{Facts}
+use Rattle.pm_lower_crates.specs.KeptEdges.{deps_of, kept_edges}
+use Rattle.pm_lower_crates.specs.Lowering.{Crate, IsLowered, ProjectPart, both, cargo_rows, crate_seen, crates_from, lowered, no_project_part, refusal, row_crate, unless_refused, wanted_edges, with_deps}
+use Rattle.pm_lower_crates.specs.Rows.{Row, live_target, live_targets, may_be_row, owner, owners_from, root_file, row_at, rows_from, rows_of}
+use Rattle.pm_lower_crates.specs.WantedEdges.{Edge, Public, no_public}
 use Rattle.pm_lower_crates.specs.declared.lower_error.LowerError.{LowerError}
 use Rattle.vfs_core.specs.declared.file_state.FileState.{FileState}
 use Rattle.vfs_core.specs.FileState.{is_existing}
@@ -71,6 +71,24 @@ module _ (P : ℕ → Type 0) where
 
   -- ---- the rows of a project, and its crates
 
+  -- the rows of a part begin in such files
+  abbrev PartBegins : ProjectPart → Type 0
+  PartBegins part = All (λ (krate : Crate). P krate.root) part.rows
+
+  with-deps : (kept : List Edge) (n : ℕ) (bare : List Crate) → All (λ (krate : Crate). P krate.root) bare → All (λ (krate : Crate). P krate.root) (with_deps kept n bare)
+  with-deps kept n [] all = All-nil (λ (krate : Crate). P krate.root)
+  with-deps kept n (c ∷ cs) all =
+      All-cons (λ (krate : Crate). P krate.root) (record c { deps = deps_of kept n }) (with_deps kept (n + 1) cs)
+      (All-head (λ (krate : Crate). P krate.root) c cs all) (with-deps kept (n + 1) cs (All-tail (λ (krate : Crate). P krate.root) c cs all))
+
+  crates-begin : (n : ℕ) (part : ProjectPart) → PartBegins part → All (λ (krate : Crate). P krate.root) (crates_from n part)
+  unfolding crates_from
+  crates-begin n part all = with-deps (kept_edges (wanted_edges part)) n part.rows all
+
+  unless-begins : (refused : Option LowerError) (crates : List Crate) → All (λ (krate : Crate). P krate.root) crates → IfOk (unless_refused refused crates) (λ crates. All (λ krate. P krate.root) crates)
+  unless-begins None crates all = all
+  unless-begins (Some e) crates all = tt
+
   module _ (files : by_path.FileNumbers) (all : AllFiles files) (w : Workspace) where
     root-of : (of : PackageData) (target : TargetData) → IfSome (root_file files w of target) P
     unfolding root_file
@@ -102,85 +120,66 @@ module _ (P : ℕ → Type 0) where
         All-append (λ (t : ℕ × TargetData × ℕ). P t.2) (option_to_list (option_map (λ t. (id.0, t.0, t.1)) (live_target files w of id.1))) _
         (one-target id.0 (live_target files w of id.1) (target-of of id.1)) (targets-of of ids)
 
-    rows-from : (of : PackageData) (n : ℕ) (ts : List (ℕ × TargetData × ℕ)) → All (λ (t : ℕ × TargetData × ℕ). P t.2) ts → All (λ (row : Row). P row.file) (rows_from of n ts)
-    rows-from of n [] all_ts = All-nil (λ (row : Row). P row.file)
-    rows-from of n (t ∷ ts) all_ts =
-        All-cons (λ (row : Row). P row.file) (row_at of t n) (rows_from of (n + 1) ts) (All-head (λ (t : ℕ × TargetData × ℕ). P t.2) t ts all_ts) (rows-from of (n + 1) ts (All-tail (λ (t : ℕ × TargetData × ℕ). P t.2) t ts all_ts))
+    rows-from : (p : ℕ) (of : PackageData) (n : ℕ) (ts : List (ℕ × TargetData × ℕ)) → All (λ (t : ℕ × TargetData × ℕ). P t.2) ts → All (λ (row : Row). P row.file) (rows_from p of n ts)
+    rows-from p of n [] all_ts = All-nil (λ (row : Row). P row.file)
+    rows-from p of n (t ∷ ts) all_ts =
+        All-cons (λ (row : Row). P row.file) (row_at p of t n) (rows_from p of (n + 1) ts) (All-head (λ (t : ℕ × TargetData × ℕ). P t.2) t ts all_ts) (rows-from p of (n + 1) ts (All-tail (λ (t : ℕ × TargetData × ℕ). P t.2) t ts all_ts))
 
-    owner-rows : (n : ℕ) (of : PackageData) → All (λ (row : Row). P row.file) (owner files w n of).rows
+    owner-rows : (p n : ℕ) (of : PackageData) → All (λ (row : Row). P row.file) (owner files w p n of).rows
     unfolding owner
-    owner-rows n of = rows-from of n (live_targets files w of (enumerate_from 0 of.targets)) (targets-of of (enumerate_from 0 of.targets))
+    owner-rows p n of = rows-from p of n (live_targets files w of (enumerate_from 0 of.targets)) (targets-of of (enumerate_from 0 of.targets))
 
-    owners-rows : (n : ℕ) (ps : List PackageData) → All (λ (row : Row). P row.file) (rows_of (owners_from files w n ps))
-    owners-rows n [] = All-nil (λ (row : Row). P row.file)
-    owners-rows n (p ∷ ps) =
-        All-append (λ (row : Row). P row.file) (owner files w n p).rows (rows_of (owners_from files w (n + length (owner files w n p).rows) ps))
-        (owner-rows n p) (owners-rows (n + length (owner files w n p).rows) ps)
+    owners-rows : (p n : ℕ) (packages : List PackageData) → All (λ (row : Row). P row.file) (rows_of (owners_from files w p n packages))
+    owners-rows p n [] = All-nil (λ (row : Row). P row.file)
+    owners-rows p n (of ∷ more) =
+        All-append (λ (row : Row). P row.file) (owner files w p n of).rows (rows_of (owners_from files w (p + 1) (n + length (owner files w p n of).rows) more))
+        (owner-rows p n of) (owners-rows (p + 1) (n + length (owner files w p n of).rows) more)
 
-    crates-begin : (shared : CrateWorkspaceData) → All (λ krate. P krate.root) (crates_of_rows shared (parts files w))
-    unfolding crates_of_rows
-    crates-begin shared =
-        let kept = kept_edges (wanted_edges (parts files w)) in
-        let rows = rows_of (owners_from files w 0 w.packages) in
-        All-append (λ (krate : Crate). P krate.root) (map (crate_of_row w shared kept) rows) []
-        (All-map (λ (krate : Crate). P krate.root) (crate_of_row w shared kept) rows (owners-rows 0 w.packages)) (All-nil (λ krate. P krate.root))
-
-    named-begin : (shared : CrateWorkspaceData) (bad : Option (List ℕ)) → IfOk (named_crates shared (parts files w) bad) (λ crates. All (λ krate. P krate.root) crates)
-    named-begin shared None = crates-begin shared
-    named-begin shared (Some name) = tt
-
-    lowering-begins : (shared : CrateWorkspaceData) (limit : ℕ) → IfOk (lowering files w shared limit) (λ crates. All (λ krate. P krate.root) crates)
-    unfolding lowering
-    lowering-begins shared limit =
-        cond_both (nat_lt limit (length (rows_of_parts (parts files w)))) _ (named_crates shared (parts files w) (slice_get (bad_names (parts files w)) 0))
-        (λ r. IfOk r (λ crates. All (λ krate. P krate.root) crates))
-        (λ more. tt) (λ few. named-begin shared (slice_get (bad_names (parts files w)) 0))
+    cargo-begins : (facts : Facts) (public : Public) (n : ℕ) → PartBegins (cargo_rows files facts public n w)
+    unfolding cargo_rows
+    cargo-begins facts public n = All-map (λ (krate : Crate). P krate.root) (row_crate facts w) (rows_of (owners_from files w 0 n w.packages)) (owners-rows 0 n w.packages)
 
   -- ---- the crates of a JSON project, and that of a detached file
 
   module _ (files : by_path.FileNumbers) (all : AllFiles files) where
-    json-row : (n : ℕ) (krate : document.Crate) → All (λ (row : json_rows.JsonRow). P row.file) (option_to_list (json_rows.json_row files n krate))
+    json-row : (k n : ℕ) (krate : document.Crate) → All (λ (row : json_rows.JsonRow). P row.file) (option_to_list (json_rows.json_row files k n krate))
     unfolding Rattle.pm_lower_crates.specs.JsonRows.json_row
-    json-row n krate = by (by_path.file_number files krate.root_module) (All-lookup P (path_eq (by_path.path_key krate.root_module)) files all)
+    json-row k n krate = by (by_path.file_number files krate.root_module) (All-lookup P (path_eq (by_path.path_key krate.root_module)) files all)
       where
-        by : (file : Option ℕ) → IfSome file P → All (λ (row : json_rows.JsonRow). P row.file) (option_to_list (option_map (json_rows.row_in n krate) file))
+        by : (file : Option ℕ) → IfSome file P → All (λ (row : json_rows.JsonRow). P row.file) (option_to_list (option_map (json_rows.row_in k n krate) file))
         by None none = All-nil (λ (row : json_rows.JsonRow). P row.file)
-        by (Some file) p = All-cons (λ (row : json_rows.JsonRow). P row.file) (json_rows.row_in n krate file) [] p (All-nil (λ (row : json_rows.JsonRow). P row.file))
+        by (Some file) p = All-cons (λ (row : json_rows.JsonRow). P row.file) (json_rows.row_in k n krate file) [] p (All-nil (λ (row : json_rows.JsonRow). P row.file))
 
-    json-rows : (n : ℕ) (crates : List document.Crate) → All (λ (row : json_rows.JsonRow). P row.file) (json_rows.rows_among (json_rows.json_rows_from files n crates))
-    json-rows n [] = All-nil (λ (row : json_rows.JsonRow). P row.file)
-    json-rows n (krate ∷ crates) =
-        let row = json_rows.json_row files n krate in
+    json-rows : (k n : ℕ) (crates : List document.Crate) → All (λ (row : json_rows.JsonRow). P row.file) (json_rows.rows_among (json_rows.json_rows_from files k n crates))
+    json-rows k n [] = All-nil (λ (row : json_rows.JsonRow). P row.file)
+    json-rows k n (krate ∷ crates) =
+        let row = json_rows.json_row files k n krate in
         let next = n + length (option_to_list row) in
-        All-append (λ (row : json_rows.JsonRow). P row.file) (option_to_list row) (json_rows.rows_among (json_rows.json_rows_from files next crates)) (json-row n krate) (json-rows next crates)
+        All-append (λ (row : json_rows.JsonRow). P row.file) (option_to_list row) (json_rows.rows_among (json_rows.json_rows_from files (k + 1) next crates)) (json-row k n krate) (json-rows (k + 1) next crates)
 
-    json-begins : (project : ProjectJson) (shared : CrateWorkspaceData) (limit : ℕ) → IfOk (json.json_lowering files project shared limit) (λ crates. All (λ krate. P krate.root) crates)
-    unfolding Rattle.pm_lower_crates.specs.JsonLowering.json_lowering Rattle.pm_lower_crates.specs.JsonLowering.json_crates_of_rows
-    json-begins project shared limit =
-        let rows = json_rows.rows_among (json_rows.rows_by_place files project) in
-        let kept = kept_edges (json_edges.json_wanted_edges (json_rows.rows_by_place files project)) in
-        cond_both (nat_lt limit (length rows)) _ (Ok (map (json.json_crate_of_row project shared kept) rows)) (λ (r : Result (List Crate) LowerError). IfOk r (λ crates. All (λ (krate : Crate). P krate.root) crates))
-        (λ more. tt) (λ few. All-map (λ (krate : Crate). P krate.root) (json.json_crate_of_row project shared kept) rows (json-rows 0 (crates_in project)))
+    json-begins : (facts : Facts) (public : Public) (n : ℕ) (project : ProjectJson) → PartBegins (json.json_rows files facts public n project)
+    unfolding Rattle.pm_lower_crates.specs.JsonLowering.json_rows
+    json-begins facts public n project =
+        All-map (λ (krate : Crate). P krate.root) (json.json_row_crate facts project) (json_rows.rows_among (json_rows.rows_by_place files n project)) (json-rows 0 n (crates_in project))
 
-    alone-begins : (file : List ℕ) (shared : CrateWorkspaceData) (number : Option ℕ) → IfSome number P → All (λ (krate : Crate). P krate.root) (detached.crates_of_file file shared number)
-    unfolding Rattle.pm_lower_crates.specs.DetachedLowering.crates_of_file
-    alone-begins file shared None none = All-nil (λ (krate : Crate). P krate.root)
-    alone-begins file shared (Some number) p = All-cons (λ (krate : Crate). P krate.root) (detached.crate_of_file file shared number) [] p (All-nil (λ (krate : Crate). P krate.root))
+    alone-begins : (facts : Facts) (public : Public) (n : ℕ) (file : List ℕ) (number : Option ℕ) → IfSome number P → PartBegins (detached.file_part facts public n file number)
+    alone-begins facts public n file None none = All-nil (λ (krate : Crate). P krate.root)
+    alone-begins facts public n file (Some number) p = All-cons (λ (krate : Crate). P krate.root) (detached.file_crate facts file number) [] p (All-nil (λ (krate : Crate). P krate.root))
 
-    detached-begins : (file : List ℕ) (cargo : Option Workspace) (shared : CrateWorkspaceData) (limit : ℕ)
-        → IfOk (detached.detached_lowering files file cargo shared limit) (λ crates. All (λ krate. P krate.root) crates)
-    unfolding Rattle.pm_lower_crates.specs.DetachedLowering.within_limit
-    detached-begins file None shared limit =
-        let crates = detached.crates_of_file file shared (by_path.file_number files file) in
-        cond_both (nat_lt limit (length crates)) _ (Ok crates) (λ (r : Result (List Crate) LowerError). IfOk r (λ crates. All (λ (krate : Crate). P krate.root) crates))
-        (λ more. tt) (λ few. alone-begins file shared (by_path.file_number files file) (All-lookup P (path_eq (by_path.path_key file)) files all))
-    detached-begins file (Some w) shared limit = lowering-begins files all w shared limit
+    detached-begins : (facts : Facts) (public : Public) (n : ℕ) (file : List ℕ) (cargo : Option Workspace) → PartBegins (detached.detached_rows files facts public n file cargo)
+    detached-begins facts public n file None = alone-begins facts public n file (by_path.file_number files file) (All-lookup P (path_eq (by_path.path_key file)) files all)
+    detached-begins facts public n file (Some w) = cargo-begins files all w facts public n
 
-  kind-begins : (files : by_path.FileNumbers) → AllFiles files → (kind : ProjectWorkspaceKind) (shared : CrateWorkspaceData) (limit : ℕ)
-      → IfOk (kind_lowering files kind shared limit) (λ crates. All (λ krate. P krate.root) crates)
-  kind-begins files all (Cargo cargo error scripts rustc) shared limit = lowering-begins files all cargo shared limit
-  kind-begins files all (Json project) shared limit = json-begins files all project shared limit
-  kind-begins files all (DetachedFile file script) shared limit = detached-begins files all file (script_workspace script) shared limit
+    kind-begins : (facts : Facts) (public : Public) (n : ℕ) (kind : ProjectWorkspaceKind) → PartBegins (kind_rows files facts public n kind)
+    kind-begins facts public n (Cargo cargo error scripts rustc) = cargo-begins files all cargo facts public n
+    kind-begins facts public n (Json project) = json-begins facts public n project
+    kind-begins facts public n (DetachedFile file script) = detached-begins facts public n file (script_workspace script)
+
+    project-begins : (limit : ℕ) (p : ProjectWorkspace) → IfOk (lowered limit no_project_part 0 (project_rows files p)) (λ crates. All (λ krate. P krate.root) crates)
+    unfolding lowered
+    project-begins limit p =
+        let part = both no_project_part (project_rows files p) in
+        unless-begins (refusal limit no_project_part 0 (project_rows files p)) (crates_from 0 part) (crates-begin 0 part (kind-begins (facts_with (shared_of p) p.kind) no_public 0 p.kind))
 
   -- the crates of a graph as the definition has them
   seen-begins : (crates : List CrateBuilder) → All (λ krate. P krate.root) (map crate_seen crates) → All (λ krate. P krate.basic.root_file_id) crates
@@ -229,7 +228,7 @@ IsFound files number = (path : PathContent) × (lookup (nat_eq number) files ≡
 
 -- each crate of a lowered project begins in a file that exists
 pub begin_in : (p : ProjectContent) (files : Files) (loader : by_path.FileNumbers) (limit : ℕ) (result : Result Graph LowerError)
-    → loader ≡ files_by_path (existing_files files) → IsLowered limit result (lowered_by p loader)
+    → loader ≡ files_by_path (existing_files files) → IsLowered limit result (lowered_by p loader).crates
     → IfOk result (λ graph. BeginIn (existing_files files) graph.crates)
 unfolding files_by_path
 begin_in p files loader limit (Ok graph) is lowered =
@@ -238,5 +237,5 @@ begin_in p files loader limit (Ok graph) is lowered =
     let all : All (λ e. IsFound shown e.1) loader = subst (All (λ (e : List ℕ × ℕ). IsFound shown e.1)) (sym is) (put-all (IsFound shown) [] shown (All-nil (λ e. IsFound shown e.1)) found) in
     seen-begins (IsFound shown) graph.crates
     (subst (λ r. IfOk r (λ crates. All (λ krate. IsFound shown krate.root) crates)) lowered.crates_are
-    (kind-begins (IsFound shown) loader all p.workspace.kind (shared_of p.workspace) p.sources.config.limits.crates))
+    (project-begins (IsFound shown) loader all p.sources.config.limits.crates p.workspace))
 begin_in p files loader limit (Err error) is lowered = tt

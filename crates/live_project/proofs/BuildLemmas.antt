@@ -2,7 +2,8 @@
 use Rattle.std.proofs.Common.{◌≡◌, Some, None, Ok, Err, inl, inr, refl, sym, ap, subst, ◌∙◌}
 use Rattle.base_text_outside.specs.declared.command.Output.{Output}
 use Rattle.pm_tools.specs.Outputs.{BuildScripts}
-use Rattle.pm_tools.specs.Reading.{Reading, ◌>>=◌}
+use Rattle.base_values.specs.Outcome.{◌>>=◌}
+use Rattle.pm_tools.specs.Reading.{Reading}
 use Rattle.pm_lower.specs.Builds.{TakesBuild, built_workspace, kind_with_build_scripts, no_scripts, outputs_for, project_outputs}
 use Rattle.pm_lower.specs.declared.project_workspace.ProjectWorkspaceKind.{ProjectWorkspaceKind}
 use Rattle.pm_lower.specs.declared.project_workspace.ProjectWorkspaceKind.TheVariants.{Cargo, Json, DetachedFile}
@@ -37,7 +38,7 @@ built_with : (p between : ProjectContent) (reading : Reading BuildScripts) (seco
 built_with p between (Ok scripts) second is =
     let same : with_build p scripts ≡ between = cc in
     subst (λ b. built_project b second ≡ built_project p second) same
-    (ap (λ reading. reading >>= λ new. Ok (with_build (with_build p scripts) new)) (same_outputs p.workspace.kind scripts second)
+    (ap (λ (reading : Reading BuildScripts). reading >>= λ new. Ok (with_build (with_build p scripts) new)) (same_outputs p.workspace.kind scripts second)
     ∙ rest (project_outputs p.workspace second))
   where
     rest : (outputs : Reading BuildScripts) → (outputs >>= λ new. Ok (with_build (with_build p scripts) new)) ≡ (outputs >>= λ new. Ok (with_build p new))

@@ -1,8 +1,7 @@
 -- What every project keeps, after a build too.
-use Rattle.std.proofs.Common.{◌≡◌, ℕ, suc, ◌≤◌, ◌^◌, ◌∙◌, List, None, Some, Ok, ap, length, length-append, refl, sym, arith}
+use Rattle.std.proofs.Common.{◌≡◌, ℕ, suc, ◌≤◌, ◌^◌, ◌∙◌, List, None, Some, ap, length, length-append, refl, sym, arith}
 use Rattle.std.proofs.lemmas.List.{length-map}
 use Rattle.live_config.specs.Config.{Fits}
-use Rattle.pm_lower.specs.ReadProject.{read_project}
 use Rattle.pm_tools.specs.Outputs.{BuildScripts}
 use Rattle.pm_lower.specs.Builds.{with_build_scripts, kind_with_build_scripts}
 use Rattle.pm_lower.specs.ToRoots.{KindHasNoRustc, kind_roots, out_dir_at, project_roots, sysroot_roots}
@@ -12,15 +11,12 @@ use Rattle.pm_lower.specs.declared.project_workspace.ProjectWorkspaceKind.TheVar
 use Rattle.live_project.specs.Build.{with_build}
 use Rattle.live_project.specs.Project.{IsLoaded, ProjectContent}
 use Rattle.live_project.specs.Roots.{file_root, roots_of_project}
-use Rattle.live_project.specs.Sources.{means_of_sources}
 use Rattle.live_project.specs.declared.sources.Sources.{Sources}
-use Rattle.pm_tools_ask.specs.declared.project_manifest.ProjectManifest.{ProjectManifest}
-use Rattle.live_project.proofs.ReadLemmas.{as_many, is_small}
+use Rattle.pm_lower_load.proofs.RootCounts.{as_many}
+use Rattle.pm_lower.specs.Small.{IsSmall}
 
-pub is_loaded : (s : Sources) (manifest : ProjectManifest) (workspace : ProjectWorkspace) → Fits s.config
-    → read_project manifest s.config.cargo s.config.limits (means_of_sources s) ≡ Ok workspace → IsLoaded (record { sources = s; workspace = workspace })
-is_loaded s manifest workspace fits read =
-    let small = is_small manifest s.config.cargo s.config.limits (means_of_sources s) workspace read in
+pub is_loaded : (s : Sources) (workspace : ProjectWorkspace) → Fits s.config → IsSmall s.config.limits workspace → IsLoaded (record { sources = s; workspace = workspace })
+is_loaded s workspace fits small =
     let count : length (roots_of_project workspace) ≡ length (project_roots workspace) = length-map (project_roots workspace) file_root in
     let most : s.config.limits.packages ≤ 2 ^ 16 = fits.limits.packages in
     let most_crates : s.config.limits.crates ≤ 2 ^ 18 = fits.limits.crates in

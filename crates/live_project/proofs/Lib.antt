@@ -1,9 +1,11 @@
 pub mod BeginLemmas
 pub mod BuildLemmas
-pub mod DocumentLemmas
+pub mod Existing
 pub mod FewRoots
-pub mod JsonLemmas
+pub mod KeptTree
 pub mod Limited
 pub mod LiveFileLemmas
 pub mod LoadLemmas
-pub mod ReadLemmas
+pub mod SaidLemmas
+pub mod SharedRows
+pub mod TextRows

@@ -2,18 +2,14 @@
 use Rattle.std.proofs.Common.{◌≡◌, ℕ, Bool, true, false, cond, List, Some, None, Err, refl, sym, ap, ◌∙◌, true≢false}
 use Rattle.std.specs.Option.{option_and_then}
 use Rattle.base_text_paths.specs.Paths.{components, is_absolute, path_text}
-use Rattle.pm_lower_load.specs.Loading as loading
-use Rattle.pm_lower.specs.ReadProject.{read_project}
 use Rattle.pm_lower_load.specs.declared.load_error.LoadError.{LoadError}
 use Rattle.pm_lower_load.specs.declared.load_error.LoadError.TheVariants as load
-use Rattle.pm_lower.specs.declared.project_workspace.ProjectWorkspace.{ProjectWorkspace}
 use Rattle.pm_tools_ask.specs.Manifest.{manifest_of}
 use Rattle.pm_tools_ask.specs.declared.project_manifest.ProjectManifest.{ProjectManifest}
 use Rattle.live_project.specs.Project.{NamesLoadLimit, manifest_named, of_load_error, read_named, read_sources}
-use Rattle.live_project.specs.Sources.{means_of_sources}
 use Rattle.live_project.specs.declared.project_error.ProjectError.TheVariants.{BadManifest}
 use Rattle.live_project.specs.declared.sources.Sources.{Sources}
-use Rattle.live_project.proofs.ReadLemmas.{limit_named}
+use Rattle.pm_lower_load.specs.Loading.{NamesDocumentLimit}
 
 -- ---- the manifest
 
@@ -47,19 +43,15 @@ pub reads_some : (s : Sources) (manifest : ProjectManifest) → Some manifest �
 unfolding read_sources
 reads_some s manifest some = ap (read_named s) some
 
-module _ (s : Sources) (manifest : ProjectManifest) where
-  abbrev reading : loading.Loading ProjectWorkspace
-  reading = read_project manifest s.config.cargo s.config.limits (means_of_sources s)
-
-  -- the limit that a refused load names
-  pub refuses_limit : (error : LoadError) → loading.Refuses error reading → NamesLoadLimit (of_load_error error)
-  refuses_limit (load.NoSuchFile path) h = tt
-  refuses_limit (load.CargoMetadata stderr) h = tt
-  refuses_limit (load.Io line) h = tt
-  refuses_limit (load.Json field) h = tt
-  refuses_limit load.NoJson h = tt
-  refuses_limit (load.NotAbsolute text) h = tt
-  refuses_limit (load.NoParent text) h = tt
-  refuses_limit (load.UnknownPackage id) h = tt
-  refuses_limit (load.TooMany limit) h = limit_named manifest s.config.cargo s.config.limits (means_of_sources s) limit h
-  refuses_limit load.OutOfMemory h = tt
+-- the limit that a refused load names
+pub names_limit : (error : LoadError) → NamesDocumentLimit error → NamesLoadLimit (of_load_error error)
+names_limit (load.NoSuchFile path) h = tt
+names_limit (load.CargoMetadata stderr) h = tt
+names_limit (load.Io line) h = tt
+names_limit (load.Json field) h = tt
+names_limit load.NoJson h = tt
+names_limit (load.NotAbsolute text) h = tt
+names_limit (load.NoParent text) h = tt
+names_limit (load.UnknownPackage id) h = tt
+names_limit (load.TooMany limit) h = h
+names_limit load.OutOfMemory h = tt

@@ -3,7 +3,8 @@
 use Rattle.std.specs.Prelude.{◌≡◌, Ok}
 use Rattle.base_text_outside.specs.declared.command.Output.{Output}
 use Rattle.pm_tools.specs.Outputs.{BuildScripts}
-use Rattle.pm_tools.specs.Reading.{Reading, ◌>>=◌}
+use Rattle.base_values.specs.Outcome.{◌>>=◌}
+use Rattle.pm_tools.specs.Reading.{Reading}
 use Rattle.pm_lower.specs.Builds.{project_outputs, with_build_scripts}
 use Rattle.live_project.specs.Project.{ProjectContent}
 

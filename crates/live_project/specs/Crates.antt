@@ -1,17 +1,15 @@
--- The crates that a project has by the files that live, which each have a number: rows, edges and columns are
--- those of `project_lowering`. Which targets have a crate goes by these files alone, and the limit is that of
--- the configuration that the load kept.
-use Rattle.std.specs.Prelude.{◌≡◌, ℕ, List, [], fold, nat_eq, Some, Result, if◌then◌else◌}
+-- What a project is lowered to by the files that live, which each have a number: rows, edges and columns are
+-- those of `lowered`. Which targets have a crate goes by these files alone, and the limit is that of the
+-- configuration that the load kept.
+use Rattle.std.specs.Prelude.{◌≡◌, ℕ, List, [], fold, nat_eq, Some, if◌then◌else◌}
 use Rattle.std.specs.List.{All}
 use Rattle.std.specs.Map.{lookup}
 use Rattle.crate_graph_values.specs.declared.builder.CrateBuilder.{CrateBuilder}
 use Rattle.pm_lower_crates.specs.Loader.{FileNumbers, with_numbered_file}
-use Rattle.pm_lower.specs.ToCrateGraph.{kind_wants, project_lowering}
-use Rattle.pm_lower_crates.specs.Lowering.{Crate}
-use Rattle.pm_lower_crates.specs.WantedEdges.{Edge}
-use Rattle.pm_lower_crates.specs.declared.lower_error.LowerError.{LowerError}
+use Rattle.pm_lower.specs.ToCrateGraph.{Lowered, project_lowering}
 use Rattle.vfs_core.specs.VfsPath.{PathContent}
 use Rattle.live_project.specs.Project.{ProjectContent}
+use Rattle.live_project.specs.Sources.{means_of_sources}
 
 -- the files of a loader, with one more under its number; a virtual path is in no loader
 abbrev pub with_live_file : FileNumbers → ℕ × PathContent → FileNumbers
@@ -21,21 +19,14 @@ with_live_file files file = if file.1.is_virtual then files else with_numbered_f
 unfoldable pub files_by_path : List (ℕ × PathContent) → FileNumbers
 files_by_path files = fold with_live_file [] files
 
--- the crates that the project has by the files of a loader, or why it has none
-abbrev pub lowered_by : ProjectContent → FileNumbers → Result (List Crate) LowerError
-lowered_by p files = project_lowering files p.sources.config.limits.crates p.workspace
+-- what the project is lowered to by the files of a loader: the limit and what is asked are those that its
+-- load kept
+abbrev pub lowered_by : ProjectContent → FileNumbers → Lowered
+lowered_by p files = project_lowering files p.sources.config.limits.crates (means_of_sources p.sources) p.workspace
 
--- the edges that it wants between them
-abbrev pub wanted_by : ProjectContent → FileNumbers → List Edge
-wanted_by p files = kind_wants files p.workspace.kind
-
--- the crates that the project has by these files, or why it has none
-abbrev pub project_crates : ProjectContent → List (ℕ × PathContent) → Result (List Crate) LowerError
-project_crates p files = lowered_by p (files_by_path files)
-
--- the edges that it wants between them
-abbrev pub project_edges : ProjectContent → List (ℕ × PathContent) → List Edge
-project_edges p files = wanted_by p (files_by_path files)
+-- and by these files
+abbrev pub project_lowered : ProjectContent → List (ℕ × PathContent) → Lowered
+project_lowered p files = lowered_by p (files_by_path files)
 
 -- each crate of a graph begins in one of these files
 abbrev pub BeginIn : List (ℕ × PathContent) → List CrateBuilder → Type 0

@@ -1,5 +1,6 @@
 pub mod Build
 pub mod Crates
+pub mod LiveTexts
 pub mod Project
 pub mod Roots
 pub mod SharedConfig

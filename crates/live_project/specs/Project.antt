@@ -1,13 +1,11 @@
 -- A project of a session: what its load kept, and what was read of it. The rules of reading are those of
 -- `read_project`; a load reads the manifest that its path names. From rust-analyzer's
 -- `ProjectManifest::from_manifest_file` and `ProjectWorkspace::load`.
-use Rattle.std.specs.Prelude.{◌≡◌, refl, ℕ, ◌+◌, ◌<◌, ◌^◌, List, length, codes, Option, Some, None, Result, Ok, Err, if◌then◌else◌}
+use Rattle.std.specs.Prelude.{◌≡◌, refl, ℕ, ◌+◌, ◌<◌, ◌^◌, List, length, codes, Option, Some, None, Result, Ok, Err}
 use Rattle.std.specs.Coded.{Coded, code_by, coded×}
 use Rattle.std.specs.Option.{option_and_then}
-use Rattle.base_text_paths.specs.Paths.{components, is_absolute, path_text}
-use Rattle.base_text_outside.specs.declared.limits.Limit.{Limit}
-use Rattle.base_text_outside.specs.declared.limits.Limit.TheVariants.{Bytes, Paths, Packages, Targets, Crates}
-use Rattle.pm_lower_load.specs.Loading.{Loading}
+use Rattle.base_text_paths.specs.Paths.{if_absolute}
+use Rattle.pm_lower_load.specs.Loading.{Loading, NamesDocumentLimit}
 use Rattle.pm_lower.specs.ReadProject.{read_project}
 use Rattle.pm_lower.specs.ToRoots.{HasNoRustc}
 use Rattle.pm_lower.specs.contracts.project_workspace.ProjectWorkspace as read
@@ -38,7 +36,7 @@ project_code =
 
 -- the path of a text, which is cleaned and keeps each `..`, where the text begins with `/`
 abbrev pub path_of_text : List ℕ → Option (List ℕ)
-path_of_text text = if is_absolute text then Some (path_text (components text)) else None
+path_of_text text = if_absolute text (λ path. Some path) None
 
 -- the manifest that a text names
 unfoldable pub manifest_named : List ℕ → Option ProjectManifest
@@ -80,20 +78,7 @@ abbrev pub Loads : Sources → Result ProjectWorkspace ProjectError → Result P
 Loads s reading (Ok project) = (project.sources ≡ s) × (reading ≡ Ok project.workspace)
 Loads s reading (Err error) = Refuses error reading
 
--- there is too much of a kind that documents are counted by: packages, targets or crates
-abbrev pub IsDocumentLimit : Limit → Type 0
-IsDocumentLimit Bytes = ⊥
-IsDocumentLimit Paths = ⊥
-IsDocumentLimit Packages = Unit {0}
-IsDocumentLimit Targets = Unit {0}
-IsDocumentLimit Crates = Unit {0}
-
--- the limit that a refused load names, where it names one
-abbrev pub NamesDocumentLimit : LoadError → Type 0
-NamesDocumentLimit (load.TooMany limit) = IsDocumentLimit limit
-NamesDocumentLimit other = Unit {0}
-
--- the same of a session's load
+-- the limit that a refused load of a session names, where it names one
 abbrev pub NamesLoadLimit : ProjectError → Type 0
 NamesLoadLimit (BadManifest text) = Unit {0}
 NamesLoadLimit (Refused error) = NamesDocumentLimit error

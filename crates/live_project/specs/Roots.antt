@@ -10,12 +10,12 @@ use Rattle.pm_lower_load.specs.declared.package_root.PackageRoot.{PackageRoot}
 use Rattle.vfs_core.specs.VfsPath.{PathContent, real}
 
 -- a directory as a path that places files, with each `..` resolved
-abbrev pub directory_root : List ℕ → PathContent
-directory_root path = real (path_text (normal path))
+abbrev pub live_root_path : List ℕ → PathContent
+live_root_path path = real (path_text (normal path))
 
 -- a root of a project as a root of files
 abbrev pub file_root : PackageRoot → FileRoot
-file_root root = record { is_local = root.is_local; paths = map directory_root root.include }
+file_root root = record { is_local = root.is_local; paths = map live_root_path root.include }
 
 -- the same of all roots
 abbrev pub file_roots : List PackageRoot → List FileRoot

@@ -5,12 +5,13 @@ ghost use Rattle.vfs_core.specs.Files.{existing_files};
 ghost use Rattle.live_config.specs.Config.{Fits};
 ghost use Rattle.pm_tools.specs.Reading as build;
 ghost use Rattle.pm_lower.specs.Builds.{TakesBuild};
-ghost use Rattle.pm_lower_load.specs.Loading.{Gives};
+ghost use Rattle.pm_lower_load.specs.Loading.{Gives, NamesDocumentLimit};
 ghost use Rattle.pm_lower.specs.ProjectWorkspace.{has_cargo_workspace};
 ghost use Rattle.pm_lower.specs.ReadProject.{read_project};
+ghost use Rattle.pm_lower.specs.Small.{IsSmall};
 ghost use Rattle.pm_lower_crates.specs.Lowering.{IsLowered, LacksCyclesAlone};
 ghost use Rattle.live_project.specs.Build.{built_project, with_build};
-ghost use Rattle.live_project.specs.Crates.{BeginIn, project_crates, lowered_by, project_edges, wanted_by};
+ghost use Rattle.live_project.specs.Crates.{BeginIn, lowered_by, project_lowered};
 ghost use Rattle.live_project.specs.Project.{Loads, NamesLoadLimit, manifest_named, read_named, read_sources};
 ghost use Rattle.live_project.specs.Roots.{roots_of_project};
 ghost use Rattle.live_project.specs.Sources.{means_of_sources};
@@ -73,8 +74,10 @@ fn workspace_of(
     sources: &Sources,
 ) -> Result<ProjectWorkspace, LoadError>
     requires { Fits sources.now.config }
-    ensures { Gives result (read_project manifest.now sources.now.config.cargo
+    ensures project { Gives result (read_project manifest.now sources.now.config.cargo
         sources.now.config.limits (means_of_sources sources.now)) }
+    ensures limits { IfErr result NamesDocumentLimit }
+    ensures small { IfOk result (IsSmall sources.now.config.limits) }
 {
     let config = sources.config.get();
     let ask = sources.ask();
@@ -182,9 +185,9 @@ impl Project {
         loader: &mut L,
     ) -> Result<CrateGraphBuilder, LowerError>
         ensures lowers { IsLowered self.now.sources.config.limits.crates result
-            (lowered_by self.now (L.files loader.old)) }
+            (lowered_by self.now (L.files loader.old)).crates }
         ensures missing { IfOk result (λ graph. LacksCyclesAlone
-            (wanted_by self.now (L.files loader.old)) graph.crates) }
+            (lowered_by self.now (L.files loader.old)).wants graph.crates) }
     {
         let limits = &self.sources.config.get().limits;
         let ask = self.sources.ask();
@@ -195,9 +198,9 @@ impl Project {
     /// The graph of the crates whose root files exist. Each begins in one of these files.
     pub fn crate_graph(&self, alloc: Global, files: &Vfs) -> Result<CrateGraphBuilder, LowerError>
         ensures lowers { IsLowered self.now.sources.config.limits.crates result
-            (project_crates self.now (existing_files files.now)) }
+            (project_lowered self.now (existing_files files.now)).crates }
         ensures missing { IfOk result (λ graph. LacksCyclesAlone
-            (project_edges self.now (existing_files files.now)) graph.crates) }
+            (project_lowered self.now (existing_files files.now)).wants graph.crates) }
         ensures begins { IfOk result (λ graph. BeginIn (existing_files files.now) graph.crates) }
     {
         let mut loader = files_by_path(alloc, files)?;

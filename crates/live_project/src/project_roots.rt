@@ -1,7 +1,7 @@
 //! The roots that place the files of a project.
 
 ghost use Rattle.std.specs.Prelude.{◌≡◌, IfOk, map};
-ghost use Rattle.live_project.specs.Roots.{directory_root, file_root, file_roots};
+ghost use Rattle.live_project.specs.Roots.{live_root_path, file_root, file_roots};
 
 use base_text::{Items, TryClone};
 use pm_lower_load::PackageRoot;
@@ -11,7 +11,7 @@ use vfs_sets::FileRoot;
 
 // The directories of a root, as paths that place files.
 fn directories(alloc: Global, root: &PackageRoot) -> Result<Items<VfsPath>, AllocError>
-    ensures { IfOk result (λ paths. paths ≡ map directory_root root.now.include) }
+    ensures { IfOk result (λ paths. paths ≡ map live_root_path root.now.include) }
 {
     let mut paths = Vec::new(alloc);
     for path in root.include.as_slice() {

@@ -2,7 +2,7 @@
 use Rattle.std.proofs.Common.{◌≡◌, ℕ, ◌≤◌, false, true, List, Option, Some, None, Ok, Err, refl, sym, ap, subst, inl, inr, arith}
 use Rattle.std.specs.Prelude.{IfErr, Result}
 use Rattle.base_text_outside.specs.Causes.{Rose, Rose-after}
-use Rattle.base_text_outside.specs.Source.{Knows-all}
+use Rattle.base_text_outside.specs.Source.{SourceShows-all}
 use Rattle.base_text_outside.specs.declared.limits.Limit.TheVariants.{Bytes}
 use Rattle.live_page.specs.Reader.{ScriptReader, TellsScriptLine}
 use Rattle.live_page.specs.declared.lines.LineError.{LineError}
@@ -109,4 +109,4 @@ completes_err r o (TooMany limit) before p old new reads reads' writes writes' r
 pub completes_ok : {P : Type 0} (r : Rules P) (limit : ℕ) (s : r.State) (before : List r.Flush) (all : List ℕ) (p : P) (left₀ left old new : Option (List ℕ)) → left₀ ≡ Some all
     → Finishes r limit s before p (left₀, left) (old, new) → (session_by limit r.turn s all).refusal ≡ None
 completes_ok r limit s before all p left₀ left old new known finishes =
-    subst (λ bs. (session_by limit r.turn s bs).refusal ≡ None) (sym (Knows-all left₀ left all finishes.bytes known finishes.read finishes.at_end)) finishes.ran.refused
+    subst (λ bs. (session_by limit r.turn s bs).refusal ≡ None) (sym (SourceShows-all left₀ left all finishes.bytes known finishes.read finishes.at_end)) finishes.ran.refused

@@ -3,7 +3,7 @@ use Rattle.std.proofs.Common.{◌≡◌, ℕ, ◌+◌, ◌-◌, ◌<◌, ◌≤�
 use Rattle.std.proofs.lemmas.Bool.Decides.{nat_tests}
 use Rattle.std.proofs.Math.Seq.{take-append-add}
 use Rattle.std.specs.Io.KnownBytes.{Consumes}
-use Rattle.base_text_outside.specs.Source.{Knows-after, Knows-all}
+use Rattle.base_text_outside.specs.Source.{SourceShows-after, SourceShows-all}
 use Rattle.base_text_outside.specs.declared.limits.Limit.TheVariants.{Bytes}
 use Rattle.base_text.specs.Lines.{last_line, lines_of, partial_line, whole_lines}
 use Rattle.base_text.specs.Reader.{IsCut, IsFrontOf}
@@ -70,10 +70,10 @@ Gave-first limit left₀ left given reader gave all known =
     elim reader.is_done as (λ d. IsCut d gave.front (reader.waiting ++ gave.beyond) left → IsFrontOf given (lines_within limit all)) [
       | true ↦ λ cut.
           let whole : Consumes left₀ left gave.front = subst (Consumes left₀ left) (ap (λ r. gave.front ++ r) cut.0 ∙ append-nil gave.front) gave.taken in
-          let ends : all ≡ gave.front = Knows-all left₀ left all gave.front known whole cut.1 in
+          let ends : all ≡ gave.front = SourceShows-all left₀ left all gave.front known whole cut.1 in
           record { rest = []; is = ap (lines_within limit) ends ∙ within-fits limit gave.front small ∙ gave.lines ∙ sym (append-nil given) }
       | false ↦ λ cut.
-          let after = Knows-after left₀ left all _ known gave.taken in
+          let after = SourceShows-after left₀ left all _ known gave.taken in
           let behind = (reader.waiting ++ gave.beyond) ++ after.0 in
           let split : all ≡ gave.front ++ behind = after.1 ∙ append_assoc gave.front (reader.waiting ++ gave.beyond) after.0 in
           let lines : whole_lines gave.front ≡ given = sym (lines_of-whole gave.front cut) ∙ gave.lines in

@@ -22,9 +22,11 @@ use Rattle.pm_cargo_packages.specs.declared.package.PackageData.{PackageData}
 use Rattle.pm_cargo_packages.specs.Ids.{package_id}
 use Rattle.pm_cargo_reading.specs.Links.{dependencies_at, features_at, package_with_links, with_links}
 use Rattle.pm_cargo_reading.specs.Nodes.{by_package, known_place, last_place, link_of, links_of, place_of_package, place_or_refusal, take_dependency, take_node}
-use Rattle.pm_cargo_reading.specs.Reading.{Reading, ◌>>=◌, take_each}
+use Rattle.base_values.specs.Outcome.{◌>>=◌, take_each}
+use Rattle.pm_cargo_reading.specs.Reading.{Reading}
 use Rattle.pm_cargo_reading.specs.declared.nodes.Link.{Link}
-use Rattle.pm_cargo_reading.proofs.ReadingLemmas.{ok_from_bind, one_value}
+use Rattle.pm_cargo_reading.proofs.ReadingLemmas.{one_value}
+use Rattle.base_values.proofs.Outcomes.{ok_from_bind}
 use Rattle.pm_cargo_packages.proofs.UpdateLemmas.{changed-same}
 use Rattle.pm_cargo.specs.Shuffle.{by_node, with_sorted_entries}
 

@@ -1,11 +1,11 @@
 -- A document is read step by step: the first step that is refused refuses the workspace, and else the workspace holds what each step gave.
-use Rattle.std.proofs.Common.{◌≡◌, ℕ, List, Bool, Option, Ok, Err, ap, refl, ◌∙◌}
+use Rattle.std.proofs.Common.{◌≡◌, ℕ, List, Bool, Option, Ok, ap, refl, ◌∙◌}
 use Rattle.base_text_outside.specs.declared.limits.Limits.{Limits}
 use Rattle.cargo_meta.specs.declared.metadata.Metadata.{Metadata}
 use Rattle.pm_cargo_reading.specs.Links.{linked_contents}
 use Rattle.pm_cargo_reading.specs.Nodes.{nodes_of}
-use Rattle.pm_cargo_reading.specs.Packages.{absolute_path, optional_path}
-use Rattle.pm_cargo_reading.specs.Reading.{Reading, Refuses, ◌>>=◌}
+use Rattle.base_values.specs.Outcome.{◌>>=◌}
+use Rattle.pm_cargo_reading.specs.Reading.{Reading, Refuses}
 use Rattle.pm_cargo_reading.specs.declared.contents.Contents.{Contents}
 use Rattle.pm_cargo_reading.specs.declared.workspace_error.WorkspaceError.{WorkspaceError}
 use Rattle.pm_cargo_reading.proofs.ReadingLemmas.{refuses_on}
@@ -28,37 +28,21 @@ module _ (manifest : List ℕ) (env : List (List ℕ × List ℕ)) (is_sysroot :
     is_sysroot = is_sysroot;
   }
 
-  -- the workspace of what may be refused
-  abbrev read_steps : Reading (List ℕ) → Reading (List ℕ) → Reading (Option (List ℕ)) → Reading Contents → Reading Workspace
-  read_steps root target build contents = root >>= λ r. target >>= λ t. build >>= λ b. contents >>= λ c.
-      Ok (made r t b c)
-
   -- the workspace of its directories and its contents
   abbrev pub made_in : Directories → Contents → Workspace
   made_in d = made d.workspace_root d.target_directory d.build_directory
 
-  -- the same, where the directories are read first
+  -- the workspace of what may be refused
   abbrev read_parts : Reading Directories → Reading Contents → Reading Workspace
   read_parts directories contents = directories >>= λ d. contents >>= λ c. Ok (made_in d c)
-
-  abbrev directories_read : Reading (List ℕ) → Reading (List ℕ) → Reading (Option (List ℕ)) → Reading Directories
-  directories_read root target build = root >>= λ r. target >>= λ t. build >>= λ b.
-      Ok (record { workspace_root = r; target_directory = t; build_directory = b })
-
-  in_parts : (root target : Reading (List ℕ)) (build : Reading (Option (List ℕ))) (contents : Reading Contents)
-      → read_steps root target build contents ≡ read_parts (directories_read root target build) contents
-  in_parts (Err e) target build contents = refl
-  in_parts (Ok r) (Err e) build contents = refl
-  in_parts (Ok r) (Ok t) (Err e) contents = refl
-  in_parts (Ok r) (Ok t) (Ok b) contents = refl
 
   module _ (document : Metadata) (limits : Limits) where
     abbrev contents_read : Reading Contents
     contents_read = linked_contents document.workspace_members limits document.packages (nodes_of document.resolve)
 
     read-parts : read_workspace document manifest env is_sysroot limits ≡ read_parts (directories_of document) contents_read
-    unfolding read_workspace directories_of
-    read-parts = in_parts (absolute_path document.workspace_root) (absolute_path document.target_directory) (optional_path document.build_directory) contents_read
+    unfolding read_workspace
+    read-parts = refl
 
     pub read-no_directories : (e : WorkspaceError) → Refuses e (directories_of document) → Refuses e (read_workspace document manifest env is_sysroot limits)
     read-no_directories e h = refuses_on e (directories_of document) _ (λ x is. read-parts ∙ ap (λ d. read_parts d contents_read) is) h

@@ -1,4 +1,6 @@
 pub mod Laws
+pub mod Output
+pub mod OutputLaws
 pub mod Queries
 pub mod ReadWorkspace
 pub mod Shuffle

@@ -24,14 +24,14 @@ abbrev pub with_sorted_entries : Node → Node
 with_sorted_entries node = record node { deps = sorted by_package node.deps; dependencies = [] }
 
 -- the nodes of a document in the order of their ids, each with its entries in order
-abbrev pub nodes_in_order : Metadata → List Node
-nodes_in_order document = map with_sorted_entries (sorted by_node (nodes_of document.resolve))
+abbrev pub document_nodes_in_order : Metadata → List Node
+document_nodes_in_order document = map with_sorted_entries (sorted by_node (nodes_of document.resolve))
 
 -- the documents are one but for the order of packages, nodes, entries and members; what has one id keeps its
 -- order
 pub record IsShuffle (a b : Metadata) : Type 0 where
   pub packages : sorted by_id a.packages ≡ sorted by_id b.packages
-  pub nodes : nodes_in_order a ≡ nodes_in_order b
+  pub nodes : document_nodes_in_order a ≡ document_nodes_in_order b
   pub members : (id : PackageId) → Contains a.workspace_members id ↔ Contains b.workspace_members id
   pub root : a.workspace_root ≡ b.workspace_root
   pub target : a.target_directory ≡ b.target_directory

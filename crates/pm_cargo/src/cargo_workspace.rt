@@ -1,7 +1,7 @@
 //! A Cargo workspace: the packages of a document of `cargo metadata` with their targets, each under
 //! its number, and the directories that it builds in.
 
-ghost use Rattle.std.specs.Prelude.{◌≡◌, ◌↔◌, ◌<◌, IfOk, IsTrue, length, option_map, slice_get, Some};
+ghost use Rattle.std.specs.Prelude.{◌≡◌, ◌↔◌, ◌<◌, IfOk, IsTrue, length, option_map, slice_get, Some, ◌≤◌, IfErr};
 ghost use Rattle.std.specs.List.{range_with_len};
 ghost use Rattle.base_text_paths.specs.AbsPath.{abs_text};
 ghost use Rattle.base_text_paths.specs.Arena.{number_of};
@@ -9,7 +9,7 @@ ghost use Rattle.pm_cargo.specs.ReadWorkspace.{directories_of, read_workspace};
 ghost use Rattle.pm_cargo_reading.specs.Links.{linked_contents};
 ghost use Rattle.pm_cargo_reading.specs.Nodes.{nodes_of};
 ghost use Rattle.pm_cargo_reading.specs.Presence.{HoldsItsIds};
-ghost use Rattle.pm_cargo_reading.specs.Reading.{Gives};
+ghost use Rattle.pm_cargo_reading.specs.Reading.{Gives, NamesMetadataLimit};
 ghost use Rattle.pm_cargo.specs.Workspace.{HasOwnIds};
 
 use crate::package_iter::PackageIter;
@@ -110,7 +110,8 @@ fn contents_of(alloc: Global, meta: Metadata, limits: &Limits) -> Result<Content
 }
 
 impl CargoWorkspace {
-    /// The workspace of a document, or the first refusal in the order in which it is checked.
+    /// The workspace of a document, or the first refusal in the order in which it is checked, which names no other limit than
+    /// those of packages and of targets.
     pub fn new(
         alloc: Global,
         meta: Metadata,
@@ -119,8 +120,10 @@ impl CargoWorkspace {
         is_sysroot: bool,
         limits: &Limits,
     ) -> Result<CargoWorkspace, WorkspaceError>
-        ensures { Gives result
+        ensures workspace { Gives result
             (read_workspace meta ws_manifest_path cargo_env is_sysroot limits.now) }
+        ensures limits { IfErr result NamesMetadataLimit }
+        ensures few { IfOk result (λ w. length w.packages ≤ limits.now.packages) }
     {
         let directories = directories_of(alloc, &meta)?;
         let contents = contents_of(alloc, meta, limits)?;

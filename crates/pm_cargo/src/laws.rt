@@ -1,4 +1,4 @@
-//! Laws that users of workspaces rest on. Each is a function that does nothing: its contract is the law.
+//! Laws that users of workspaces rest on. Each is a function that changes nothing: its contract is the law.
 
 ghost use Rattle.std.specs.Prelude.{◌≡◌};
 ghost use Rattle.cargo_meta.specs.declared.metadata.Metadata.{Metadata};

@@ -1,4 +1,4 @@
-//! What a user configures of a Cargo project, and the tools that questions about it are asked by.
+//! What a user configures of a Cargo project, and what the version of the toolchain allows.
 #![tactic(auto)]
 
 pub mod config;

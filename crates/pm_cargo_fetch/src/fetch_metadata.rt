@@ -48,7 +48,7 @@ impl Model for FetchMetadata {
 
 impl FetchMetadata {
     /// Asks the light question, for the members of the workspace alone, and keeps its answer. Where
-    /// `no_deps` is set the full question is not asked later.
+    /// `no_deps` is set that answer decides, whatever the full question has.
     pub fn new<R: Runner>(
         alloc: Global,
         cargo_toml: &ManifestPath,

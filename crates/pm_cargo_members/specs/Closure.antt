@@ -1,10 +1,9 @@
 -- The nodes to which one comes over one or more edges of a graph: a relation, and the same as a list.
-use Rattle.std.specs.Prelude.{◌↔◌, ℕ, suc, Bool, List, [], ◌∷◌, ◌++◌, map, filter, length}
+use Rattle.std.specs.Prelude.{ℕ, suc, Bool, List, [], ◌∷◌, ◌++◌, map, filter, length}
 use Rattle.std.specs.List.{list_any, range_with_len}
 use Rattle.graph_base.specs.EdgeList.{Edge, reach_over}
 use Rattle.graph_base.specs.Edges.{HasEdge, row}
 use Rattle.graph_base.specs.Reach.{Reaches}
-use Rattle.graph_base.specs.Reversed.{IsGraph, IsReversed}
 
 -- an edge leads from a node to one that reaches the other
 abbrev pub LeadsTo : List (List ℕ) → ℕ → ℕ → Type 0
@@ -22,9 +21,3 @@ leads_to g a b = list_any (λ c. reach_over (edges_from 0 g) c b) (row g a)
 -- the nodes to which one comes from a node over one or more edges, ascending
 unfoldable pub closure : List (List ℕ) → ℕ → List ℕ
 closure g a = filter (leads_to g a) (range_with_len 0 (length g))
-
--- rows are a graph, and others lead its edges back
-pub record IsGraphBothWays (rows back : List (List ℕ)) : Type 0 where
-  pub graph : IsGraph rows
-  pub leads_back : IsReversed back rows
-  pub reaches_back : (a b : ℕ) → Reaches back b a ↔ Reaches rows a b

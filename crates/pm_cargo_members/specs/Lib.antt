@@ -1,3 +1,4 @@
 pub mod Closure
+pub mod Gathering
 pub mod Members
 pub mod SharedLists

@@ -7,54 +7,11 @@ ghost use Rattle.graph_base.specs.Edges.{IsInRange, row};
 ghost use Rattle.graph_base.specs.Reach.{Reaches};
 ghost use Rattle.graph_base.specs.Trail.{empty_trail, trail_after_clear};
 ghost use Rattle.pm_cargo_members.specs.Closure.{closure};
-ghost use Rattle.graph_base.specs.Reversed.{IsGraph, target_rows};
+ghost use Rattle.graph_base.specs.Reversed.{target_rows};
 
-use graph_base::{Graph as _, Reversed, Trail, search_into};
+use graph_base::{Graph as _, Rows, Trail, search_into};
 use std::alloc::{AllocError, Global};
 use std::marker::Model;
-
-/// A graph that keeps each row as a list of targets.
-#[derive(Drop)]
-struct Rows {
-    rows: Vec<Vec<u32>>,
-}
-
-/// Contracts see a graph as its rows.
-impl Model for Rows {
-    ghost use Rattle.std.specs.Prelude.{ℕ, List};
-    ghost use Rattle.graph_base.specs.Reversed.{IsGraph, target_rows};
-
-    ghost Value = { List (List ℕ) };
-
-    ghost view = { λ a. target_rows a.rows.items };
-
-    ghost invariant = { λ a. IsGraph (target_rows a.rows.items) };
-}
-
-impl Rows {
-    fn new(rows: Vec<Vec<u32>>) -> Self
-        requires { IsGraph (target_rows rows.items) }
-        ensures { result ≡ target_rows rows.items }
-    {
-        Rows { rows }
-    }
-}
-
-impl graph_base::Graph for Rows {
-    ghost rows = { λ graph. graph };
-
-    fn count(&self) -> u32 {
-        self.rows.len() as u32
-    }
-
-    fn degree(&self, node: u32) -> usize {
-        self.rows[node as usize].len()
-    }
-
-    fn target(&self, node: u32, place: usize) -> u32 {
-        self.rows[node as usize][place]
-    }
-}
 
 // The targets of the edges of some nodes, in their order.
 fn all_targets(alloc: Global, rows: &[Vec<u32>], nodes: &[u32]) -> Result<Vec<u32>, AllocError>
@@ -83,7 +40,7 @@ fn closure_of(
     ensures empty { OnOk result (trail.new ≡ empty_trail (length graph.now)) }
 {
     search_into(graph, trail, start)?;
-    let mut nodes = all_targets(alloc, graph.rows.as_slice(), trail.nodes())?;
+    let mut nodes = all_targets(alloc, graph.as_slice(), trail.nodes())?;
     nodes.sort_unstable();
     nodes.dedup();
     trail.clear();
@@ -95,13 +52,13 @@ fn closure_of(
 pub(crate) struct Graph {
     rows: Rows,
     // The same edges, from their targets to their sources.
-    back: Reversed,
+    back: Rows,
 }
 
 /// Contracts see a graph as its rows.
 impl Model for Graph {
     ghost use Rattle.std.specs.Prelude.{ℕ, List};
-    ghost use Rattle.pm_cargo_members.specs.Closure.{IsGraphBothWays};
+    ghost use Rattle.pm_cargo_members.specs.Gathering.{IsGraphBothWays};
 
     ghost Value = { List (List ℕ) };
 
@@ -118,7 +75,7 @@ impl Graph {
         ensures { IfOk result (λ graph. graph ≡ target_rows rows.items) }
     {
         let rows = Rows::new(rows);
-        let back = Reversed::of(alloc, &rows)?;
+        let back = Rows::reversed(alloc, &rows)?;
         Ok(Graph { rows, back })
     }
 

@@ -1,4 +1,4 @@
-//! Laws for callers' proofs. Each is a function that does nothing: its contract is the law.
+//! Laws for callers' proofs. Each is a function that changes nothing: its contract is the law.
 
 ghost use Rattle.std.specs.Prelude.{◌≡◌, false};
 ghost use Rattle.base_text_paths.specs.Paths.{IsClean};

@@ -23,9 +23,10 @@ use Rattle.pm_cargo_packages.specs.declared.package.PackageData.{PackageData}
 use Rattle.pm_cargo_packages.specs.declared.target.TargetData.{TargetData}
 use Rattle.pm_cargo_reading.specs.declared.contents.Contents.{Contents}
 use Rattle.pm_cargo_reading.specs.Packages.{by_package_id, contents_of, by_id, ids_between, is_listed, absolute_manifest, target_root, take_package, take_target, target_with_root, unresolved_package, with_package}
-use Rattle.pm_cargo_reading.specs.Reading.{◌>>=◌, take_each}
+use Rattle.base_values.specs.Outcome.{◌>>=◌, take_each}
 use Rattle.pm_cargo_reading.specs.declared.workspace_error.WorkspaceError.TheVariants.{TooMany}
-use Rattle.pm_cargo_reading.proofs.ReadingLemmas.{ok_from_bind, ok_from_limit, one_value, take_each-keeps, take_each-lists, take_each-same}
+use Rattle.pm_cargo_reading.proofs.ReadingLemmas.{ok_from_limit, one_value, take_each-keeps, take_each-lists, take_each-same}
+use Rattle.base_values.proofs.Outcomes.{ok_from_bind}
 
 -- the order of ids, that of their bytes
 abbrev pub by_repr : PackageId → PackageId → Ordering

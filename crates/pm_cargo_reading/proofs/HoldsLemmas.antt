@@ -22,7 +22,8 @@ use Rattle.pm_cargo_reading.specs.Packages.{contents_of, by_id, ids_between, is_
 use Rattle.pm_cargo_reading.specs.declared.contents.Contents.{Contents}
 use Rattle.pm_cargo_reading.specs.declared.nodes.Link.{Link}
 use Rattle.pm_cargo_reading.proofs.ContentsLemmas.{package-from, targets-more, targets-of}
-use Rattle.pm_cargo_reading.proofs.ReadingLemmas.{ok_from_bind, one_value, take_each-keeps}
+use Rattle.pm_cargo_reading.proofs.ReadingLemmas.{one_value, take_each-keeps}
+use Rattle.base_values.proofs.Outcomes.{ok_from_bind}
 use Rattle.pm_cargo_reading.proofs.WithinLemmas.{changed-all, given-within, links-within}
 
 -- ---- packages that are taken

@@ -2,6 +2,7 @@ pub mod ContentsLemmas
 pub mod HoldsLemmas
 pub mod IdLemmas
 pub mod KindLemmas
+pub mod LimitLemmas
 pub mod LinkLemmas
 pub mod LinkedLemmas
 pub mod NodeLemmas

@@ -15,7 +15,8 @@ use Rattle.pm_cargo_packages.specs.declared.package.PackageData.{PackageData}
 use Rattle.pm_cargo_packages.specs.declared.package.PackageDependency.{PackageDependency}
 use Rattle.pm_cargo_reading.specs.Nodes.{by_package, dependencies_of_kinds, kinds_of, known_place, last_place, link_of, place_of_package, place_or_refusal, take_dependency, take_node, with_kinds}
 use Rattle.pm_cargo_reading.specs.Packages.{by_package_id}
-use Rattle.pm_cargo_reading.specs.Reading.{Refuses, ◌>>=◌, take_each}
+use Rattle.base_values.specs.Outcome.{◌>>=◌, take_each}
+use Rattle.pm_cargo_reading.specs.Reading.{Reading, Refuses}
 use Rattle.pm_cargo_reading.specs.declared.nodes.Link.{Link}
 use Rattle.pm_cargo_reading.specs.declared.workspace_error.WorkspaceError.{WorkspaceError}
 use Rattle.pm_cargo_reading.specs.declared.workspace_error.WorkspaceError.TheVariants.{UnknownPackage}
@@ -92,7 +93,7 @@ module _ (packages : List PackageData) (before : List PackageDependency) (d : No
     where
       by : (kinds : List DepKind) → 0 < length kinds → (dependencies_of_kinds packages d kinds >>= λ more. Ok (before ++ more)) ≡ Ok (before ++ with_kinds place d.name kinds)
       by [] some = absurd (omega arith)
-      by (kind ∷ kinds) some = ap (λ r. (r >>= λ place. Ok (with_kinds place d.name (kind ∷ kinds))) >>= λ more. Ok (before ++ more)) is
+      by (kind ∷ kinds) some = ap (λ (r : Reading ℕ). (r >>= λ place. Ok (with_kinds place d.name (kind ∷ kinds))) >>= λ more. Ok (before ++ more)) is
 
 -- ---- one more node
 
@@ -126,4 +127,4 @@ module _ (packages : List PackageData) (node : Node) where
     -- the node is taken
     pub node-added : (link : Link) → link_of packages node ≡ Ok link → take_node packages links node ≡ Ok (links ++ link ∷ [])
     unfolding take_node
-    node-added link is = ap (λ r. r >>= λ link. Ok (links ++ link ∷ [])) is
+    node-added link is = ap (λ (r : Reading Link). r >>= λ link. Ok (links ++ link ∷ [])) is

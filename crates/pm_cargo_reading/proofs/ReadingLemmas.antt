@@ -1,9 +1,11 @@
 -- How a reading goes on from one part to the next, and how a refusal ends it.
 use Rattle.std.proofs.Common.{◌≡◌, List, [], ◌∷◌, ◌++◌, map, Bool, true, false, cond, Ok, Err, ap, append_assoc, refl, subst, sym, ◌∙◌}
 use Rattle.std.proofs.lemmas.List.{append-nil}
-use Rattle.pm_cargo_reading.specs.Reading.{Reading, Refuses, ◌>>=◌, take_each}
+use Rattle.base_values.specs.Outcome.{◌>>=◌, take_each}
+use Rattle.pm_cargo_reading.specs.Reading.{Reading, Refuses}
 use Rattle.pm_cargo_reading.specs.declared.workspace_error.WorkspaceError.{WorkspaceError}
 use Rattle.pm_cargo_reading.specs.declared.workspace_error.WorkspaceError.TheVariants.{NotAbsolute, NoParent, UnknownPackage, TooMany, OutOfMemory}
+use Rattle.base_values.proofs.Outcomes.{ok_from_bind}
 
 -- what refuses a part refuses the whole, where the part's refusal is that of the whole
 pub refuses_on : {A B : Type 0} (e : WorkspaceError) (part : Reading A) (whole : Reading B) → ((x : WorkspaceError) → part ≡ Err x → whole ≡ Err x) → Refuses e part → Refuses e whole
@@ -20,14 +22,6 @@ refuses_same e part whole same h = subst (Refuses e) same h
 -- a refused part ends the reading
 pub refuses_bind : {A B : Type 0} (e : WorkspaceError) (part : Reading A) (rest : A → Reading B) → Refuses e part → Refuses e (part >>= rest)
 refuses_bind e part rest h = refuses_on e part (part >>= rest) (λ x is. ap (λ r. r >>= rest) is) h
-
-pub ok_bind : {A B : Type 0} (part : Reading A) (rest : A → Reading B) (x : A) → part ≡ Ok x → (part >>= rest) ≡ rest x
-ok_bind part rest x is = ap (λ r. r >>= rest) is
-
--- where the whole gives a value, so does its first part
-pub ok_from_bind : {A B : Type 0} (part : Reading A) (rest : A → Reading B) (y : B) → (part >>= rest) ≡ Ok y → (x : A) × (part ≡ Ok x) × (rest x ≡ Ok y)
-ok_from_bind (Ok x) rest y is = (x, refl, is)
-ok_from_bind (Err e) rest y is = cc
 
 -- and where a reading with a limit gives one, the limit is kept
 pub ok_from_limit : {A : Type 0} (b : Bool) (r : Reading A) (e : WorkspaceError) (y : A) → cond b r (Err e) ≡ Ok y → (b ≡ true) × (r ≡ Ok y)

@@ -9,7 +9,8 @@ use Rattle.cargo_meta_values.specs.declared.target.Target.{Target}
 use Rattle.pm_cargo_packages.specs.declared.target.TargetData.{TargetData}
 use Rattle.pm_cargo_reading.specs.declared.contents.Contents.{Contents}
 use Rattle.pm_cargo_reading.specs.Packages.{absolute_path, is_script, absolute_manifest, target_root, take_package, take_target, target_with_root, with_package}
-use Rattle.pm_cargo_reading.specs.Reading.{Refuses, take_each}
+use Rattle.base_values.specs.Outcome.{take_each}
+use Rattle.pm_cargo_reading.specs.Reading.{Refuses}
 use Rattle.pm_cargo_reading.specs.declared.workspace_error.WorkspaceError.{WorkspaceError}
 use Rattle.pm_cargo_reading.specs.declared.workspace_error.WorkspaceError.TheVariants.{TooMany}
 use Rattle.pm_cargo_reading.proofs.ReadingLemmas.{refuses_bind}

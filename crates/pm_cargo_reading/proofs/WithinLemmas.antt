@@ -12,10 +12,11 @@ use Rattle.pm_cargo_packages.specs.declared.package.PackageDependency.{PackageDe
 use Rattle.pm_cargo_reading.specs.Links.{dependencies_at}
 use Rattle.pm_cargo_reading.specs.Nodes.{by_package, dependencies_of_kinds, kinds_of, known_place, link_of, links_of, place_of_package, place_or_refusal, take_dependency, take_node, with_kinds}
 use Rattle.pm_cargo_reading.specs.Presence.{IsLinkWithin}
-use Rattle.pm_cargo_reading.specs.Reading.{take_each}
+use Rattle.base_values.specs.Outcome.{take_each}
 use Rattle.pm_cargo_reading.specs.declared.nodes.Link.{Link}
 use Rattle.pm_cargo_reading.proofs.NodeLemmas.{place_of_package-within}
-use Rattle.pm_cargo_reading.proofs.ReadingLemmas.{ok_from_bind, one_value, take_each-keeps}
+use Rattle.pm_cargo_reading.proofs.ReadingLemmas.{one_value, take_each-keeps}
+use Rattle.base_values.proofs.Outcomes.{ok_from_bind}
 
 -- ---- links
 

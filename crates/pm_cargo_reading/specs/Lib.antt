@@ -1,4 +1,5 @@
 pub mod Errors
+pub mod Gathering
 pub mod Links
 pub mod Nodes
 pub mod Packages

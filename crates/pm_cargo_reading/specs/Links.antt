@@ -10,7 +10,8 @@ use Rattle.pm_cargo_packages.specs.declared.package.PackageData.{PackageData}
 use Rattle.pm_cargo_packages.specs.declared.package.PackageDependency.{PackageDependency}
 use Rattle.pm_cargo_reading.specs.Nodes.{links_of}
 use Rattle.pm_cargo_reading.specs.Packages.{contents_of}
-use Rattle.pm_cargo_reading.specs.Reading.{Reading, ◌>>=◌}
+use Rattle.base_values.specs.Outcome.{◌>>=◌}
+use Rattle.pm_cargo_reading.specs.Reading.{Reading}
 use Rattle.pm_cargo_reading.specs.declared.contents.Contents.{Contents}
 use Rattle.pm_cargo_reading.specs.declared.nodes.Link.{Link}
 

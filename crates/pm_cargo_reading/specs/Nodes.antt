@@ -17,7 +17,8 @@ use Rattle.pm_cargo_packages.specs.declared.package.DepKind.{DepKind}
 use Rattle.pm_cargo_packages.specs.declared.package.DepKind.TheVariants.{Normal, Dev, Build}
 use Rattle.pm_cargo_packages.specs.declared.package.PackageData.{PackageData}
 use Rattle.pm_cargo_packages.specs.declared.package.PackageDependency.{PackageDependency}
-use Rattle.pm_cargo_reading.specs.Reading.{Reading, ◌>>=◌, take_each}
+use Rattle.base_values.specs.Outcome.{◌>>=◌, take_each}
+use Rattle.pm_cargo_reading.specs.Reading.{Reading}
 use Rattle.pm_cargo_reading.specs.declared.nodes.Link.{Link}
 use Rattle.pm_cargo_reading.specs.declared.workspace_error.WorkspaceError.TheVariants.{UnknownPackage}
 

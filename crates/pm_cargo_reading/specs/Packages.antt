@@ -1,6 +1,6 @@
 -- The packages and targets of a document of `cargo metadata`: taken in the order of their ids, each counted
 -- and checked before the next.
-use Rattle.std.specs.Prelude.{◌≡◌, ◌<◌, ◌^◌, ℕ, ◌+◌, ◌-◌, Bool, ◌&&◌, true, false, List, [], ◌∷◌, ◌++◌, length, map, bytes_eq, codes, nat_lt, if◌then◌else◌, Option, Some, None, Ok, Err}
+use Rattle.std.specs.Prelude.{ℕ, ◌-◌, Bool, ◌&&◌, true, false, List, [], ◌∷◌, ◌++◌, length, map, bytes_eq, codes, nat_lt, if◌then◌else◌, Option, Some, None, Ok, Err}
 use Rattle.std.specs.List.{list_any, range_with_len}
 use Rattle.std.specs.Option.{is_none, option_and_then, unwrap_or}
 use Rattle.std.specs.declared.cmp.Ordering.{Ordering}
@@ -9,7 +9,7 @@ use Rattle.serde_json.specs.Find.{as_bool, get}
 use Rattle.base_values.specs.ByText.{text_cmp}
 use Rattle.base_values.specs.Sorted.{sorted}
 use Rattle.base_text_paths.specs.declared.arena.Idx.{Idx}
-use Rattle.base_text_paths.specs.Paths.{components, is_absolute, path_text}
+use Rattle.base_text_paths.specs.Paths.{if_absolute}
 use Rattle.base_text_paths.specs.declared.edition.Edition.{Edition}
 use Rattle.base_text_paths.specs.declared.edition.Edition.TheVariants.{Edition2015, Edition2018, Edition2021, Edition2024}
 use Rattle.base_text_outside.specs.declared.limits.Limit.TheVariants.{Packages, Targets}
@@ -22,21 +22,21 @@ use Rattle.cargo_meta_values.specs.declared.target.Target.{Target}
 use Rattle.crate_graph_values.specs.declared.target_kind.TargetKind.{TargetKind}
 use Rattle.crate_graph_values.specs.declared.target_kind.TargetKind.TheVariants.{Bin, Lib, Example, Test, Bench, BuildScript, Other}
 use Rattle.pm_cargo_reading.specs.declared.contents.Contents.{Contents}
-use Rattle.pm_cargo_reading.specs.Reading.{Reading, ◌>>=◌, take_each}
+use Rattle.base_values.specs.Outcome.{◌>>=◌, take_each}
+use Rattle.pm_cargo_reading.specs.Reading.{Reading}
 use Rattle.base_text_paths.specs.ManifestPath.{is_rust_manifest}
 use Rattle.pm_cargo_packages.specs.TargetKinds.{target_kind}
 use Rattle.pm_cargo_packages.specs.Ids.{package_id, target_id}
 use Rattle.pm_cargo_packages.specs.declared.package.PackageData.{PackageData}
 use Rattle.pm_cargo_packages.specs.declared.target.TargetData.{TargetData}
 use Rattle.pm_cargo_packages.specs.declared.target.TargetTag.{TargetTag}
-use Rattle.pm_cargo_reading.specs.declared.unresolved.PackageParts.{PackageParts}
 use Rattle.pm_cargo_reading.specs.declared.workspace_error.WorkspaceError.TheVariants.{NotAbsolute, NoParent, TooMany}
 
 -- ---- paths
 
 -- the path of a text, which must be absolute; it is kept clean
 unfoldable pub absolute_path : List ℕ → Reading (List ℕ)
-absolute_path text = if is_absolute text then Ok (path_text (components text)) else Err (NotAbsolute text)
+absolute_path text = if_absolute text (λ path. Ok path) (Err (NotAbsolute text))
 
 -- the path of a text that may be missing
 abbrev pub optional_path : Option (List ℕ) → Reading (Option (List ℕ))
@@ -161,21 +161,6 @@ take_package members limits contents p =
     take_each (take_target limits.targets (length contents.packages) manifest) contents.targets p.targets
     >>= λ targets.
     Ok (with_package members contents manifest p targets)) else Err (TooMany Packages)
-
--- what is read of one more package, and all targets with its own, where none of them is refused
-pub record ArePartsOf (by : List PackageId × Limits) (contents : Contents) (p : Package)
-    (targets : List TargetData) (parts : PackageParts) : Type 0 where
-  pub room : length contents.packages < by.1.packages
-  pub manifest : absolute_manifest p.manifest_path ≡ Ok parts.manifest
-  pub taken :
-      take_each (take_target by.1.targets (length contents.packages) parts.manifest) contents.targets
-      p.targets
-      ≡ Ok targets
-  pub few : length contents.packages + 1 < 2 ^ 32
-  pub short : length targets < 2 ^ 32
-  pub id : parts.id ≡ p.id
-  pub is_member : parts.is_member ≡ is_listed by.0 p.id
-  pub ids : parts.targets ≡ ids_between (length contents.targets) (length targets)
 
 -- the packages of a document and their targets, in the order of the packages' ids
 unfoldable pub contents_of : List PackageId → Limits → List Package → Reading Contents

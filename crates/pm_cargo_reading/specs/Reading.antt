@@ -1,18 +1,13 @@
 -- What a reading gives: a value, or the first refusal in the order in which a document is checked.
-use Rattle.std.specs.Prelude.{◌≡◌, List, [], ◌∷◌, Result, Ok, Err}
+use Rattle.std.specs.Prelude.{◌≡◌, Result, Ok, Err}
 use Rattle.pm_cargo_reading.specs.declared.workspace_error.WorkspaceError.{WorkspaceError}
 use Rattle.pm_cargo_reading.specs.declared.workspace_error.WorkspaceError.TheVariants.{NotAbsolute, NoParent, UnknownPackage, TooMany, OutOfMemory}
+use Rattle.base_text_outside.specs.declared.limits.Limit.{Limit}
+use Rattle.base_text_outside.specs.declared.limits.Limit.TheVariants.{Bytes, Paths, Packages, Targets, Crates}
 
 -- a value, or a refusal
 abbrev pub Reading : Type 0 → Type 0
 Reading T = Result T WorkspaceError
-
--- the next part is read where this one is not refused
-infixl 10 ◌>>=◌
--- a reading, and what is read with its value
-abbrev pub ◌>>=◌ : {A B : Type 0} → Reading A → (A → Reading B) → Reading B
-Ok x >>= f = f x
-Err e >>= f = Err e
 
 -- a reading is refused with this error; running out of memory says nothing of it
 abbrev pub Refuses : {T : Type 0} → WorkspaceError → Reading T → Type 0
@@ -32,7 +27,15 @@ abbrev pub Leaves : {S : Type 0} → Result (Unit {0}) WorkspaceError → S → 
 Leaves (Ok u) new reading = reading ≡ Ok new
 Leaves (Err e) new reading = Refuses e reading
 
--- each item is taken in turn, up to the first that is refused
-unfoldable pub take_each : {S X : Type 0} → (S → X → Reading S) → S → List X → Reading S
-take_each step s [] = Ok s
-take_each step s (x ∷ xs) = step s x >>= λ next. take_each step next xs
+-- a limit of documents of `cargo metadata`: of packages or of targets
+abbrev pub IsMetadataLimit : Limit → Type 0
+IsMetadataLimit Bytes = ⊥
+IsMetadataLimit Paths = ⊥
+IsMetadataLimit Packages = Unit {0}
+IsMetadataLimit Targets = Unit {0}
+IsMetadataLimit Crates = ⊥
+
+-- the limit that a refusal names, where it names one
+abbrev pub NamesMetadataLimit : WorkspaceError → Type 0
+NamesMetadataLimit (TooMany limit) = IsMetadataLimit limit
+NamesMetadataLimit other = Unit {0}

@@ -3,8 +3,10 @@
 ghost use Rattle.std.specs.Prelude.{◌≡◌, ◌<◌, ◌^◌, [], length, IfErr, IfOk, OnOk};
 ghost use Rattle.std.specs.List.Sorted.{IsSorted};
 ghost use Rattle.base_values.specs.Sorted.{sorted};
-ghost use Rattle.pm_cargo_reading.specs.Packages.{ArePartsOf, by_id, by_package_id, contents_of, ids_between, is_bin, is_listed, is_script, target_root, take_package, take_target};
-ghost use Rattle.pm_cargo_reading.specs.Reading.{Gives, Leaves, Refuses, take_each};
+ghost use Rattle.pm_cargo_reading.specs.Packages.{by_id, by_package_id, contents_of, ids_between, is_bin, is_listed, is_script, target_root, take_package, take_target};
+ghost use Rattle.pm_cargo_reading.specs.Gathering.{ArePartsOf};
+ghost use Rattle.base_values.specs.Outcome.{take_each};
+ghost use Rattle.pm_cargo_reading.specs.Reading.{Gives, Leaves, Refuses};
 
 use crate::paths::{absolute_path, manifest_path};
 use crate::unresolved::{PackageParts, take_id, unresolved_package};

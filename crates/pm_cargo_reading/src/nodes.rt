@@ -8,7 +8,8 @@ ghost use Rattle.std.specs.List.Sorted.{IsSorted};
 ghost use Rattle.base_values.specs.Sorted.{sorted};
 ghost use Rattle.pm_cargo_reading.specs.Nodes.{by_package, has_kind, is_kind, kinds_of, known_place, link_of, links_of, place_of_package, take_dependency, with_kinds};
 ghost use Rattle.pm_cargo_reading.specs.Packages.{by_package_id};
-ghost use Rattle.pm_cargo_reading.specs.Reading.{Gives, Leaves, take_each};
+ghost use Rattle.base_values.specs.Outcome.{take_each};
+ghost use Rattle.pm_cargo_reading.specs.Reading.{Gives, Leaves};
 
 use crate::workspace_error::WorkspaceError;
 use base_text_paths::{Items, Text, TryClone};

@@ -1,3 +1,4 @@
 pub mod Equalities
+pub mod LimitLemmas
 mod ReadingLemmas
 pub mod Steps

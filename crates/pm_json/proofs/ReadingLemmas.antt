@@ -1,6 +1,7 @@
 -- Readings whose first part is refused.
 use Rattle.std.proofs.Common.{ap, Err}
-use Rattle.pm_json.specs.Refusals.{Gives, Reading, ◌>>=◌}
+use Rattle.base_values.specs.Outcome.{◌>>=◌}
+use Rattle.pm_json.specs.Refusals.{Gives, Reading}
 use Rattle.pm_json.specs.declared.workspace_json_error.WorkspaceJsonError.{WorkspaceJsonError}
 use Rattle.pm_json.specs.declared.workspace_json_error.WorkspaceJsonError.TheVariants.{TooMany, NoParent, OutOfMemory}
 

@@ -2,7 +2,8 @@
 use Rattle.std.proofs.Common.{◌≡◌, sym, subst, Result, Ok, Err}
 use Rattle.std.specs.Result.{IsErrAnd}
 use Rattle.json_fields.specs.Laws.Rows.{Gives-then}
-use Rattle.json_fields.specs.Outcome.{Gives, Reading, ◌>>=◌}
+use Rattle.base_values.specs.Outcome.{◌>>=◌}
+use Rattle.json_fields.specs.Outcome.{Gives, Reading}
 use Rattle.json_fields.specs.declared.place.ReadError.{ReadError}
 
 -- a call returns what the reading gives

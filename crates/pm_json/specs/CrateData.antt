@@ -3,7 +3,8 @@ use Rattle.std.specs.Prelude.{◌≡◌, [], codes, false, refl, Ok}
 use Rattle.serde_json.specs.Data.{Data, boolean, object, string, Members, no_members}
 use Rattle.json_fields.specs.Cfg.{cfg_at, cfg_data}
 use Rattle.json_fields.specs.Fields.{default_member, flag_at, list_at, map_at, members_at, optional_member, required_member, text_at}
-use Rattle.json_fields.specs.Outcome.{Reading, ◌>>=◌}
+use Rattle.base_values.specs.Outcome.{◌>>=◌}
+use Rattle.json_fields.specs.Outcome.{Reading}
 use Rattle.json_fields.specs.Versions.{version_at, version_data}
 use Rattle.json_fields.specs.Written.{is_null, list_data, map_data, option_data, set_member}
 use Rattle.pm_json.specs.Dep.{dep_at, dep_data}

@@ -13,7 +13,8 @@ use Rattle.pm_json.specs.Kinds.{edition_from, target_kind_from}
 use Rattle.pm_json.specs.declared.crate_data.CrateData.{CrateData}
 use Rattle.pm_json.specs.declared.parts.BuildData.{BuildData}
 use Rattle.pm_json.specs.declared.parts.CrateSource.{CrateSource}
-use Rattle.pm_json.specs.Refusals.{Reading, ◌>>=◌, under}
+use Rattle.base_values.specs.Outcome.{◌>>=◌}
+use Rattle.pm_json.specs.Refusals.{Reading, under}
 use Rattle.pm_json.specs.declared.krate.Build.{Build}
 use Rattle.pm_json.specs.declared.crate_parts.CrateHead.{CrateHead}
 use Rattle.pm_json.specs.declared.crate_parts.CrateTail.{CrateTail}
@@ -83,12 +84,6 @@ head_on_base base stated = do
     proc_macro_cwd = option_map (absolute_from base) stated.proc_macro_cwd;
   })
 
--- what of a crate is read on the base, and all of its atoms
-abbrev pub parts_from : List ℕ → Groups → CrateData → Reading (CrateHead × List CfgAtom)
-parts_from base groups stated = do
-  head ← head_on_base base stated
-  Ok (head, cfgs_of groups stated.cfg_groups stated.cfg)
-
 -- what is taken as it is stated, with the atoms of the groups and the crate's own
 abbrev pub tail_with : CrateData → List CfgAtom → CrateTail
 tail_with stated cfg = record {
@@ -123,33 +118,6 @@ crate_with head tail = record {
   proc_macro_cwd = head.proc_macro_cwd;
   repository = tail.repository;
   build = tail.build;
-}
-
--- what of a crate is read on the base
-abbrev pub read_head : Crate → CrateHead
-read_head c = record {
-  display_name = c.display_name;
-  root_module = c.root_module;
-  version = c.version;
-  proc_macro_dylib_path = c.proc_macro_dylib_path;
-  is_workspace_member = c.is_workspace_member;
-  include = c.include;
-  exclude = c.exclude;
-  proc_macro_cwd = c.proc_macro_cwd;
-}
-
--- what of a crate is taken as it is stated
-abbrev pub taken_tail : Crate → CrateTail
-taken_tail c = record {
-  edition = c.edition;
-  deps = c.deps;
-  cfg = c.cfg;
-  target = c.target;
-  env = c.env;
-  crate_attrs = c.crate_attrs;
-  is_proc_macro = c.is_proc_macro;
-  repository = c.repository;
-  build = c.build;
 }
 
 -- a crate of a document

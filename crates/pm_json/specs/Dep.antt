@@ -3,7 +3,8 @@ use Rattle.std.specs.Prelude.{◌≡◌, if◌then◌else◌, ℕ, List, [], cod
 use Rattle.serde_json.specs.Data.{Data, number, unsigned, object, string, no_members}
 use Rattle.crate_graph_values.specs.Names.{has_dash}
 use Rattle.json_fields.specs.Fields.{members_at, number_at, required_member}
-use Rattle.json_fields.specs.Outcome.{Reading, ◌>>=◌}
+use Rattle.base_values.specs.Outcome.{◌>>=◌}
+use Rattle.json_fields.specs.Outcome.{Reading}
 use Rattle.json_fields.specs.TextJson.{text_form_at}
 use Rattle.json_fields.specs.Written.{is_null, set_member}
 use Rattle.pm_json.specs.declared.dep.CrateArrayIdx.{CrateArrayIdx}

@@ -1,6 +1,7 @@
 pub mod CrateData
 pub mod Crates
 pub mod Dep
+pub mod Gathering
 pub mod Kinds
 pub mod Parts
 pub mod Project

@@ -2,7 +2,8 @@
 use Rattle.std.specs.Prelude.{◌≡◌, codes, false, refl, Ok}
 use Rattle.serde_json.specs.Data.{Data, object, string, no_members}
 use Rattle.json_fields.specs.Fields.{list_at, members_at, required_member, text_at}
-use Rattle.json_fields.specs.Outcome.{Reading, ◌>>=◌}
+use Rattle.base_values.specs.Outcome.{◌>>=◌}
+use Rattle.json_fields.specs.Outcome.{Reading}
 use Rattle.json_fields.specs.Written.{is_null, list_data, set_member}
 use Rattle.pm_json.specs.Kinds.{runnable_kind_at, runnable_kind_data, json_target_kind_at, json_target_kind_data}
 use Rattle.pm_json.specs.declared.parts.BuildData.{BuildData}

@@ -7,7 +7,8 @@ use Rattle.pm_json.specs.declared.project_json_data.ProjectJsonData.{ProjectJson
 use Rattle.pm_json.specs.declared.project_json_data.ProjectJsonData.TheFolds.{fold-ProjectJsonData}
 use Rattle.pm_json.specs.declared.project_json_data.ProjectJsonData.TheOpen.{ProjectJsonData-F}
 use Rattle.pm_json.specs.Crates.{absolute_from, crates_on_base}
-use Rattle.pm_json.specs.Refusals.{Reading, under, ◌>>=◌}
+use Rattle.base_values.specs.Outcome.{◌>>=◌}
+use Rattle.pm_json.specs.Refusals.{Reading, under}
 use Rattle.pm_json.specs.declared.project_json.ProjectJson.{ProjectJson}
 use Rattle.pm_json.specs.declared.project_json.ProjectJson.TheViews.{roll-ProjectJson}
 use Rattle.pm_json.specs.declared.workspace_json_error.WorkspaceJsonError.TheVariants.{TooMany}

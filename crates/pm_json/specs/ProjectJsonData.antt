@@ -5,7 +5,8 @@ use Rattle.serde_json.specs.Read.{max_depth}
 use Rattle.json_fields.specs.Cfg.{cfg_at, cfg_data}
 use Rattle.json_fields.specs.Fields.{default_member, list_at, map_at, members_at, optional_member, required_member, text_at}
 use Rattle.json_fields.specs.Nested.{within_levels, or_null}
-use Rattle.json_fields.specs.Outcome.{Reading, ◌>>=◌}
+use Rattle.base_values.specs.Outcome.{◌>>=◌}
+use Rattle.json_fields.specs.Outcome.{Reading}
 use Rattle.json_fields.specs.Written.{list_data, map_data, option_data, set_member}
 use Rattle.pm_json.specs.CrateData.{crate_at, crate_data}
 use Rattle.pm_json.specs.Parts.{runnable_at, runnable_data}

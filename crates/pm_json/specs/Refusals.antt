@@ -1,5 +1,6 @@
 -- what reading a project gives: a value, or the first refusal in the order in which a document is checked
 use Rattle.std.specs.Prelude.{◌≡◌, ℕ, List, codes, Result, Ok, Err}
+use Rattle.base_text_outside.specs.declared.limits.Limit.TheVariants.{Crates}
 use Rattle.pm_json.specs.declared.workspace_json_error.WorkspaceJsonError.{WorkspaceJsonError}
 use Rattle.pm_json.specs.declared.workspace_json_error.WorkspaceJsonError.TheVariants.{TooMany, NoParent, OutOfMemory}
 
@@ -13,13 +14,6 @@ json_error_name OutOfMemory = codes "OutOfMemory"
 abbrev pub Reading : Type 0 → Type 0
 Reading T = Result T WorkspaceJsonError
 
--- the next part is read where this one is not refused
-infixl 10 ◌>>=◌
--- a reading, and what is read with its value
-abbrev pub ◌>>=◌ : {A B : Type 0} → Reading A → (A → Reading B) → Reading B
-Ok x >>= f = f x
-Err e >>= f = Err e
-
 -- what was read, under f
 abbrev pub under : {A B : Type 0} → (A → B) → Reading A → Reading B
 under f (Ok x) = Ok (f x)
@@ -31,3 +25,8 @@ Gives (Ok x) reading = reading ≡ Ok x
 Gives (Err (TooMany limit)) reading = reading ≡ Err (TooMany limit)
 Gives (Err (NoParent text)) reading = reading ≡ Err (NoParent text)
 Gives (Err OutOfMemory) reading = Unit {0}
+
+-- the limit that a refusal names, where it names one, is that of crates
+abbrev pub NamesCrateLimit : WorkspaceJsonError → Type 0
+NamesCrateLimit (TooMany limit) = limit ≡ Crates
+NamesCrateLimit other = Unit {0}

@@ -2,7 +2,8 @@
 //! are stated.
 
 ghost use Rattle.std.specs.Prelude.{◌≡◌, IfOk};
-ghost use Rattle.pm_json.specs.Crates.{crate_with, read_head, taken_tail, tail_with};
+ghost use Rattle.pm_json.specs.Crates.{crate_with, tail_with};
+ghost use Rattle.pm_json.specs.Gathering.{read_head, taken_tail};
 
 use crate::crate_data::CrateData;
 use crate::dep::Dep;

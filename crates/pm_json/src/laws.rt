@@ -1,4 +1,4 @@
-//! Laws for callers' proofs. Each is a function that does nothing: its contract is the law.
+//! Laws for callers' proofs. Each is a function that changes nothing: its contract is the law.
 
 ghost use Rattle.base_values.specs.Equality.{IsContentEquality};
 ghost use Rattle.crate_graph_values.specs.Laws.{IsContentEqualityOn};

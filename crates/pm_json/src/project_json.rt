@@ -1,11 +1,12 @@
 //! A project as a document and a base directory make it.
 
-ghost use Rattle.std.specs.Prelude.{◌≡◌, IfOk, None, option_map};
+ghost use Rattle.std.specs.Prelude.{◌≡◌, ◌≤◌, IfErr, IfOk, None, length, option_map};
 ghost use Rattle.base_text_paths.specs.AbsPath.{abs_text};
 ghost use Rattle.pm_json.specs.Crates.{absolute_from};
 ghost use Rattle.pm_json.specs.Project as project;
 ghost use Rattle.pm_json.specs.Project.{project_of};
-ghost use Rattle.pm_json.specs.Refusals.{Gives};
+ghost use Rattle.pm_json.specs.Queries.{crates_in};
+ghost use Rattle.pm_json.specs.Refusals.{Gives, NamesCrateLimit};
 
 use crate::krate::Crate;
 use crate::parts::Runnable;
@@ -36,9 +37,7 @@ pub struct ProjectJson {
 }
 
 impl ProjectJson {
-    /// The project of a document, whose paths are read from the base.
-    #[cycle(project)]
-    #[tactic(auto, unfolding(crate::specs::Project::level_within_limit, crate::specs::Project::level_read))]
+    /// The project of a document, whose paths are read from the base. A refusal names no other limit than that of crates.
     pub fn new(
         alloc: Global,
         manifest: Option<ManifestPath>,
@@ -48,28 +47,46 @@ impl ProjectJson {
     ) -> Result<ProjectJson, WorkspaceJsonError>
         ensures exact { Gives result
             (project_of limits.now.crates json_data manifest (abs_text base.entry)) }
+        ensures limits { IfErr result NamesCrateLimit }
+        ensures few { IfOk result (λ p. length (crates_in p) ≤ limits.now.crates) }
     {
-        if json_data.crates.len() > limits.crates as usize {
-            return Err(WorkspaceJsonError::TooMany(Limit::Crates));
-        }
-        let Directories {
-            sysroot,
-            sysroot_src,
-            project_root,
-        } = Directories::new(alloc, base, &json_data.sysroot, &json_data.sysroot_src)?;
-        let stated = json_data.crates;
-        let crates = read_crates(alloc, base, &json_data.cfg_groups, stated)?;
-        let sysroot_project = read_sysroot(alloc, &sysroot_src, json_data.sysroot_project, limits)?;
-        Ok(ProjectJson {
-            sysroot,
-            sysroot_src,
-            sysroot_project,
-            project_root,
-            manifest,
-            crates,
-            runnables: json_data.runnables,
-        })
+        project_on_base(alloc, manifest, base, json_data, limits)
     }
+}
+
+// One level of a project, and the project of the standard library in it.
+#[cycle(project)]
+#[tactic(auto, unfolding(crate::specs::Project::level_within_limit, crate::specs::Project::level_read))]
+fn project_on_base(
+    alloc: Global,
+    manifest: Option<ManifestPath>,
+    base: AbsPath<'_>,
+    json_data: ProjectJsonData,
+    limits: &Limits,
+) -> Result<ProjectJson, WorkspaceJsonError>
+    ensures exact { Gives result
+        (project_of limits.now.crates json_data manifest (abs_text base.entry)) }
+{
+    if json_data.crates.len() > limits.crates as usize {
+        return Err(WorkspaceJsonError::TooMany(Limit::Crates));
+    }
+    let Directories {
+        sysroot,
+        sysroot_src,
+        project_root,
+    } = Directories::new(alloc, base, &json_data.sysroot, &json_data.sysroot_src)?;
+    let stated = json_data.crates;
+    let crates = read_crates(alloc, base, &json_data.cfg_groups, stated)?;
+    let sysroot_project = read_sysroot(alloc, &sysroot_src, json_data.sysroot_project, limits)?;
+    Ok(ProjectJson {
+        sysroot,
+        sysroot_src,
+        sysroot_project,
+        project_root,
+        manifest,
+        crates,
+        runnables: json_data.runnables,
+    })
 }
 
 // The directories of a project.
@@ -116,7 +133,7 @@ fn read_sysroot(
     match (source, json_data) {
         (Some(source), Some(json_data)) => {
             let stated = json_data.into_inner();
-            let project = ProjectJson::new(alloc, None, source.as_path(), stated, limits)?;
+            let project = project_on_base(alloc, None, source.as_path(), stated, limits)?;
             Ok(Some(Boxed::new(alloc, project)?))
         }
         _ => Ok(None),

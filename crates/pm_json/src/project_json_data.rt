@@ -38,7 +38,8 @@ pub struct ProjectJsonData {
 }
 
 impl ProjectJsonData {
-    /// Reads a document: `float` where it holds one anywhere, else the first missed place.
+    /// Reads a document: `float` where it holds one anywhere, else the first missed place. A value that nests past 127
+    /// projects misses a place there.
     pub fn of_value(alloc: Global, value: &Value) -> Result<ProjectJsonData, Error>
         ensures exact { GivesDocument result (whole project_at (view value.now)) }
         ensures again { IfOk result (IsWholeAgain project_at project_data) }

@@ -6,7 +6,8 @@ ghost use Rattle.base_text_paths.specs.Paths.{parent_text};
 ghost use Rattle.crate_graph_values.specs.Names.{shown_as};
 ghost use Rattle.json_fields.specs.Versions.{version_text};
 ghost use Rattle.pm_json.specs.Crates as crates;
-ghost use Rattle.pm_json.specs.Crates.{absolute_from, cfgs_of, crates_on_base, folder_of_parent, group_names, head_on_base, is_member, parts_from};
+ghost use Rattle.pm_json.specs.Crates.{absolute_from, cfgs_of, crates_on_base, folder_of_parent, group_names, head_on_base, is_member};
+ghost use Rattle.pm_json.specs.Gathering.{parts_from};
 ghost use Rattle.pm_json.specs.Refusals.{Gives};
 
 use crate::crate_data::CrateData;

@@ -9,7 +9,8 @@ use Rattle.pm_cargo.specs.Workspace.{Workspace}
 use Rattle.pm_cargo.proofs.ShuffleLemmas.{shuffle-read}
 use Rattle.pm_cargo_config.specs.declared.config.CargoConfig.{CargoConfig}
 use Rattle.pm_lower_load.specs.Located.{located_manifest}
-use Rattle.pm_lower_load.specs.Loading.{Gives, Loading, Refuses, ◌>>=◌, of_fetch, of_reading, of_workspace_error}
+use Rattle.base_values.specs.Outcome.{◌>>=◌}
+use Rattle.pm_lower_load.specs.Loading.{Gives, Loading, Refuses, of_fetch, of_reading, of_workspace_error}
 use Rattle.pm_lower_load.specs.Metadata.{environment, metadata_answer}
 use Rattle.pm_lower_load.specs.ToolAnswers.{tool_answers}
 use Rattle.pm_lower_load.specs.declared.load_error.LoadError.{LoadError}
@@ -115,13 +116,13 @@ module _ (sysroot : Toolchain) (manifest : List ℕ) (config : CargoConfig) (lim
 
   -- no root is located
   pub root-refused : (e : LoadError) → Refuses e (located_manifest sysroot manifest means) → Refuses e (cargo_project sysroot manifest config limits means)
-  unfolding cargo_project
+  unfolding cargo_project located_project project_with
   root-refused e h = refuses_first e (located_manifest sysroot manifest means) (λ (located : List ℕ). located_project sysroot located config limits means) h
 
   -- the root is located, and the rest is loaded for it
   pub root-gives : (result : Result ProjectWorkspace LoadError) (located : List ℕ) → located_manifest sysroot manifest means ≡ Ok located
       → Gives result (located_project sysroot located config limits means) → Gives result (cargo_project sysroot manifest config limits means)
-  unfolding cargo_project
+  unfolding cargo_project located_project project_with
   root-gives result located is h =
       gives_next result (located_manifest sysroot manifest means) located (λ (l : List ℕ). located_project sysroot l config limits means) is h
 

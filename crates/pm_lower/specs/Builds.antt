@@ -9,7 +9,8 @@ use Rattle.base_text_outside.specs.declared.command.CommandLine.{CommandLine}
 use Rattle.base_text_outside.specs.declared.command.Output.{Output}
 use Rattle.pm_tools.specs.Build.{build_of}
 use Rattle.pm_tools.specs.Outputs.{BuildScripts, outputs_of}
-use Rattle.pm_tools.specs.Reading.{Gives, Reading, ◌>>=◌}
+use Rattle.base_values.specs.Outcome.{◌>>=◌}
+use Rattle.pm_tools.specs.Reading.{Gives, Reading}
 use Rattle.pm_tools.specs.SharedBuild.{SharedBuild, scripts_for, shared_build}
 use Rattle.pm_tools.specs.declared.build_error.BuildError.{BuildError}
 use Rattle.pm_tools.specs.Question.{configured_question}
@@ -55,7 +56,7 @@ outputs_for (Some cargo) output = outputs_of cargo output
 abbrev pub project_outputs : ProjectWorkspace → Output → Reading BuildScripts
 project_outputs p output = outputs_for (built_workspace p.kind) output
 
--- what a build gives the workspace that it counts for, if there is one; without one nothing is asked
+-- what a build gives the workspace that it counts for; without one there are no outputs, whatever is answered
 abbrev pub build_for : CargoConfig → Toolchain → Option Parts → Means → Option Workspace
     → Reading BuildScripts
 build_for config sysroot version means None = Ok no_scripts
@@ -84,7 +85,7 @@ kind_share build (Cargo cargo error scripts rustc) = build >>= λ shared. Ok (sc
 kind_share build (Json project) = Ok no_scripts
 kind_share build (DetachedFile file script) = Ok no_scripts
 
--- the command that is asked once for all projects, where it is configured so
+-- the command whose answer counts for all projects, where it is configured so
 abbrev pub command_for_all : CargoConfig → List ℕ → Means → InvocationStrategy → Option CommandLine
 command_for_all config dir means Once = configured_question config.run_build_script_command dir means
 command_for_all config dir means PerWorkspace = None

@@ -7,5 +7,6 @@ pub mod Order
 pub mod Project
 pub mod ProjectWorkspace
 pub mod ReadProject
+pub mod Small
 pub mod ToCrateGraph
 pub mod ToRoots

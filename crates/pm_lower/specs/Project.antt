@@ -11,7 +11,8 @@ use Rattle.pm_cargo.specs.ReadWorkspace.{read_workspace}
 use Rattle.pm_cargo.specs.Workspace.{Workspace}
 use Rattle.pm_cargo_config.specs.declared.config.CargoConfig.{CargoConfig}
 use Rattle.pm_lower_load.specs.Located.{located_manifest}
-use Rattle.pm_lower_load.specs.Loading.{Loading, ◌>>=◌, of_fetch, of_reading}
+use Rattle.base_values.specs.Outcome.{◌>>=◌}
+use Rattle.pm_lower_load.specs.Loading.{Loading, of_fetch, of_reading}
 use Rattle.pm_lower_load.specs.Metadata.{environment, metadata_answer}
 use Rattle.pm_lower_load.specs.ToolAnswers.{tool_answers}
 use Rattle.pm_lower_load.specs.declared.tool_answers.PlatformAsked.TheVariants.{FirstTarget}
@@ -64,8 +65,12 @@ located_project sysroot manifest config limits means =
     of_fetch (metadata_answer sysroot manifest config answers means) >>= λ metadata.
     project_with sysroot manifest config answers limits means metadata
 
--- the project of a manifest: that of the workspace's root, which is located first
+-- the project of a manifest: the workspace's root is located first, then its metadata is fetched by what the
+-- tools say of it, and then the workspace is read
 unfoldable pub cargo_project : Toolchain → List ℕ → CargoConfig → Limits → Means → Loading ProjectWorkspace
-cargo_project sysroot manifest config limits means =
-    located_manifest sysroot manifest means >>= λ located.
-    located_project sysroot located config limits means
+cargo_project sysroot manifest config limits means = do
+  located ← located_manifest sysroot manifest means
+  let answers = tool_answers sysroot located FirstTarget config means
+  metadata ← of_fetch (metadata_answer sysroot located config answers means)
+  kind ← kind_with located config answers limits means metadata
+  Ok (project_of_workspace sysroot config answers kind)

@@ -5,7 +5,7 @@ use Rattle.base_text_outside.specs.declared.limits.Limits.{Limits}
 use Rattle.pm_cargo_config.specs.declared.config.CargoConfig.{CargoConfig}
 use Rattle.pm_lower.specs.DetachedProject.{detached_project}
 use Rattle.pm_lower.specs.JsonProject.{json_project}
-use Rattle.pm_lower_load.specs.Loading.{Loading}
+use Rattle.pm_lower_load.specs.Loading.{Loading, of_reading}
 use Rattle.pm_lower.specs.Project.{cargo_project}
 use Rattle.pm_lower.specs.declared.project_workspace.ProjectWorkspace.{ProjectWorkspace}
 use Rattle.pm_tools_ask.specs.Ask.{Means}
@@ -18,7 +18,8 @@ abbrev pub read_project : ProjectManifest → CargoConfig → Limits → Means �
 read_project (ProjectJson path) config limits means = json_project path config limits means
 read_project (CargoToml manifest) config limits means =
     cargo_project empty_sysroot manifest config limits means
-read_project (CargoScript file) config limits means = detached_project empty_sysroot file config limits means
+read_project (CargoScript file) config limits means =
+    of_reading (detached_project empty_sysroot file config limits means)
 
 -- neither a toolchain nor sources of the compiler are configured, and the extra variables are those that
 -- questions are asked with

@@ -2,7 +2,7 @@
 -- compiler's crates. The rules are those of rust-analyzer's `ProjectWorkspace::to_roots`.
 use Rattle.std.specs.Prelude.{ℕ, false, IsErr, List, [], ◌∷◌, ◌++◌, Option, Some, None}
 use Rattle.std.specs.FinMap.{get}
-use Rattle.std.specs.Option.{option_and_then, option_to_list}
+use Rattle.std.specs.Option.{option_to_list}
 use Rattle.pm_tools.specs.Outputs.{BuildScripts}
 use Rattle.pm_lower_load.specs.DetachedRoots as detached
 use Rattle.pm_lower_load.specs.JsonRoots as json
@@ -11,15 +11,15 @@ use Rattle.pm_lower.specs.ProjectWorkspace.{ScriptPart}
 use Rattle.pm_lower.specs.declared.project_workspace.ProjectWorkspace.{ProjectWorkspace}
 use Rattle.pm_lower.specs.declared.project_workspace.ProjectWorkspaceKind.{ProjectWorkspaceKind}
 use Rattle.pm_lower.specs.declared.project_workspace.ProjectWorkspaceKind.TheVariants.{Cargo, Json, DetachedFile}
-use Rattle.pm_lower_load.specs.Roots.{roots_of}
+use Rattle.pm_lower_load.specs.Roots.{out_dir_in, roots_of}
 use Rattle.pm_lower_load.specs.declared.package_root.PackageRoot.{PackageRoot}
 use Rattle.pm_tools_ask.specs.Toolchain.{Toolchain}
 use Rattle.pm_tools_ask.specs.declared.rust_lib_src.RustLibSrcWorkspace.{RustLibSrcWorkspace}
 use Rattle.pm_tools_ask.specs.declared.rust_lib_src.RustLibSrcWorkspace.TheVariants.{Empty}
 
--- the directory that the build of the package with a number wrote into, if it did
+-- the directories that builds wrote into, by the numbers of their packages
 abbrev pub out_dir_at : BuildScripts → ℕ → Option (List ℕ)
-out_dir_at scripts number = option_and_then (λ output. output.out_dir) (get scripts.outputs number)
+out_dir_at scripts = out_dir_in (get scripts.outputs)
 
 -- the roots of a detached file: its own, and then those of its project
 abbrev pub script_roots : List ℕ → Option ScriptPart → List (List ℕ) → List PackageRoot

@@ -23,8 +23,8 @@ use std::alloc::{AllocError, Global};
 pub type BuildResult = Result<WorkspaceBuildScripts, BuildError>;
 
 impl ProjectWorkspace {
-    /// What a build of the project gives its packages. Nothing is asked where the metadata of the members
-    /// alone stands in for that of all packages: then there are no outputs. `progress` takes the lines of
+    /// What a build of the project gives its packages. Where the metadata of the members alone stands in for
+    /// that of all packages there are no outputs, whatever is answered. `progress` takes the lines of
     /// [`run_for_workspace`](WorkspaceBuildScripts::run_for_workspace).
     pub fn run_build_scripts<R: Runner, T: Tree, P: Progress>(
         &self,

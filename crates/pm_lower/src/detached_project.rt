@@ -3,10 +3,10 @@
 ghost use Rattle.std.specs.Prelude.{◌≡◌, IfOk, option_copied};
 ghost use Rattle.std.specs.Option.{option_map};
 ghost use Rattle.cargo_meta_values.specs.Errors.{metadata_error_text};
-ghost use Rattle.pm_lower_load.specs.Loading.{Gives};
 ghost use Rattle.pm_lower_load.specs.Metadata.{metadata_answer};
 ghost use Rattle.pm_lower.specs.DetachedProject as spec;
 ghost use Rattle.pm_lower.specs.DetachedProject.{metadata_or_none, script_with};
+ghost use Rattle.pm_cargo_reading.specs.Reading.{Gives};
 ghost use Rattle.pm_tools_ask.specs.Ask.{means_of};
 ghost use Rattle.pm_tools_ask.specs.ConfigEnv.{config_env};
 
@@ -18,7 +18,7 @@ use cargo_meta_values::Error as MetadataError;
 use crate_graph_values::Env;
 use pm_cargo::CargoWorkspace;
 use pm_cargo_config::CargoConfig;
-use pm_lower_load::LoadError;
+use pm_cargo_reading::WorkspaceError;
 use pm_lower_load::metadata::{error_text, fetch};
 use pm_lower_load::tool_answers::{PlatformAsked, ToolAnswers, ask_tools};
 use pm_tools::WorkspaceBuildScripts;
@@ -40,7 +40,7 @@ fn fetch_script<R: Runner, T: Tree>(
 {
     match fetch(alloc, sysroot, file, config, answers, ask, &mut Quiet) {
         Ok(metadata) => Ok(Some(metadata)),
-        Err(LoadError::OutOfMemory) => Err(AllocError),
+        Err(MetadataError::OutOfMemory) => Err(AllocError),
         Err(_) => Ok(None),
     }
 }
@@ -68,7 +68,7 @@ fn script_with<R: Runner, T: Tree>(
     limits: &Limits,
     metadata: Option<(Metadata, Option<MetadataError>)>,
     ask: &Ask<'_, R, T>,
-) -> Result<Option<ScriptWorkspace>, LoadError>
+) -> Result<Option<ScriptWorkspace>, WorkspaceError>
     ensures { Gives result (script_with file answers.now.config_file limits.now
         (means_of R.answers T.files ask.now) metadata) }
 {
@@ -89,7 +89,7 @@ fn detached_kind<R: Runner, T: Tree>(
     answers: &ToolAnswers,
     limits: &Limits,
     ask: &Ask<'_, R, T>,
-) -> Result<ProjectWorkspaceKind, LoadError>
+) -> Result<ProjectWorkspaceKind, WorkspaceError>
     ensures { Gives result (spec.detached_kind file.now answers.now.config_file limits.now
         (means_of R.answers T.files ask.now) (metadata_or_none (metadata_answer sysroot.now file.now
         config.now answers.now (means_of R.answers T.files ask.now)))) }
@@ -111,7 +111,7 @@ fn detached_with<R: Runner, T: Tree>(
     answers: ToolAnswers,
     limits: &Limits,
     ask: &Ask<'_, R, T>,
-) -> Result<ProjectWorkspace, LoadError>
+) -> Result<ProjectWorkspace, WorkspaceError>
     requires { settings ≡ record {
       cfg_overrides = config.now.cfg_overrides;
       extra_includes = config.now.extra_includes;
@@ -134,7 +134,7 @@ pub(crate) fn detached_project<R: Runner, T: Tree>(
     config: &CargoConfig,
     limits: &Limits,
     ask: &Ask<'_, R, T>,
-) -> Result<ProjectWorkspace, LoadError>
+) -> Result<ProjectWorkspace, WorkspaceError>
     ensures { Gives result (spec.detached_project sysroot file.now config.now limits.now
         (means_of R.answers T.files ask.now)) }
 {

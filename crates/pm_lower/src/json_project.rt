@@ -3,17 +3,19 @@
 ghost use Rattle.std.specs.Prelude.{◌≡◌, ◌∷◌, [], IfOk, IsErr, IsErrOf};
 ghost use Rattle.pm_cargo_fetch.specs.Lines.{TakesLines};
 ghost use Rattle.pm_json.specs.Queries.{project_base};
-ghost use Rattle.pm_lower_load.specs.Compiler.{compiler_answers};
+ghost use Rattle.pm_lower_load.specs.ToolAnswers.{compiler_answers};
 ghost use Rattle.pm_lower_load.specs.JsonDocument as stated;
 ghost use Rattle.pm_lower_load.specs.Loading.{Gives};
 ghost use Rattle.pm_lower.specs.JsonProject as spec;
 ghost use Rattle.pm_lower.specs.Lines.{lines_of_document, metadata_line, sysroot_line};
+ghost use Rattle.pm_cargo_reading.specs.Reading as reading;
 ghost use Rattle.pm_tools_ask.specs.Ask.{means_of};
 
 use crate::cargo_project::{Settings, project_of, settings_of};
 use crate::project_workspace::{ProjectWorkspace, ProjectWorkspaceKind};
 use base_text::{Limits, ManifestPath, Progress, Runner, Tree};
 use pm_cargo_config::CargoConfig;
+use pm_cargo_reading::WorkspaceError;
 use pm_json::ProjectJson;
 use pm_lower_load::LoadError;
 use pm_lower_load::json_document::{json_content, stated_sysroot};
@@ -42,7 +44,7 @@ fn ask_stated<R: Runner, T: Tree, P: Progress>(
     Ok((sysroot, answers))
 }
 
-// A project with what the compiler of its toolchain says in its directory.
+// A project with what the compiler of its toolchain says in its directory. It is refused for nothing but memory.
 #[tactic(auto, unfolding(crate::specs::JsonProject::inline_project))]
 fn inline_project<R: Runner, T: Tree, P: Progress>(
     alloc: Global,
@@ -51,16 +53,16 @@ fn inline_project<R: Runner, T: Tree, P: Progress>(
     config: &CargoConfig,
     ask: &Ask<'_, R, T>,
     progress: &mut P,
-) -> Result<ProjectWorkspace, AllocError>
+) -> Result<ProjectWorkspace, WorkspaceError>
     requires { settings ≡ record {
       cfg_overrides = config.now.cfg_overrides;
       extra_includes = config.now.extra_includes;
       set_test = config.now.set_test;
     } }
-    ensures project { IfOk result (λ loaded. loaded
-        ≡ spec.inline_project project config.now (means_of R.answers T.files ask.now)) }
-    ensures lines { TakesLines (IsErr result) (P.lines progress.old) (P.lines progress.new)
-        (sysroot_line ∷ metadata_line ∷ []) }
+    ensures project { reading.Gives result
+        (spec.inline_project project config.now (means_of R.answers T.files ask.now)) }
+    ensures lines { TakesLines (IsErrOf result WorkspaceError.OutOfMemory)
+        (P.lines progress.old) (P.lines progress.new) (sysroot_line ∷ metadata_line ∷ []) }
 {
     let (sysroot, answers) = ask_stated(alloc, &project, config, ask, progress)?;
     let kind = ProjectWorkspaceKind::Json(project);

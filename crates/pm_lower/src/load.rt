@@ -1,10 +1,11 @@
 //! Loading a project by the kind of its manifest.
 
-ghost use Rattle.std.specs.Prelude.{IsErrOf};
+ghost use Rattle.std.specs.Prelude.{IfErr, IfOk, IsErrOf};
 ghost use Rattle.pm_cargo_fetch.specs.Lines.{TakesLines};
-ghost use Rattle.pm_lower_load.specs.Loading.{Gives};
+ghost use Rattle.pm_lower_load.specs.Loading.{Gives, NamesDocumentLimit};
 ghost use Rattle.pm_lower.specs.Lines.{load_lines};
 ghost use Rattle.pm_lower.specs.ReadProject.{IsPlain, read_project};
+ghost use Rattle.pm_lower.specs.Small.{IsSmall};
 ghost use Rattle.pm_tools_ask.specs.Ask.{means_of};
 
 use crate::cargo_project::cargo_project;
@@ -18,7 +19,8 @@ use pm_tools_ask::{Ask, ProjectManifest, Sysroot};
 use std::alloc::Global;
 
 impl ProjectWorkspace {
-    /// Loads the project of a manifest. `progress` takes a line for each part of a project of cargo and of a JSON
+    /// Loads the project of a manifest. A refusal names no other limit than those of packages, targets and crates, and a
+    /// project has no more roots than these allow. `progress` takes a line for each part of a project of cargo and of a JSON
     /// project, and those of fetching the metadata; it takes none for a detached file.
     pub fn load<R: Runner, T: Tree, P: Progress>(
         alloc: Global,
@@ -31,6 +33,8 @@ impl ProjectWorkspace {
         requires { IsPlain config.now (means_of R.answers T.files ask.now) }
         ensures project { Gives result (read_project manifest.now config.now limits.now
             (means_of R.answers T.files ask.now)) }
+        ensures limits { IfErr result NamesDocumentLimit }
+        ensures small { IfOk result (IsSmall limits.now) }
         ensures lines { TakesLines (IsErrOf result LoadError.OutOfMemory)
             (P.lines progress.old) (P.lines progress.new)
             (load_lines manifest.now config.now limits.now (means_of R.answers T.files ask.now)) }
@@ -43,7 +47,8 @@ impl ProjectWorkspace {
                 cargo_project(alloc, Sysroot::empty(), path, config, limits, ask, progress)
             }
             ProjectManifest::CargoScript(file) => {
-                detached_project(alloc, Sysroot::empty(), file, config, limits, ask)
+                let sysroot = Sysroot::empty();
+                Ok(detached_project(alloc, sysroot, file, config, limits, ask)?)
             }
         }
     }

@@ -5,32 +5,12 @@ ghost use Rattle.pm_lower.specs.ToRoots.{HasNoRustc, kind_roots, project_roots, 
 ghost use Rattle.pm_cargo_reading.specs.declared.workspace_error.WorkspaceError.TheVariants.{OutOfMemory};
 
 use crate::project_workspace::{ProjectWorkspace, ProjectWorkspaceKind, ScriptWorkspace};
-use base_text::{AbsPath, AbsPathBuf, Items, ManifestPath};
-use pm_cargo_packages::Package;
+use base_text::{AbsPathBuf, Items, ManifestPath};
 use pm_cargo_reading::WorkspaceError;
-use pm_lower_load::{OutDirs, PackageRoot, cargo_roots, detached_roots, json_roots};
+use pm_lower_load::{PackageRoot, cargo_roots, detached_roots, json_roots};
 use pm_tools::WorkspaceBuildScripts;
 use pm_tools_ask::{RustLibSrcWorkspace, Sysroot};
 use std::alloc::{AllocError, Global};
-
-// The directories that build scripts wrote into.
-#[derive(Drop)]
-struct BuildDirs<'a> {
-    scripts: &'a WorkspaceBuildScripts,
-}
-
-impl<'a> OutDirs for BuildDirs<'a> {
-    ghost use Rattle.pm_lower.specs.ToRoots.{out_dir_at};
-
-    ghost out_dir_at = { λ dirs. out_dir_at dirs.scripts.now };
-
-    fn out_dir(&self, package: Package) -> Option<AbsPath<'_>> {
-        match &self.scripts.get_output(package)?.out_dir {
-            Some(dir) => Some(dir.as_path()),
-            None => None,
-        }
-    }
-}
 
 // The root of the directory of a toolchain's sources.
 fn source_root(alloc: Global, sysroot: &Sysroot) -> Result<PackageRoot, AllocError>
@@ -72,12 +52,10 @@ fn script_roots(
     ensures { IfOk result (λ roots. roots ≡ script_roots file.now script.now extra.now) }
 {
     match script {
-        Some((cargo, scripts, _)) => {
-            detached_roots(alloc, file, Some(cargo), &BuildDirs { scripts }, extra)
-        }
+        Some((cargo, scripts, _)) => detached_roots(alloc, file, Some(cargo), scripts, extra),
         None => {
-            let scripts = &WorkspaceBuildScripts::new(alloc);
-            detached_roots(alloc, file, None, &BuildDirs { scripts }, extra)
+            let scripts = WorkspaceBuildScripts::new(alloc);
+            detached_roots(alloc, file, None, &scripts, extra)
         }
     }
 }
@@ -95,12 +73,7 @@ fn kind_roots(
             cargo,
             build_scripts,
             ..
-        } => {
-            let out_dirs = BuildDirs {
-                scripts: build_scripts,
-            };
-            cargo_roots(alloc, cargo, &out_dirs, extra)
-        }
+        } => cargo_roots(alloc, cargo, build_scripts, extra),
         ProjectWorkspaceKind::Json(project) => json_roots(alloc, project, extra),
         ProjectWorkspaceKind::DetachedFile { file, cargo } => {
             script_roots(alloc, file, cargo, extra)

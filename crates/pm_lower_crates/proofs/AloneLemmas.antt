@@ -1,42 +1,64 @@
--- What the lowering of a file alone comes to: one crate where it is live, and none else.
-use Rattle.std.proofs.Common.{◌≡◌, ℕ, ◌<◌, ◌≤◌, List, [], ◌∷◌, map, length, None, Some, sym, ap, ◌∙◌, arith, if◌then◌else◌}
-use Rattle.std.specs.Prelude.{Ok, Err}
-use Rattle.std.proofs.lemmas.Bool.{le-ltb, lt-ltb}
-use Rattle.base_text_outside.specs.declared.limits.Limit.TheVariants.{Bytes, Paths, Packages, Targets, Crates}
-use Rattle.crate_graph.specs.Graph.{Graph}
-use Rattle.crate_graph_values.specs.declared.workspace_data.CrateWorkspaceData.{CrateWorkspaceData}
-use Rattle.pm_lower_crates.specs.Lowering.{Crate, HasCrates, crate_seen}
-use Rattle.pm_lower_crates.specs.Refusal.{IfTooMany, Refuses}
-use Rattle.pm_lower_crates.specs.declared.lower_error.LowerError.{LowerError}
-use Rattle.pm_lower_crates.specs.declared.lower_error.LowerError.TheVariants.{BadCrateName, TooMany, OutOfMemory}
-use Rattle.pm_lower_crates.specs.DetachedLowering.{crate_of_file, crates_of_file, within_limit}
+-- A file alone as a part: one row where it is live, and none else.
+use Rattle.std.proofs.Common.{◌≡◌, ℕ, ◌+◌, ◌≤◌, List, [], ◌∷◌, ◌++◌, map, length, inl, inr, Option, None, Some, refl, sym, ap, ◌∙◌, subst, arith}
+use Rattle.std.specs.List.{All}
+use Rattle.std.proofs.lemmas.Bool.{cases_lt}
+use Rattle.std.proofs.lemmas.List.{append-nil, length-append, length-map}
+use Rattle.std.proofs.lemmas.List.Elements.{All-cons, All-nil}
+use Rattle.crate_graph.specs.Graph.{Graph, IsWellMadeGraph}
+use Rattle.pm_lower_crates.specs.Facts.{Facts}
+use Rattle.pm_lower_crates.specs.Front.{IsPublicIn}
+use Rattle.pm_lower_crates.specs.Keeping.{StartBehind}
+use Rattle.pm_lower_crates.specs.KeptEdges.{IsWithinRows}
+use Rattle.pm_lower_crates.specs.Lowering.{Crate, crate_seen}
+use Rattle.pm_lower_crates.specs.WantedEdges.{Dep, Edge, Public, RankedEdge, to_public, unranked, with_rank}
+use Rattle.pm_lower_crates.proofs.GatheredLemmas.{IsGathered}
+use Rattle.pm_lower_crates.proofs.UnrankedLemmas.{map_by_place, map_each}
+use Rattle.pm_lower_crates.proofs.WithinLemmas.{more_public, public_behind, public_within}
+use Rattle.pm_lower_crates.specs.DetachedLowering.{file_crate, file_part, file_public_edges}
 
-few : (limit : ℕ) (crates : List Crate) → length crates ≤ limit → within_limit limit crates ≡ Ok crates
-unfolding within_limit
-few limit crates within = ap (λ b. if b then Err (TooMany Crates) else Ok crates) (le-ltb limit (length crates) within)
+public_unranked : (public : Public) (n : ℕ) → unranked (file_public_edges public n) ≡ map (to_public n) public.rows
+public_unranked public n =
+    map_by_place (λ (r : RankedEdge). r.edge) (λ i (dep : Dep). with_rank (1 ∷ 1 ∷ 0 ∷ i ∷ []) (to_public n dep ∷ [])) (λ (dep : Dep). to_public n dep ∷ []) (λ i dep. refl) 0 public.rows
+    ∙ map_each (to_public n) public.rows
 
-many : (limit : ℕ) (crates : List Crate) → limit < length crates → within_limit limit crates ≡ Err (TooMany Crates)
-unfolding within_limit
-many limit crates past = ap (λ b. if b then Err (TooMany Crates) else Ok crates) (lt-ltb limit (length crates) past)
+module _ (facts : Facts) (public : Public) (file : List ℕ) (old mid : Graph) (well : IsWellMadeGraph old.crates old.limit) where
+  -- a file that is not live
+  pub alone_none : (n : ℕ) (want : List Edge) → want ≡ [] → mid ≡ old → IsGathered old mid (file_part facts public n file None) want
+  alone_none n want none same = record {
+    made = well;
+    limit = ap (λ g. g.limit) same;
+    fits = subst (λ (g : Graph). length g.crates ≤ old.limit) (sym same) well.within;
+    added = ap (λ (g : Graph). map crate_seen g.crates) same ∙ sym (append-nil (map crate_seen old.crates));
+    bare = All-nil (λ (c : Crate). c.deps ≡ []);
+    wanted = none;
+    within = subst (λ es. All (IsWithinRows (length old.crates + 0)) es) (sym none) (All-nil (IsWithinRows (length old.crates + 0)));
+    behind = subst (StartBehind (length old.crates)) (sym none) (All-nil (λ (e : Edge). length old.crates ≤ e.source));
+  }
 
-module _ (file : List ℕ) (shared : CrateWorkspaceData) (limit : ℕ) (graph : Graph) (limit_is : graph.limit ≡ limit) where
-  -- a file that is not live has no crate
-  pub without_file : graph.crates ≡ [] → HasCrates limit graph (within_limit limit (crates_of_file file shared None))
-  unfolding crates_of_file
-  without_file empty = record { crates_are = few limit [] (omega arith) ∙ ap (λ cs. Ok (map crate_seen cs)) (sym empty); limit_is = limit_is }
+  -- and one that is
+  pub alone_one : (n number : ℕ) (want : List Edge) → n ≡ length old.crates → IsPublicIn n public → want ≡ [] ++ map (to_public n) public.rows → mid.limit ≡ old.limit
+      → map crate_seen mid.crates ≡ map crate_seen old.crates ++ file_crate facts file number ∷ [] → (length old.crates ≡ old.limit → ⊥)
+      → IsGathered old mid (file_part facts public n file (Some number)) want
+  alone_one n number want is known want_are limit added room =
+      let few = well.within in
+      let count : length mid.crates ≡ length old.crates + 1 =
+      sym (length-map mid.crates crate_seen) ∙ ap length added ∙ length-append (map crate_seen old.crates) (file_crate facts file number ∷ []) ∙ ap (λ k. k + 1) (length-map old.crates crate_seen) in
+      let more : IsPublicIn (n + 1) public = more_public n 1 public known in
+      record {
+        made = well;
+        limit = limit;
+        fits = by (length old.crates) old.limit (length mid.crates) few count room;
+        added = added;
+        bare = All-cons (λ (c : Crate). c.deps ≡ []) (file_crate facts file number) [] refl (All-nil (λ (c : Crate). c.deps ≡ []));
+        wanted = want_are ∙ sym (public_unranked public n);
+        within = subst (λ k. All (IsWithinRows (k + 1)) want) is (subst (All (IsWithinRows (n + 1))) (sym want_are) (public_within (n + 1) public.rows more.rows n (omega arith)));
+        behind = subst (λ k. StartBehind k want) is (subst (StartBehind n) (sym want_are) (public_behind n public.rows n (omega arith)));
+      }
+    where
+      by : (a limit b : ℕ) → a ≤ limit → b ≡ a + 1 → (a ≡ limit → ⊥) → b ≤ limit
+      by a limit b few is apart = elim (cases_lt a limit) [ inl below ↦ omega (arith, below, is) | inr past ↦ absurd (apart (omega (arith, few, past))) ]
 
-  -- and one that is live has its own
-  pub with_file : (number : ℕ) → (0 ≡ limit → ⊥) → map crate_seen graph.crates ≡ crate_of_file file shared number ∷ [] → HasCrates limit graph (within_limit limit (crates_of_file file shared (Some number)))
-  unfolding crates_of_file
-  with_file number room are = record { crates_are = few limit (crate_of_file file shared number ∷ []) (omega (arith, room)) ∙ ap Ok (sym are); limit_is = limit_is }
-
--- a limit of none refuses it
-pub refuses_file : (file : List ℕ) (shared : CrateWorkspaceData) (limit number : ℕ) (e : LowerError) → IfTooMany e (0 ≡ limit) → Refuses e (within_limit limit (crates_of_file file shared (Some number)))
-unfolding crates_of_file
-refuses_file file shared limit number (BadCrateName name) no_cause = absurd no_cause
-refuses_file file shared limit number (TooMany Crates) full = many limit (crate_of_file file shared number ∷ []) (omega (arith, full))
-refuses_file file shared limit number (TooMany Bytes) no_cause = absurd no_cause
-refuses_file file shared limit number (TooMany Paths) no_cause = absurd no_cause
-refuses_file file shared limit number (TooMany Packages) no_cause = absurd no_cause
-refuses_file file shared limit number (TooMany Targets) no_cause = absurd no_cause
-refuses_file file shared limit number OutOfMemory says_nothing = tt
+-- no name of it is bad
+pub part_names : (facts : Facts) (public : Public) (n : ℕ) (file : List ℕ) (number : Option ℕ) → (file_part facts public n file number).bad_names ≡ []
+part_names facts public n file None = refl
+part_names facts public n file (Some number) = refl

@@ -1,5 +1,5 @@
 -- How wanted edges are gathered, in the order of their ranks.
-use Rattle.std.proofs.Common.{◌≡◌, ◌&&◌, ◌==◌, not, is_some, slice_get, arith, Bool, true, false, Some, None, refl, if◌then◌else◌, ℕ, ◌+◌, ◌<◌, ◌≤◌, List, [], ◌∷◌, ◌++◌, take, drop, length, get_or, sym, ap, ◌∙◌}
+use Rattle.std.proofs.Common.{◌≡◌, ◌&&◌, ◌==◌, not, is_some, slice_get, arith, Bool, true, false, Some, None, refl, if◌then◌else◌, ℕ, ◌+◌, ◌<◌, ◌≤◌, List, [], ◌∷◌, ◌++◌, map, Option, take, drop, length, get_or, sym, ap, append_assoc, ◌∙◌}
 use Rattle.std.specs.List.{flat_map}
 use Rattle.std.proofs.lemmas.List.{flat_map_more, take_more, take_all}
 use Rattle.std.specs.Option.{option_and_then}
@@ -10,8 +10,8 @@ use Rattle.pm_lower_crates.specs.Refusal.{IfBadName}
 use Rattle.pm_lower_crates.specs.declared.lower_error.LowerError.{LowerError}
 use Rattle.pm_lower_crates.specs.declared.lower_error.LowerError.TheVariants.{BadCrateName, TooMany, OutOfMemory}
 use Rattle.pm_lower_crates.specs.Rows.{Owner, Row, library, library_at}
-use Rattle.pm_lower_crates.specs.Gathering.{to_dependencies, to_dependency, to_own_library}
-use Rattle.pm_lower_crates.specs.WantedEdges.{Edge, bad_name_of, bad_names_of, edge, is_delayed, is_for, agree, to_lib, to_library, to_owner, to_package, uses_library}
+use Rattle.pm_lower_crates.specs.Gathering.{libraries_of, macros_of, to_dependencies, to_dependency, to_libraries}
+use Rattle.pm_lower_crates.specs.WantedEdges.{Edge, Public, bad_name_of, bad_names_of, edge, is_delayed, is_for, agree, to_lib, to_library, to_owner, to_package, to_public, uses_library}
 use Rattle.base_text_paths.specs.Arena.{number_of}
 use Rattle.pm_cargo_packages.specs.declared.package.PackageDependency.{PackageDependency}
 
@@ -25,23 +25,27 @@ part_more f old cur new xs i x within is so_far now =
 pub part_all : {X A : Type 0} (f : X → List A) (old cur : List A) (xs : List X) (i : ℕ) → length xs ≤ i → cur ≡ old ++ flat_map f (take i xs) → cur ≡ old ++ flat_map f xs
 part_all f old cur xs i past so_far = so_far ∙ ap (λ ys. old ++ flat_map f ys) (take_all i xs past)
 
-pub row_with_library : (lib row : Row) (e : Edge) → uses_library lib row ≡ true → e ≡ edge row (with_underscores lib.target.name) lib → e ∷ [] ≡ to_library (Some lib) row
-row_with_library lib row e does is = ap (λ x. x ∷ []) is ∙ ap (λ b. if b then edge row (with_underscores lib.target.name) lib ∷ [] else []) (sym does)
+pub row_with_library : (lib row : Row) (e : Edge) → uses_library lib row ≡ true → e ≡ edge row.number (with_underscores lib.target.name) lib.number → e ∷ [] ≡ to_library (Some lib) row
+row_with_library lib row e does is = ap (λ x. x ∷ []) is ∙ ap (λ b. if b then edge row.number (with_underscores lib.target.name) lib.number ∷ [] else []) (sym does)
 
 pub row_without_library : (lib row : Row) → uses_library lib row ≡ false → [] ≡ to_library (Some lib) row
-row_without_library lib row does = ap (λ b. if b then edge row (with_underscores lib.target.name) lib ∷ [] else []) (sym does)
+row_without_library lib row does = ap (λ b. if b then edge row.number (with_underscores lib.target.name) lib.number ∷ [] else []) (sym does)
 
-pub no_library : (rows : List Row) → flat_map (to_library None) rows ≡ []
-no_library [] = refl
-no_library (r ∷ rs) = no_library rs
+-- the edges to the public rows, and that to the package's library where there is one
+pub libraries_are : (public : Public) (lib : Option Row) (row : Row) (old mid new : List Edge) → mid ≡ old ++ map (to_public row.number) public.rows → new ≡ mid ++ to_library lib row
+    → new ≡ old ++ libraries_of public lib row
+libraries_are public lib row old mid new first second =
+    second ∙ ap (λ es. es ++ to_library lib row) first ∙ append_assoc old (map (to_public row.number) public.rows) (to_library lib row)
 
-pub without_own_library : (o : Owner) → library o.rows ≡ None → to_own_library o ≡ []
-unfolding to_own_library
-without_own_library o none = ap (λ l. flat_map (to_library l) o.rows) none ∙ no_library o.rows
-
-pub with_own_library : (o : Owner) (lib : Row) (rows : List Row) → library o.rows ≡ Some lib → rows ≡ o.rows → flat_map (to_library (Some lib)) rows ≡ to_own_library o
-unfolding to_own_library
-with_own_library o lib rows some agree = ap (flat_map (to_library (Some lib))) agree ∙ ap (λ l. flat_map (to_library l) o.rows) (sym some)
+-- the edges of a package's rows, by both loops
+pub first_are : (public : Public) (o : Owner) (rows again : List Row) (old mid new : List Edge) → rows ≡ o.rows → again ≡ o.rows → mid ≡ old ++ flat_map (macros_of public) rows
+    → new ≡ mid ++ flat_map (libraries_of public (library o.rows)) again → new ≡ old ++ to_libraries public o
+unfolding to_libraries
+first_are public o rows again old mid new is again_is first second =
+    second ∙ ap (λ es. es ++ flat_map (libraries_of public (library o.rows)) again) first
+    ∙ append_assoc old (flat_map (macros_of public) rows) (flat_map (libraries_of public (library o.rows)) again)
+    ∙ ap (λ rs. old ++ (flat_map (macros_of public) rs ++ flat_map (libraries_of public (library o.rows)) again)) is
+    ∙ ap (λ rs. old ++ (flat_map (macros_of public) o.rows ++ flat_map (libraries_of public (library o.rows)) rs)) again_is
 
 no_more : (old : List Edge) → old ≡ old ++ []
 no_more old = sym (append-nil old)
@@ -82,15 +86,15 @@ with_library delayed owners from d o lib old cur rows some is agree now =
 
 -- what a row's edge to a library comes to, by what the row asks for
 pub row_asks : (delayed : Bool) (from : Owner) (d : PackageDependency) (to : Owner) (lib row : Row) (e : Edge) → is_for d row ≡ true → agree delayed (is_delayed from d to row) ≡ true
-    → e ≡ edge row d.name lib → e ∷ [] ≡ to_lib delayed from d to lib row
-row_asks delayed from d to lib row e its now is = ap (λ x. x ∷ []) is ∙ ap (λ b. if b then edge row d.name lib ∷ [] else []) (sym (ap (λ b. b && agree delayed (is_delayed from d to row)) its ∙ now))
+    → e ≡ edge row.number d.name lib.number → e ∷ [] ≡ to_lib delayed from d to lib row
+row_asks delayed from d to lib row e its now is = ap (λ x. x ∷ []) is ∙ ap (λ b. if b then edge row.number d.name lib.number ∷ [] else []) (sym (ap (λ b. b && agree delayed (is_delayed from d to row)) its ∙ now))
 
 pub row_asks_other : (delayed : Bool) (from : Owner) (d : PackageDependency) (to : Owner) (lib row : Row) (old : List Edge) → is_for d row ≡ true → agree delayed (is_delayed from d to row) ≡ false
     → old ≡ old ++ to_lib delayed from d to lib row
-row_asks_other delayed from d to lib row old its now = no_more old ∙ ap (λ b. old ++ (if b then edge row d.name lib ∷ [] else [])) (sym (ap (λ b. b && agree delayed (is_delayed from d to row)) its ∙ now))
+row_asks_other delayed from d to lib row old its now = no_more old ∙ ap (λ b. old ++ (if b then edge row.number d.name lib.number ∷ [] else [])) (sym (ap (λ b. b && agree delayed (is_delayed from d to row)) its ∙ now))
 
 pub row_asks_none : (delayed : Bool) (from : Owner) (d : PackageDependency) (to : Owner) (lib row : Row) (old : List Edge) → is_for d row ≡ false → old ≡ old ++ to_lib delayed from d to lib row
-row_asks_none delayed from d to lib row old its = no_more old ∙ ap (λ b. old ++ (if b && agree delayed (is_delayed from d to row) then edge row d.name lib ∷ [] else [])) (sym its)
+row_asks_none delayed from d to lib row old its = no_more old ∙ ap (λ b. old ++ (if b && agree delayed (is_delayed from d to row) then edge row.number d.name lib.number ∷ [] else [])) (sym its)
 
 pub same_is : (a b : Bool) → a ≡ b → agree a b ≡ true
 same_is true b is = sym is

@@ -9,7 +9,7 @@ use Rattle.graph_base.specs.Edges.{HasEdge, with_edge}
 use Rattle.graph_base.specs.Reach.{IsAcyclic}
 use Rattle.graph_base.proofs.EdgeListLemmas.{graph_of-push, length-graph_of, row-graph_of, targets_of-append}
 use Rattle.graph_base.proofs.ReachLemmas.{acyclic_with_edge, none_in, reaches_mapped}
-use Rattle.pm_lower_crates.specs.KeptEdges.{AreKept, ClosesCycle, IsWithinRows, Keeps, none, keeps, drops, deps_of, ends}
+use Rattle.pm_lower_crates.specs.KeptEdges.{ClosesCycle, IsWithinRows, Keeps, none, keeps, drops, deps_of, ends}
 use Rattle.pm_lower_crates.specs.WantedEdges.{Dep, Edge}
 
 -- the graph of some edges between the rows below a count
@@ -133,10 +133,11 @@ edge_of_dep (x ∷ xs) e c =
       | inr later ↦ Contains-append_right (x ∷ []) xs e (edge_of_dep xs e later)
     ]
 
--- a wanted edge is kept just where its target does not reach its source over those kept
-pub kept_iff : (count : ℕ) (want kept : List Edge) (e : Edge) → All (IsWithinRows count) want → AreKept count want kept → Contains want e → Contains kept e ↔ (ClosesCycle count kept e → ⊥)
-kept_iff count want kept e all k c =
-    let acyclic = acyclic_kept count all (acyclic_none count) k in
+-- a wanted edge is kept just where its target does not reach its source over those kept, and those that were there before
+pub kept_iff : (count : ℕ) (before want kept : List Edge) (e : Edge) → All (IsWithinRows count) want → IsAcyclic (edges_graph count before) → Keeps count before want kept → Contains want e
+    → Contains kept e ↔ (ClosesCycle count kept e → ⊥)
+kept_iff count before want kept e all start k c =
+    let acyclic = acyclic_kept count all start k in
     let within = All-contains (IsWithinRows count) want e all c in
     let targets = row-graph_of count (map ends kept) e.source within.source ∙ targets_are kept e.source in (
       λ has closes. acyclic e.source e.dep.target (subst (λ z. Contains z e.dep.target) (sym targets) (contains_map (λ (d : Dep). d.target) (deps_of kept e.source) e.dep (dep_of_edge kept e has))) closes,

@@ -1,23 +1,19 @@
 -- How the crates of a graph follow the edges that are kept.
-use Rattle.std.proofs.Common.{◌≡◌, ◌↔◌, ℕ, zero, suc, ◌+◌, ◌<◌, List, [], ◌∷◌, ◌++◌, map, length, get_or, drop, set, Some, slice_get, refl, sym, ap, ◌∙◌, subst, arith}
+use Rattle.std.proofs.Common.{◌≡◌, ◌↔◌, ℕ, zero, suc, ◌+◌, ◌<◌, List, [], ◌∷◌, ◌++◌, map, length, get_or, set, Some, slice_get, refl, sym, ap, ◌∙◌, subst, arith}
 use Rattle.std.specs.List.{All, Contains, range_with_len}
 use Rattle.std.proofs.lemmas.List.{length-map, map-append, map-set}
 use Rattle.std.proofs.lemmas.List.Elements.{All-contains}
 use Rattle.base_text_paths.specs.declared.arena.Idx.{Idx}
-use Rattle.graph_base.specs.Reach.{Reaches}
+use Rattle.graph_base.specs.Reach.{IsAcyclic, Reaches}
 use Rattle.crate_graph.proofs.GraphLemmas.{slice_get_some}
 use Rattle.crate_graph.specs.Graph.{HasDependency, edges, dependency_row, target_of, with_dependency}
 use Rattle.crate_graph_values.specs.declared.builder.CrateBuilder.{CrateBuilder}
 use Rattle.crate_graph_values.specs.declared.crate_data.CrateTag.{CrateTag}
 use Rattle.crate_graph_values.specs.declared.crate_data.Dependency.{Dependency}
-use Rattle.crate_graph_values.specs.declared.workspace_data.CrateWorkspaceData.{CrateWorkspaceData}
-use Rattle.pm_cargo.specs.Workspace.{Workspace}
 use Rattle.graph_base.specs.EdgeList as graph
-use Rattle.pm_lower_crates.specs.Gathering.{AreNumbered}
-use Rattle.pm_lower_crates.specs.Keeping.{AreLowered, with_deps}
+use Rattle.pm_lower_crates.specs.Keeping.{AreLowered}
 use Rattle.pm_lower_crates.specs.KeptEdges.{ClosesCycle, IsWithinRows, deps_of, ends}
-use Rattle.pm_lower_crates.specs.Lowering.{Crate, HasDep, LacksCyclesAlone, crate_of_row, crate_seen, dep_seen}
-use Rattle.pm_lower_crates.specs.Rows.{Row}
+use Rattle.pm_lower_crates.specs.Lowering.{Crate, HasDep, LacksCyclesAlone, crate_seen, dep_seen, with_deps}
 use Rattle.pm_lower_crates.specs.WantedEdges.{Dep, Edge}
 use Rattle.pm_lower_crates.proofs.KeptLemmas.{deps_of-push_same, deps_of-push_other, dep_of_edge, edge_of_dep, edges_graph, keeps_push, drops_push, kept_iff, targets_are}
 
@@ -110,8 +106,8 @@ module _ (kept : List Edge) (e : Edge) where
       ap (λ ds. record x { deps = ds } ∷ set (with_deps kept (n + 1) xs) i b) (sym (deps_of-push_other kept e n (λ same. omega (arith, same, at))))
       ∙ ap (λ ys. record x { deps = deps_of (kept ++ e ∷ []) n } ∷ ys) (deps_set (n + 1) i xs c b (omega (arith, at)) is b_is)
 
-module _ (bare : List Crate) (want : List Edge) (old new : List CrateBuilder) (e : Edge) (from : ℕ) (dep : Dependency (Idx CrateTag))
-    (low : AreLowered bare want old) (from_is : from ≡ e.source) (dep_is : dep_seen dep ≡ e.dep) where
+module _ (before : List Edge) (bare : List Crate) (want : List Edge) (old new : List CrateBuilder) (e : Edge) (from : ℕ) (dep : Dependency (Idx CrateTag))
+    (low : AreLowered before bare want old) (from_is : from ≡ e.source) (dep_is : dep_seen dep ≡ e.dep) where
   closes_in_graph : Reaches (edges old) (target_of dep) from → ClosesCycle (length bare) low.kept e
   closes_in_graph r =
       let r1 = subst (λ g. Reaches g (target_of dep) from) (edges_are bare low.kept old low.crates_are) r in
@@ -137,7 +133,7 @@ module _ (bare : List Crate) (want : List Edge) (old new : List CrateBuilder) (e
       ∙ deps_set low.kept e 0 from bare c.0 (crate_seen (with_dependency krate.0 dep)) (omega (arith, from_is)) bare_there more
 
   -- the edge closes no cycle and is kept
-  pub lowered_kept : e.source < length bare → (Reaches (edges old) (target_of dep) from → ⊥) → HasDependency old new from dep → AreLowered bare (want ++ e ∷ []) new
+  pub lowered_kept : e.source < length bare → (Reaches (edges old) (target_of dep) from → ⊥) → HasDependency old new from dep → AreLowered before bare (want ++ e ∷ []) new
   lowered_kept within apart has = record {
     kept = low.kept ++ e ∷ [];
     are_kept = keeps_push e low.are_kept (λ closes. apart (reaches_in_graph closes));
@@ -145,7 +141,7 @@ module _ (bare : List Crate) (want : List Edge) (old new : List CrateBuilder) (e
   }
 
   -- the edge closes a cycle and is dropped
-  pub lowered_dropped : Reaches (edges old) (target_of dep) from → new ≡ old → AreLowered bare (want ++ e ∷ []) new
+  pub lowered_dropped : Reaches (edges old) (target_of dep) from → new ≡ old → AreLowered before bare (want ++ e ∷ []) new
   lowered_dropped r same = record {
     kept = low.kept;
     are_kept = drops_push e low.are_kept (closes_in_graph r);
@@ -166,26 +162,12 @@ has_iff bare kept crates e are within =
     )
 
 -- a wanted edge is a dependency just where its target does not reach its source
-pub lacks_cycles_alone : (bare : List Crate) (want : List Edge) (crates : List CrateBuilder) → All (IsWithinRows (length bare)) want → AreLowered bare want crates → LacksCyclesAlone want crates
-lacks_cycles_alone bare want crates within low = λ e c.
-    let iff = kept_iff (length bare) want low.kept e within low.are_kept c in
+pub lacks_cycles_alone : (before : List Edge) (bare : List Crate) (want : List Edge) (crates : List CrateBuilder) → All (IsWithinRows (length bare)) want → IsAcyclic (edges_graph (length bare) before)
+    → AreLowered before bare want crates → LacksCyclesAlone want crates
+lacks_cycles_alone before bare want crates within start low = λ e c.
+    let iff = kept_iff (length bare) before want low.kept e within start low.are_kept c in
     let has = has_iff bare low.kept crates e low.crates_are (All-contains (IsWithinRows (length bare)) want e within c).source in
     let same = edges_are bare low.kept crates low.crates_are in (
       λ h r. iff.0 (has.0 h) (subst (λ g. Reaches g e.dep.target e.source) same r),
       λ apart. has.1 (iff.1 (λ closes. apart (subst (λ g. Reaches g e.dep.target e.source) (sym same) closes))),
     )
-
--- ---- the rows of a workspace
-
-module _ (w : Workspace) (shared : CrateWorkspaceData) where
-  deps_from : (kept : List Edge) (n : ℕ) (rows : List Row) → map (λ (r : Row). r.number) rows ≡ range_with_len n (length rows) → with_deps kept n (map (crate_of_row w shared []) rows) ≡ map (crate_of_row w shared kept) rows
-  deps_from kept n [] numbers = refl
-  deps_from kept n (r ∷ rs) numbers =
-      let head : n ≡ r.number = sym (ap (λ ns. get_or ns 0 0) numbers) in
-      let tail : map (λ (x : Row). x.number) rs ≡ range_with_len (n + 1) (length rs) = ap (drop 1) numbers in
-      ap (λ m. record (crate_of_row w shared [] r) { deps = deps_of kept m } ∷ with_deps kept (n + 1) (map (crate_of_row w shared []) rs)) head
-      ∙ ap (λ cs. crate_of_row w shared kept r ∷ cs) (deps_from kept (n + 1) rs tail)
-
-  -- the crates of rows have the dependencies that edges give them by their numbers
-  pub crates_with_deps : (kept : List Edge) (rows : List Row) → AreNumbered rows → with_deps kept 0 (map (crate_of_row w shared []) rows) ≡ map (crate_of_row w shared kept) rows
-  crates_with_deps kept rows numbers = deps_from kept 0 rows numbers

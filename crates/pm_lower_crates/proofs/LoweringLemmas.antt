@@ -1,117 +1,89 @@
--- What the lowering of a workspace comes to, by its rows, its names and its crates.
-use Rattle.std.proofs.Common.{◌≡◌, ℕ, ◌<◌, ◌≤◌, List, [], ◌++◌, map, length, Some, slice_get, sym, ap, ◌∙◌, subst, arith, if◌then◌else◌}
+-- What the lowering of a part comes to, by its rows, its names and its crates.
+use Rattle.std.proofs.Common.{◌≡◌, ℕ, ◌+◌, ◌<◌, ◌≤◌, List, [], ◌∷◌, ◌++◌, map, length, Some, None, slice_get, sym, ap, ◌∙◌, arith, if◌then◌else◌}
 use Rattle.std.specs.List.{All}
-use Rattle.std.specs.Prelude.{Ok, Err}
+use Rattle.std.specs.Option.{option_or}
+use Rattle.std.specs.Prelude.{Result, Ok, Err}
 use Rattle.std.proofs.lemmas.Bool.{le-ltb, lt-ltb}
-use Rattle.std.proofs.lemmas.List.{append-nil, length-map}
+use Rattle.std.proofs.lemmas.List.{length-map}
+use Rattle.std.proofs.lemmas.List.Elements.{All-cons, All-nil}
 use Rattle.base_text_outside.specs.declared.limits.Limit.TheVariants.{Bytes, Paths, Packages, Targets, Crates}
-use Rattle.crate_graph_values.specs.declared.workspace_data.CrateWorkspaceData.{CrateWorkspaceData}
 use Rattle.crate_graph.specs.Graph.{Graph}
-use Rattle.pm_cargo.specs.Workspace.{Workspace}
-use Rattle.pm_lower_crates.specs.Gathering.{AddsRows, edges_between}
-use Rattle.pm_lower_crates.specs.Keeping.{AreBare, AreLowered}
-use Rattle.pm_lower_crates.specs.KeptEdges.{IsWithinRows, kept_edges}
-use Rattle.pm_lower_crates.specs.Loader.{FileNumbers}
-use Rattle.pm_lower_crates.specs.Lowering.{Crate, HasCrates, LacksCyclesAlone, crate_of_row, crate_seen, crates_of_rows, lowering, named_crates}
+use Rattle.pm_lower_crates.specs.KeptEdges.{kept_edges}
+use Rattle.pm_lower_crates.specs.Lowering.{Crate, HasCratesBehind, IsLowered, IsLoweredBehind, ProjectPart, bad_name, crate_seen, crates_from, lowered, lowered_behind, no_project_part, part_refusal, unless_refused, wanted_edges, with_deps}
 use Rattle.pm_lower_crates.specs.Refusal.{IfBadName, IfTooMany, Refuses}
-use Rattle.pm_lower_crates.specs.Rows.{Owner, owners, owners_from, parts, rows_of, rows_of_parts}
-use Rattle.pm_lower_crates.specs.WantedEdges.{Edge, bad_names, bad_names_of_owners, wanted_edges}
+use Rattle.pm_lower_crates.specs.WantedEdges.{Edge}
 use Rattle.pm_lower_crates.specs.declared.lower_error.LowerError.{LowerError}
 use Rattle.pm_lower_crates.specs.declared.lower_error.LowerError.TheVariants.{BadCrateName, TooMany, OutOfMemory}
-use Rattle.pm_lower_crates.proofs.FoldLemmas.{kept_are_folded}
-use Rattle.pm_lower_crates.proofs.LoweredLemmas.{crates_with_deps, lacks_cycles_alone}
-use Rattle.pm_lower_crates.proofs.UnrankedLemmas.{wanted_are_gathered}
-use Rattle.pm_lower_crates.proofs.WithinLemmas.{are_numbered, wanted_within}
 
-module _ (files : FileNumbers) (w : Workspace) (shared : CrateWorkspaceData) where
-  count_is : length (rows_of_parts (parts files w)) ≡ length (rows_of (owners files w))
-  count_is = ap length (append-nil (rows_of (owners files w)))
+first_bad_name : (names : List (List ℕ)) (name : List ℕ) → slice_get names 0 ≡ Some name → bad_name names ≡ Some (BadCrateName name)
+first_bad_name [] name is = cc
+first_bad_name (n ∷ ns) name is = let same : n ≡ name = cc in ap (λ x. Some (BadCrateName x)) same
 
-  names_are : bad_names (parts files w) ≡ bad_names_of_owners (owners files w)
-  names_are = append-nil (bad_names_of_owners (owners files w))
+module _ (limit n : ℕ) (part : ProjectPart) where
+  behind_past : limit < n + length part.rows → lowered_behind limit n part ≡ Err (TooMany Crates)
+  unfolding part_refusal
+  behind_past past =
+      ap (λ b. unless_refused (option_or (if b then Some (TooMany Crates) else None) (bad_name part.bad_names)) (crates_from n part)) (lt-ltb limit (n + length part.rows) past)
 
-  crates_are : crates_of_rows shared (parts files w) ≡ map (crate_of_row w shared (kept_edges (edges_between (owners files w)))) (rows_of (owners files w))
-  unfolding crates_of_rows
-  crates_are =
-      append-nil (map (crate_of_row w shared (kept_edges (wanted_edges (parts files w)))) (rows_of (owners files w)))
-      ∙ ap (λ es. map (crate_of_row w shared (kept_edges es)) (rows_of (owners files w))) (wanted_are_gathered files w)
-
-  lowering_past : (limit : ℕ) → limit < length (rows_of (owners files w)) → lowering files w shared limit ≡ Err (TooMany Crates)
-  unfolding lowering
-  lowering_past limit past =
-      ap (λ b. if b then Err (TooMany Crates) else named_crates shared (parts files w) (slice_get (bad_names (parts files w)) 0))
-      (lt-ltb limit (length (rows_of_parts (parts files w))) (omega (arith, past, count_is)))
-
-  lowering_within : (limit : ℕ) → length (rows_of (owners files w)) ≤ limit → lowering files w shared limit ≡ named_crates shared (parts files w) (slice_get (bad_names_of_owners (owners files w)) 0)
-  unfolding lowering
-  lowering_within limit within =
-      ap (λ b. if b then Err (TooMany Crates) else named_crates shared (parts files w) (slice_get (bad_names (parts files w)) 0))
-      (le-ltb limit (length (rows_of_parts (parts files w))) (omega (arith, within, count_is)))
-      ∙ ap (λ names. named_crates shared (parts files w) (slice_get names 0)) names_are
+  behind_within : n + length part.rows ≤ limit → lowered_behind limit n part ≡ unless_refused (bad_name part.bad_names) (crates_from n part)
+  unfolding part_refusal
+  behind_within within =
+      ap (λ b. unless_refused (option_or (if b then Some (TooMany Crates) else None) (bad_name part.bad_names)) (crates_from n part)) (le-ltb limit (n + length part.rows) within)
 
   -- the limit refuses
-  pub refuses_past : (limit : ℕ) (e : LowerError) → IfTooMany e (limit < length (rows_of (owners files w))) → Refuses e (lowering files w shared limit)
-  refuses_past limit (BadCrateName name) no_cause = absurd no_cause
-  refuses_past limit (TooMany Crates) past = lowering_past limit past
-  refuses_past limit (TooMany Bytes) no_cause = absurd no_cause
-  refuses_past limit (TooMany Paths) no_cause = absurd no_cause
-  refuses_past limit (TooMany Packages) no_cause = absurd no_cause
-  refuses_past limit (TooMany Targets) no_cause = absurd no_cause
-  refuses_past limit OutOfMemory says_nothing = tt
+  pub refuses_past : (e : LowerError) → IfTooMany e (limit < n + length part.rows) → Refuses e (lowered_behind limit n part)
+  refuses_past (BadCrateName name) no_cause = absurd no_cause
+  refuses_past (TooMany Crates) past = behind_past past
+  refuses_past (TooMany Bytes) no_cause = absurd no_cause
+  refuses_past (TooMany Paths) no_cause = absurd no_cause
+  refuses_past (TooMany Packages) no_cause = absurd no_cause
+  refuses_past (TooMany Targets) no_cause = absurd no_cause
+  refuses_past OutOfMemory says_nothing = tt
 
   -- a bad name refuses
-  pub refuses_name : (limit : ℕ) (e : LowerError) → length (rows_of (owners files w)) ≤ limit → IfBadName e (λ name. slice_get (bad_names_of_owners (owners files w)) 0 ≡ Some name) → Refuses e (lowering files w shared limit)
-  refuses_name limit (BadCrateName name) within first = lowering_within limit within ∙ ap (named_crates shared (parts files w)) first
-  refuses_name limit (TooMany limit') within no_cause = absurd no_cause
-  refuses_name limit OutOfMemory within says_nothing = tt
+  pub refuses_name : (e : LowerError) → n + length part.rows ≤ limit → IfBadName e (λ name. slice_get part.bad_names 0 ≡ Some name) → Refuses e (lowered_behind limit n part)
+  refuses_name (BadCrateName name) within first =
+      behind_within within ∙ ap (λ r. unless_refused r (crates_from n part)) (first_bad_name part.bad_names name first)
+  refuses_name (TooMany other) within no_cause = absurd no_cause
+  refuses_name OutOfMemory within says_nothing = tt
 
-  -- the graph once the crates of all rows stand in it, and before any edge does
-  module _ (limit : ℕ) (start new : Graph) (made : List Owner) (start_limit : start.limit ≡ limit) (empty : start.crates ≡ [])
-      (made_are : made ≡ owners_from files w (length start.crates) w.packages) (adds : AddsRows w shared start new (rows_of made)) where
-    pub owners_made : made ≡ owners files w
-    owners_made = made_are ∙ ap (λ cs. owners_from files w (length cs) w.packages) empty
+  -- nothing refuses
+  pub accepted : n + length part.rows ≤ limit → part.bad_names ≡ [] → lowered_behind limit n part ≡ Ok (crates_from n part)
+  accepted within good = behind_within within ∙ ap (λ names. unless_refused (bad_name names) (crates_from n part)) good
 
-    pub crates_made : map crate_seen new.crates ≡ map (crate_of_row w shared []) (rows_of (owners files w))
-    crates_made = adds.crates ∙ ap (λ cs. map crate_seen cs ++ map (crate_of_row w shared []) (rows_of made)) empty ∙ ap (λ os. map (crate_of_row w shared []) (rows_of os)) owners_made
+-- the crates of a part behind those of a graph
+pub has_behind : (old new : Graph) (part : ProjectPart) (n : ℕ) (want : List Edge) → n ≡ length old.crates → new.limit ≡ old.limit → n + length part.rows ≤ old.limit → part.bad_names ≡ [] → want ≡ wanted_edges part
+    → map crate_seen new.crates ≡ map crate_seen old.crates ++ with_deps (kept_edges want) (length (map crate_seen old.crates)) part.rows
+    → HasCratesBehind old new (lowered_behind old.limit n part)
+unfolding crates_from
+has_behind old new part n want is limit within good wanted crates =
+    let count : length (map crate_seen old.crates) ≡ n = length-map old.crates crate_seen ∙ sym is in
+    record {
+      crates = crates_from n part;
+      added_are = accepted old.limit n part within good;
+      crates_are = crates ∙ ap (λ m. map crate_seen old.crates ++ with_deps (kept_edges want) m part.rows) count
+          ∙ ap (λ es. map crate_seen old.crates ++ with_deps (kept_edges es) n part.rows) wanted;
+      limit_is = limit;
+    }
 
-    count_made : length new.crates ≡ length (rows_of (owners files w))
-    count_made = sym (length-map new.crates crate_seen) ∙ ap length crates_made ∙ length-map (rows_of (owners files w)) (crate_of_row w shared [])
+-- rows whose crates are made without dependencies have none
+pub made_bare : {A : Type 0} (f : A → Crate) → ((x : A) → (f x).deps ≡ []) → (xs : List A) → All (λ (c : Crate). c.deps ≡ []) (map f xs)
+made_bare f bare [] = All-nil (λ (c : Crate). c.deps ≡ [])
+made_bare f bare (x ∷ xs) = All-cons (λ (c : Crate). c.deps ≡ []) (f x) (map f xs) (bare x) (made_bare f bare xs)
 
-    pub bare_made : AreBare new.crates (map (crate_of_row w shared []) (rows_of (owners files w)))
-    bare_made = crates_made ∙ sym (crates_with_deps w shared [] (rows_of (owners files w)) (are_numbered files w))
+-- ---- without libraries
 
-    pub rows_within : length (rows_of (owners files w)) ≤ limit
-    rows_within =
-        let few : length start.crates ≤ start.limit = omega (arith, ap length empty) in
-        omega (arith, adds.within few, start_limit, count_made)
+-- what a graph without crates gets behind it is all that it has
+pub lowered_first : (limit : ℕ) (old : Graph) (result : Result Graph LowerError) (crates : Result (List Crate) LowerError) → old.crates ≡ [] → old.limit ≡ limit
+    → IsLoweredBehind old result crates → IsLowered limit result crates
+lowered_first limit old (Ok new) crates empty limit_is h = record {
+  crates_are = h.added_are ∙ ap Ok (sym (h.crates_are ∙ ap (λ cs. map crate_seen cs ++ h.crates) empty));
+  limit_is = h.limit_is ∙ limit_is;
+}
+lowered_first limit old (Err e) crates empty limit_is h = h
 
-    pub edges_within : (edges : List Edge) (given : List Owner) → given ≡ made → edges ≡ edges_between given → All (IsWithinRows (length new.crates)) edges
-    edges_within edges given same are =
-        let all = wanted_within (owners files w) (are_numbered files w) in
-        subst (λ es. All (IsWithinRows (length new.crates)) es) (ap edges_between (sym owners_made ∙ sym same) ∙ sym are) (subst (λ n. All (IsWithinRows n) (edges_between (owners files w))) (sym count_made) all)
-
-  -- the graph once the edges stand in it too
-  module _ (limit : ℕ) (graph : Graph) (within : length (rows_of (owners files w)) ≤ limit) (good : bad_names_of_owners (owners files w) ≡ [])
-      (limit_is : graph.limit ≡ limit) (low : AreLowered (map (crate_of_row w shared []) (rows_of (owners files w))) (edges_between (owners files w)) graph.crates) where
-    abbrev bare : List Crate
-    bare = map (crate_of_row w shared []) (rows_of (owners files w))
-
-    all_within : All (IsWithinRows (length bare)) (edges_between (owners files w))
-    all_within =
-        subst (λ n. All (IsWithinRows n) (edges_between (owners files w))) (sym (length-map (rows_of (owners files w)) (crate_of_row w shared [])))
-        (wanted_within (owners files w) (are_numbered files w))
-
-    pub has_crates : HasCrates limit graph (lowering files w shared limit)
-    has_crates =
-        let kept = kept_are_folded (length bare) (edges_between (owners files w)) low.kept all_within low.are_kept in
-        let crates : map crate_seen graph.crates ≡ crates_of_rows shared (parts files w) =
-        low.crates_are ∙ crates_with_deps w shared low.kept (rows_of (owners files w)) (are_numbered files w)
-        ∙ ap (λ es. map (crate_of_row w shared es) (rows_of (owners files w))) kept ∙ sym crates_are in
-        record {
-          crates_are = lowering_within limit within ∙ ap (λ names. named_crates shared (parts files w) (slice_get names 0)) good ∙ ap Ok (sym crates);
-          limit_is = limit_is;
-        }
-
-    pub lacks_alone : LacksCyclesAlone (wanted_edges (parts files w)) graph.crates
-    lacks_alone = subst (λ es. LacksCyclesAlone es graph.crates) (sym (wanted_are_gathered files w))
-        (lacks_cycles_alone bare (edges_between (owners files w)) graph.crates all_within low)
+-- no libraries refuse nothing and add nothing
+pub no_libraries : (limit : ℕ) (project : ProjectPart) → lowered limit no_project_part 0 project ≡ lowered_behind limit 0 project
+unfolding lowered part_refusal
+no_libraries limit project =
+    ap (λ b. unless_refused (option_or (option_or (if b then Some (TooMany Crates) else None) None) (part_refusal limit 0 project)) (crates_from 0 project)) (le-ltb limit 0 (omega arith))

@@ -1,19 +1,21 @@
 -- Rows are numbered by their places, and wanted edges are between rows.
-use Rattle.std.proofs.Common.{◌≡◌, ℕ, zero, suc, ◌+◌, ◌<◌, Bool, true, false, List, [], ◌∷◌, ◌++◌, map, length, get_or, filter, Option, Some, None, slice_get, refl, sym, ap, ◌∙◌, subst, arith, if◌then◌else◌, ◌&&◌}
-use Rattle.std.specs.List.{All, enumerate_from, flat_map, last_or, range_with_len}
+use Rattle.std.proofs.Common.{◌≡◌, ℕ, zero, suc, ◌+◌, ◌<◌, ◌≤◌, Bool, true, false, List, [], ◌∷◌, ◌++◌, map, length, get_or, filter, Option, Some, None, slice_get, refl, sym, ap, ◌∙◌, subst, arith, if◌then◌else◌, ◌&&◌}
+use Rattle.std.specs.List.{All, flat_map, last_or, range_with_len}
+use Rattle.std.specs.Prelude.{IfSome}
 use Rattle.std.proofs.lemmas.List.{length-append, map-append, get_or_append_left, get_or-append-add, get_or-map}
 use Rattle.std.proofs.lemmas.List.FromFn.{get_or-range_with_len}
-use Rattle.std.proofs.lemmas.List.Elements.{All-nil, All-cons, All-head, All-tail, All-append, All-filter}
+use Rattle.std.proofs.lemmas.List.Elements.{All-nil, All-cons, All-head, All-tail, All-append, All-filter, All-weaker}
 use Rattle.base_text_paths.specs.Arena.{number_of}
 use Rattle.pm_cargo_packages.specs.declared.package.PackageData.{PackageData}
 use Rattle.pm_cargo_packages.specs.declared.package.PackageDependency.{PackageDependency}
 use Rattle.pm_cargo_packages.specs.declared.target.TargetData.{TargetData}
 use Rattle.pm_cargo.specs.Workspace.{Workspace}
-use Rattle.pm_lower_crates.specs.Gathering.{AreNumbered, found_targets, owner_by, owners_by, to_dependencies, to_dependency, to_own_library, edges_between}
+use Rattle.pm_lower_crates.specs.Front.{IsPublicIn}
+use Rattle.pm_lower_crates.specs.Gathering.{AreNumbered, edges_between, found_targets, libraries_of, macros_of, owner_by, owners_by, to_dependencies, to_dependency, to_libraries}
+use Rattle.pm_lower_crates.specs.Keeping.{StartBehind}
 use Rattle.pm_lower_crates.specs.KeptEdges.{IsWithinRows}
-use Rattle.pm_lower_crates.specs.Loader.{FileNumbers}
-use Rattle.pm_lower_crates.specs.Rows.{Owner, Row, is_lib, library, live_targets, rows_from, owner, owners, owners_from, rows_of}
-use Rattle.pm_lower_crates.specs.WantedEdges.{is_delayed, is_for, agree, to_library, to_owner, to_package, uses_library}
+use Rattle.pm_lower_crates.specs.Rows.{Owner, Row, is_lib, is_macro_row, library, rows_from, rows_of}
+use Rattle.pm_lower_crates.specs.WantedEdges.{Dep, Edge, Public, is_delayed, is_for, agree, to_library, to_macros, to_owner, to_package, to_public, uses_library}
 
 range_append : (a m n : ℕ) → range_with_len a (m + n) ≡ range_with_len a m ++ range_with_len (a + m) n
 range_append a zero n = ap (range_with_len a) (let e : zero + n ≡ n = omega arith in e) ∙ ap (λ b. range_with_len b n) (let e : a ≡ a + zero = omega arith in e)
@@ -21,39 +23,23 @@ range_append a (suc m) n =
     ap (range_with_len a) (let e : suc m + n ≡ suc (m + n) = omega arith in e) ∙ ap (λ ns. a ∷ ns) (range_append (a + 1) m n)
     ∙ ap (λ b. a ∷ (range_with_len (a + 1) m ++ range_with_len b n)) (let e : (a + 1) + m ≡ a + suc m = omega arith in e)
 
-numbers_of : (of : PackageData) (n : ℕ) (ts : List (ℕ × TargetData × ℕ)) → map (λ r. r.number) (rows_from of n ts) ≡ range_with_len n (length (rows_from of n ts))
-numbers_of of n [] = refl
-numbers_of of n (t ∷ ts) = ap (λ ns. n ∷ ns) (numbers_of of (n + 1) ts)
+numbers_of : (p : ℕ) (of : PackageData) (n : ℕ) (ts : List (ℕ × TargetData × ℕ)) → map (λ r. r.number) (rows_from p of n ts) ≡ range_with_len n (length (rows_from p of n ts))
+numbers_of p of n [] = refl
+numbers_of p of n (t ∷ ts) = ap (λ ns. n ∷ ns) (numbers_of p of (n + 1) ts)
 
-owner_numbers : (files : FileNumbers) (w : Workspace) (n : ℕ) (p : PackageData) → map (λ r. r.number) (owner files w n p).rows ≡ range_with_len n (length (owner files w n p).rows)
-unfolding owner
-owner_numbers files w n p = numbers_of p n (live_targets files w p (enumerate_from 0 p.targets))
-
-numbers_from : (files : FileNumbers) (w : Workspace) (n : ℕ) (ps : List PackageData) → map (λ r. r.number) (rows_of (owners_from files w n ps)) ≡ range_with_len n (length (rows_of (owners_from files w n ps)))
-numbers_from files w n [] = refl
-numbers_from files w n (p ∷ ps) =
-    let rows = (owner files w n p).rows in
-    let others = rows_of (owners_from files w (n + length rows) ps) in
-    map-append (λ (r : Row). r.number) rows others ∙ ap (λ ns. ns ++ map (λ r. r.number) others) (owner_numbers files w n p)
-    ∙ ap (λ ns. range_with_len n (length rows) ++ ns) (numbers_from files w (n + length rows) ps)
+numbers_by : (w : Workspace) (p n : ℕ) (all : List PackageData) (fs : List (List (Option ℕ))) → map (λ r. r.number) (rows_of (owners_by w p n all fs)) ≡ range_with_len n (length (rows_of (owners_by w p n all fs)))
+numbers_by w p n [] fs = refl
+numbers_by w p n (of ∷ more) [] = refl
+numbers_by w p n (of ∷ more) (f ∷ fs) =
+    let rows = (owner_by w p n of f).rows in
+    let others = rows_of (owners_by w (p + 1) (n + length rows) more fs) in
+    map-append (λ (r : Row). r.number) rows others ∙ ap (λ ns. ns ++ map (λ r. r.number) others) (numbers_of p of n (found_targets w of 0 f))
+    ∙ ap (λ ns. range_with_len n (length rows) ++ ns) (numbers_by w (p + 1) (n + length rows) more fs)
     ∙ sym (range_append n (length rows) (length others)) ∙ ap (range_with_len n) (sym (length-append rows others))
 
-numbers_by : (w : Workspace) (n : ℕ) (ps : List PackageData) (fs : List (List (Option ℕ))) → map (λ r. r.number) (rows_of (owners_by w n ps fs)) ≡ range_with_len n (length (rows_of (owners_by w n ps fs)))
-numbers_by w n [] fs = refl
-numbers_by w n (p ∷ ps) [] = refl
-numbers_by w n (p ∷ ps) (f ∷ fs) =
-    let rows = (owner_by w n p f).rows in
-    let others = rows_of (owners_by w (n + length rows) ps fs) in
-    map-append (λ (r : Row). r.number) rows others ∙ ap (λ ns. ns ++ map (λ r. r.number) others) (numbers_of p n (found_targets w p 0 f))
-    ∙ ap (λ ns. range_with_len n (length rows) ++ ns) (numbers_by w (n + length rows) ps fs)
-    ∙ sym (range_append n (length rows) (length others)) ∙ ap (range_with_len n) (sym (length-append rows others))
-
--- rows by files are numbered too
-pub are_numbered_by : (w : Workspace) (ps : List PackageData) (fs : List (List (Option ℕ))) → AreNumbered (rows_of (owners_by w 0 ps fs))
-are_numbered_by w ps fs = numbers_by w 0 ps fs
-
-pub are_numbered : (files : FileNumbers) (w : Workspace) → AreNumbered (rows_of (owners files w))
-are_numbered files w = numbers_from files w 0 w.packages
+-- rows by files are numbered through
+pub are_numbered_by : (w : Workspace) (n : ℕ) (all : List PackageData) (fs : List (List (Option ℕ))) → AreNumbered n (rows_of (owners_by w 0 n all fs))
+are_numbered_by w n all fs = numbers_by w 0 n all fs
 
 all_left : {X : Type 0} (P : X → Type 0) (xs ys : List X) → All P (xs ++ ys) → All P xs
 all_left P xs ys all = λ k d within. subst P (get_or_append_left xs ys d k within) (all k d (omega (arith, within, length-append xs ys)))
@@ -86,9 +72,14 @@ all_got P [] i x all is = cc
 all_got P (y ∷ ys) zero x all is = let agree : y ≡ x = cc in subst P agree (All-head P y ys all)
 all_got P (y ∷ ys) (suc i) x all is = all_got P ys i x (All-tail P y ys all) is
 
-rows_below : (rows : List Row) → AreNumbered rows → All (λ r. r.number < length rows) rows
-rows_below rows numbers = λ k d within.
-    let at : (get_or rows k d).number ≡ 0 + k = sym (get_or-map (λ (r : Row). r.number) rows k d 0 within) ∙ ap (λ ns. get_or ns k 0) numbers ∙ get_or-range_with_len 0 (length rows) k 0 within in
+rows_below : (n : ℕ) (rows : List Row) → AreNumbered n rows → All (λ r. r.number < n + length rows) rows
+rows_below n rows numbers = λ k d within.
+    let at : (get_or rows k d).number ≡ n + k = sym (get_or-map (λ (r : Row). r.number) rows k d 0 within) ∙ ap (λ ns. get_or ns k 0) numbers ∙ get_or-range_with_len n (length rows) k 0 within in
+    omega (arith, at, within)
+
+rows_above : (n : ℕ) (rows : List Row) → AreNumbered n rows → All (λ r. n ≤ r.number) rows
+rows_above n rows numbers = λ k d within.
+    let at : (get_or rows k d).number ≡ n + k = sym (get_or-map (λ (r : Row). r.number) rows k d 0 within) ∙ ap (λ ns. get_or ns k 0) numbers ∙ get_or-range_with_len n (length rows) k 0 within in
     omega (arith, at, within)
 
 owners_below : (count : ℕ) (owners : List Owner) → All (λ r. r.number < count) (rows_of owners) → All (AreBelow count) owners
@@ -99,14 +90,32 @@ library_below : (count : ℕ) (o : Owner) (lib : Row) → AreBelow count o → l
 library_below count o lib below is =
     last_all (λ r. r.number < count) None (filter (λ r. is_lib r.target.kind) o.rows) lib (λ y e. cc) (All-filter (λ r. is_lib r.target.kind) (λ r. r.number < count) o.rows below) is
 
-to_library_within : (count : ℕ) (l : Option Row) (rows : List Row) → ((lib : Row) → l ≡ Some lib → lib.number < count) → All (λ r. r.number < count) rows → All (IsWithinRows count) (flat_map (to_library l) rows)
-to_library_within count None rows lib_below all = all_flat_any (IsWithinRows count) (to_library None) (λ r. All-nil (IsWithinRows count)) rows
-to_library_within count (Some lib) rows lib_below all =
-    all_flat (IsWithinRows count) (to_library (Some lib)) (λ r. r.number < count) (λ r below. all_if (IsWithinRows count) (uses_library lib r) _ (record { source = below; target = lib_below lib refl })) rows all
+pub macros_within : (count : ℕ) (macros : Option ℕ) → ((target : ℕ) → macros ≡ Some target → target < count) → (source : ℕ) (b : Bool) → source < count → All (IsWithinRows count) (to_macros macros source b)
+macros_within count None known source b below = All-nil (IsWithinRows count)
+macros_within count (Some target) known source b below = All-cons (IsWithinRows count) _ [] (record { source = below; target = known target refl }) (All-nil (IsWithinRows count))
 
-own_library_within : (count : ℕ) (o : Owner) → AreBelow count o → All (IsWithinRows count) (to_own_library o)
-unfolding to_own_library
-own_library_within count o below = to_library_within count (library o.rows) o.rows (λ lib is. library_below count o lib below is) below
+pub public_within : (count : ℕ) (deps : List Dep) → All (λ d. d.target < count) deps → (source : ℕ) → source < count → All (IsWithinRows count) (map (to_public source) deps)
+public_within count [] all source below = All-nil (IsWithinRows count)
+public_within count (d ∷ ds) all source below =
+    All-cons (IsWithinRows count) _ (map (to_public source) ds) (record { source = below; target = All-head (λ (x : Dep). x.target < count) d ds all })
+    (public_within count ds (All-tail (λ (x : Dep). x.target < count) d ds all) source below)
+
+own_within : (count : ℕ) (l : Option Row) → ((lib : Row) → l ≡ Some lib → lib.number < count) → (row : Row) → row.number < count → All (IsWithinRows count) (to_library l row)
+own_within count None known row below = All-nil (IsWithinRows count)
+own_within count (Some lib) known row below = all_if (IsWithinRows count) (uses_library lib row) _ (record { source = below; target = known lib refl })
+
+module _ (count : ℕ) (public : Public) (known : IsPublicIn count public) where
+  pub known_macros : (target : ℕ) → public.macros ≡ Some target → target < count
+  known_macros target is = subst (λ (o : Option ℕ). IfSome o (λ t. t < count)) is known.macros
+
+  libraries_within : (o : Owner) → AreBelow count o → All (IsWithinRows count) (to_libraries public o)
+  unfolding to_libraries
+  libraries_within o below =
+      All-append (IsWithinRows count) (flat_map (macros_of public) o.rows) (flat_map (libraries_of public (library o.rows)) o.rows)
+      (all_flat (IsWithinRows count) (macros_of public) (λ r. r.number < count) (λ r here. macros_within count public.macros known_macros r.number (is_macro_row r.target.kind) here) o.rows below)
+      (all_flat (IsWithinRows count) (libraries_of public (library o.rows)) (λ r. r.number < count)
+      (λ r here. All-append (IsWithinRows count) (map (to_public r.number) public.rows) (to_library (library o.rows) r) (public_within count public.rows known.rows r.number here)
+      (own_within count (library o.rows) (λ lib is. library_below count o lib below is) r here)) o.rows below)
 
 to_package_within : (count : ℕ) (delayed : Bool) (from : Owner) (d : PackageDependency) (to : Owner) (l : Option Row) → ((lib : Row) → l ≡ Some lib → lib.number < count) → (r : Row) → r.number < count
     → All (IsWithinRows count) (to_package delayed from d to l r)
@@ -128,14 +137,87 @@ dependencies_within : (count : ℕ) (delayed : Bool) (owners : List Owner) (from
 unfolding to_dependencies
 dependencies_within count delayed owners from all below = all_flat_any (IsWithinRows count) (to_dependency delayed owners from) (dependency_within count delayed owners from all below) from.of.dependencies
 
-wanted_below : (count : ℕ) (owners : List Owner) → All (AreBelow count) owners → All (IsWithinRows count) (edges_between owners)
-wanted_below count owners all =
-    All-append (IsWithinRows count) (flat_map to_own_library owners ++ flat_map (to_dependencies false owners) owners) (flat_map (to_dependencies true owners) owners)
-    (All-append (IsWithinRows count) (flat_map to_own_library owners) (flat_map (to_dependencies false owners) owners)
-    (all_flat (IsWithinRows count) to_own_library (AreBelow count) (own_library_within count) owners all)
+wanted_below : (count : ℕ) (public : Public) (owners : List Owner) → IsPublicIn count public → All (AreBelow count) owners → All (IsWithinRows count) (edges_between public owners)
+wanted_below count public owners known all =
+    All-append (IsWithinRows count) (flat_map (to_libraries public) owners ++ flat_map (to_dependencies false owners) owners) (flat_map (to_dependencies true owners) owners)
+    (All-append (IsWithinRows count) (flat_map (to_libraries public) owners) (flat_map (to_dependencies false owners) owners)
+    (all_flat (IsWithinRows count) (to_libraries public) (AreBelow count) (libraries_within count public known) owners all)
     (all_flat (IsWithinRows count) (to_dependencies false owners) (AreBelow count) (λ o below. dependencies_within count false owners o all below) owners all))
     (all_flat (IsWithinRows count) (to_dependencies true owners) (AreBelow count) (λ o below. dependencies_within count true owners o all below) owners all)
 
--- each wanted edge is between rows
-pub wanted_within : (owners : List Owner) → AreNumbered (rows_of owners) → All (IsWithinRows (length (rows_of owners))) (edges_between owners)
-wanted_within owners numbers = wanted_below (length (rows_of owners)) owners (owners_below (length (rows_of owners)) owners (rows_below (rows_of owners) numbers))
+some_more : (n m : ℕ) (o : Option ℕ) → IfSome o (λ t. t < n) → IfSome o (λ t. t < n + m)
+some_more n m None h = h
+some_more n m (Some t) h = omega (arith, h)
+
+-- public rows are among more rows too
+pub more_public : (n m : ℕ) (public : Public) → IsPublicIn n public → IsPublicIn (n + m) public
+more_public n m public known = record {
+  rows = All-weaker (λ (d : Dep). d.target < n) (λ (d : Dep). d.target < n + m) (λ d h. omega (arith, h)) public.rows known.rows;
+  macros = some_more n m public.macros known.macros;
+}
+
+-- each wanted edge is between rows, or leads from a row to a public one before them
+pub wanted_within : (n : ℕ) (public : Public) (owners : List Owner) → IsPublicIn n public → AreNumbered n (rows_of owners)
+    → All (IsWithinRows (n + length (rows_of owners))) (edges_between public owners)
+wanted_within n public owners known numbers =
+    let count = n + length (rows_of owners) in
+    wanted_below count public owners (more_public n (length (rows_of owners)) public known) (owners_below count owners (rows_below n (rows_of owners) numbers))
+
+-- ---- sources
+
+abbrev AreAbove : ℕ → Owner → Type 0
+AreAbove n o = All (λ r. n ≤ r.number) o.rows
+
+owners_above : (n : ℕ) (owners : List Owner) → All (λ r. n ≤ r.number) (rows_of owners) → All (AreAbove n) owners
+owners_above n [] all = All-nil (AreAbove n)
+owners_above n (o ∷ os) all = All-cons (AreAbove n) o os (all_left (λ r. n ≤ r.number) o.rows (rows_of os) all) (owners_above n os (all_right (λ r. n ≤ r.number) o.rows (rows_of os) all))
+
+module _ (n : ℕ) where
+  abbrev Behind : Edge → Type 0
+  Behind e = n ≤ e.source
+
+  pub macros_behind : (macros : Option ℕ) (source : ℕ) (b : Bool) → n ≤ source → All Behind (to_macros macros source b)
+  macros_behind None source b h = All-nil Behind
+  macros_behind (Some target) source b h = All-cons Behind _ [] h (All-nil Behind)
+
+  pub public_behind : (deps : List Dep) (source : ℕ) → n ≤ source → All Behind (map (to_public source) deps)
+  public_behind [] source h = All-nil Behind
+  public_behind (d ∷ ds) source h = All-cons Behind _ (map (to_public source) ds) h (public_behind ds source h)
+
+  own_behind : (l : Option Row) (row : Row) → n ≤ row.number → All Behind (to_library l row)
+  own_behind None row h = All-nil Behind
+  own_behind (Some lib) row h = all_if Behind (uses_library lib row) _ h
+
+  libraries_behind : (public : Public) (o : Owner) → AreAbove n o → All Behind (to_libraries public o)
+  unfolding to_libraries
+  libraries_behind public o above =
+      All-append Behind (flat_map (macros_of public) o.rows) (flat_map (libraries_of public (library o.rows)) o.rows)
+      (all_flat Behind (macros_of public) (λ r. n ≤ r.number) (λ r h. macros_behind public.macros r.number (is_macro_row r.target.kind) h) o.rows above)
+      (all_flat Behind (libraries_of public (library o.rows)) (λ r. n ≤ r.number)
+      (λ r h. All-append Behind (map (to_public r.number) public.rows) (to_library (library o.rows) r) (public_behind public.rows r.number h) (own_behind (library o.rows) r h)) o.rows above)
+
+  package_behind : (delayed : Bool) (from : Owner) (d : PackageDependency) (to : Owner) (l : Option Row) (r : Row) → n ≤ r.number → All Behind (to_package delayed from d to l r)
+  package_behind delayed from d to None r h = All-nil Behind
+  package_behind delayed from d to (Some lib) r h = all_if Behind (is_for d r && agree delayed (is_delayed from d to r)) _ h
+
+  owner_behind : (delayed : Bool) (from : Owner) (d : PackageDependency) (to : Option Owner) (r : Row) → n ≤ r.number → All Behind (to_owner delayed from d to r)
+  owner_behind delayed from d None r h = All-nil Behind
+  owner_behind delayed from d (Some to) r h = package_behind delayed from d to (library to.rows) r h
+
+  dependencies_behind : (delayed : Bool) (owners : List Owner) (from : Owner) → AreAbove n from → All Behind (to_dependencies delayed owners from)
+  unfolding to_dependencies
+  dependencies_behind delayed owners from above =
+      all_flat_any Behind (to_dependency delayed owners from)
+      (λ d. all_flat Behind (to_owner delayed from d (slice_get owners (number_of d.pkg))) (λ r. n ≤ r.number) (λ r h. owner_behind delayed from d (slice_get owners (number_of d.pkg)) r h) from.rows above)
+      from.of.dependencies
+
+-- each wanted edge leads from a row
+pub wanted_behind : (n : ℕ) (public : Public) (owners : List Owner) → AreNumbered n (rows_of owners) → StartBehind n (edges_between public owners)
+wanted_behind n public owners numbers =
+    let all = owners_above n owners (rows_above n (rows_of owners) numbers) in
+    let behind : Edge → Type 0 = λ e. n ≤ e.source in
+    All-append behind (flat_map (to_libraries public) owners ++ flat_map (to_dependencies false owners) owners) (flat_map (to_dependencies true owners) owners)
+    (All-append behind (flat_map (to_libraries public) owners) (flat_map (to_dependencies false owners) owners)
+    (all_flat behind (to_libraries public) (AreAbove n) (libraries_behind n public) owners all)
+    (all_flat behind (to_dependencies false owners) (AreAbove n) (λ o above. dependencies_behind n false owners o above) owners all))
+    (all_flat behind (to_dependencies true owners) (AreAbove n) (λ o above. dependencies_behind n true owners o above) owners all)

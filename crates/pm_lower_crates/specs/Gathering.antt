@@ -5,7 +5,6 @@ use Rattle.std.specs.List.{flat_map, range_with_len}
 use Rattle.std.specs.Option.{option_and_then, option_map, option_to_list}
 use Rattle.base_text_paths.specs.Arena.{number_of}
 use Rattle.base_text_paths.specs.declared.arena.Idx.{Idx}
-use Rattle.crate_graph_values.specs.declared.workspace_data.CrateWorkspaceData.{CrateWorkspaceData}
 use Rattle.crate_graph.specs.Graph.{Graph}
 use Rattle.pm_cargo_packages.specs.declared.package.PackageData.{PackageData}
 use Rattle.pm_cargo_packages.specs.declared.package.PackageDependency.{PackageDependency}
@@ -13,9 +12,10 @@ use Rattle.pm_cargo_packages.specs.declared.target.TargetData.{TargetData}
 use Rattle.pm_cargo_packages.specs.declared.target.TargetTag.{TargetTag}
 use Rattle.pm_cargo.specs.Workspace.{Workspace}
 use Rattle.pm_lower_crates.specs.Loader.{FileNumbers}
-use Rattle.pm_lower_crates.specs.Lowering.{crate_of_row, crate_seen}
-use Rattle.pm_lower_crates.specs.Rows.{Owner, Row, library, live_target, rows_from}
-use Rattle.pm_lower_crates.specs.WantedEdges.{Edge, to_library, to_owner}
+use Rattle.pm_lower_crates.specs.Facts.{Facts}
+use Rattle.pm_lower_crates.specs.Lowering.{crate_seen, row_crate}
+use Rattle.pm_lower_crates.specs.Rows.{Owner, Row, is_macro_row, library, live_target, rows_from}
+use Rattle.pm_lower_crates.specs.WantedEdges.{Edge, Public, to_library, to_macros, to_owner, to_public}
 
 -- ---- rows
 
@@ -40,28 +40,37 @@ found_targets w of place (file ∷ files) =
     option_to_list (option_map (λ t. (place, t.0, t.1)) (found_target w (slice_get of.targets place) file))
     ++ found_targets w of (place + 1) files
 
--- a package with its rows, numbered from n on, by the files that their crates begin in
-abbrev pub owner_by : Workspace → ℕ → PackageData → List (Option ℕ) → Owner
-owner_by w n of files = record { of = of; rows = rows_from of n (found_targets w of 0 files) }
+-- the package with a number and its rows, numbered from n on, by the files that their crates begin in
+abbrev pub owner_by : Workspace → ℕ → ℕ → PackageData → List (Option ℕ) → Owner
+owner_by w p n of files = record { of = of; rows = rows_from p of n (found_targets w of 0 files) }
 
--- packages with their rows, numbered from n on
-abbrev pub owners_by : Workspace → ℕ → List PackageData → List (List (Option ℕ)) → List Owner
-owners_by w n [] files = []
-owners_by w n (p ∷ ps) [] = []
-owners_by w n (p ∷ ps) (f ∷ fs) = owner_by w n p f ∷ owners_by w (n + length (owner_by w n p f).rows) ps fs
+-- the packages from the one with a number on, and their rows, numbered from n on
+abbrev pub owners_by : Workspace → ℕ → ℕ → List PackageData → List (List (Option ℕ)) → List Owner
+owners_by w p n [] files = []
+owners_by w p n (of ∷ more) [] = []
+owners_by w p n (of ∷ more) (f ∷ fs) =
+    owner_by w p n of f ∷ owners_by w (p + 1) (n + length (owner_by w p n of f).rows) more fs
 
 -- rows follow a graph's crates, with no dependencies, as far as its limit allows
-pub record AddsRows (w : Workspace) (shared : CrateWorkspaceData) (old new : Graph) (rows : List Row)
-    : Type 0 where
+pub record AddsRows (facts : Facts) (w : Workspace) (old new : Graph) (rows : List Row) : Type 0 where
   pub limit : new.limit ≡ old.limit
   pub within : length old.crates ≤ old.limit → length new.crates ≤ old.limit
-  pub crates : map crate_seen new.crates ≡ map crate_seen old.crates ++ map (crate_of_row w shared []) rows
+  pub crates : map crate_seen new.crates ≡ map crate_seen old.crates ++ map (row_crate facts w) rows
 
 -- ---- edges
 
--- the edges of a package's rows to its library
-unfoldable pub to_own_library : Owner → List Edge
-to_own_library o = flat_map (to_library (library o.rows)) o.rows
+-- the edge of a row to the library of procedural macros
+abbrev pub macros_of : Public → Row → List Edge
+macros_of public row = to_macros public.macros row.number (is_macro_row row.target.kind)
+
+-- the edges of a row to the public rows, and to its package's library
+abbrev pub libraries_of : Public → Option Row → Row → List Edge
+libraries_of public lib row = map (to_public row.number) public.rows ++ to_library lib row
+
+-- the edges of a package's rows that no dependency of it asks for
+unfoldable pub to_libraries : Public → Owner → List Edge
+to_libraries public o =
+    flat_map (macros_of public) o.rows ++ flat_map (libraries_of public (library o.rows)) o.rows
 
 -- the edges of a package's rows to the library of a dependency's package
 abbrev pub to_dependency : Bool → List Owner → Owner → PackageDependency → List Edge
@@ -73,11 +82,11 @@ unfoldable pub to_dependencies : Bool → List Owner → Owner → List Edge
 to_dependencies delayed owners from = flat_map (to_dependency delayed owners from) from.of.dependencies
 
 -- all edges that are wanted between some packages
-abbrev pub edges_between : List Owner → List Edge
-edges_between owners =
-    flat_map to_own_library owners ++ flat_map (to_dependencies false owners) owners
+abbrev pub edges_between : Public → List Owner → List Edge
+edges_between public owners =
+    flat_map (to_libraries public) owners ++ flat_map (to_dependencies false owners) owners
     ++ flat_map (to_dependencies true owners) owners
 
--- each row's number is its place
-abbrev pub AreNumbered : List Row → Type 0
-AreNumbered rows = map (λ r. r.number) rows ≡ range_with_len 0 (length rows)
+-- rows are numbered through, from n on
+abbrev pub AreNumbered : ℕ → List Row → Type 0
+AreNumbered n rows = map (λ r. r.number) rows ≡ range_with_len n (length rows)

@@ -1,6 +1,7 @@
 -- The rows of a JSON project: the crates of its document that become crates of a graph, each where the file
--- of its root module is live. Rows are numbered through in the order of the document, and a row's number is
--- that of its crate. The rule is that of rust-analyzer's `project_json_to_crate_graph`.
+-- of its root module is live. Rows are numbered through in the order of the document, behind those of parts
+-- before; no number of a graph plays a part. The rule is that of rust-analyzer's
+-- `project_json_to_crate_graph`.
 use Rattle.std.specs.Prelude.{ℕ, ◌+◌, List, [], ◌∷◌, length, Option, slice_get}
 use Rattle.std.specs.List.{flat_map}
 use Rattle.std.specs.Option.{option_and_then, option_map, option_to_list}
@@ -11,30 +12,32 @@ use Rattle.pm_lower_crates.specs.Loader.{FileNumbers, file_number}
 
 -- a row: a crate of a document that becomes a crate of a graph
 pub record JsonRow : Type 0 where
-  -- of the row's crate: how many rows come before it
+  -- how many rows of the project come before it, those of other parts too
   pub number : ℕ
-  -- the crate of the document
+  -- the crate of the document, and its number there
   pub of : Crate
+  pub of_number : ℕ
   -- the file that the crate begins in
   pub file : ℕ
 
--- the row of a crate that begins in a file, under a number
-abbrev pub row_in : ℕ → Crate → ℕ → JsonRow
-row_in n krate file = record { number = n; of = krate; file = file }
+-- the row of the crate with a number that begins in a file, under a number
+abbrev pub row_in : ℕ → ℕ → Crate → ℕ → JsonRow
+row_in c n krate file = record { number = n; of = krate; of_number = c; file = file }
 
--- the row of a crate under a number: there is one where the file of its root module is live
-unfoldable pub json_row : FileNumbers → ℕ → Crate → Option JsonRow
-json_row files n krate = option_map (row_in n krate) (file_number files krate.root_module)
+-- the row of the crate with a number, under a number: there is one where the file of its root module is live
+unfoldable pub json_row : FileNumbers → ℕ → ℕ → Crate → Option JsonRow
+json_row files c n krate = option_map (row_in c n krate) (file_number files krate.root_module)
 
--- of each crate its row, if it has one, numbered from n on
-abbrev pub json_rows_from : FileNumbers → ℕ → List Crate → List (Option JsonRow)
-json_rows_from files n [] = []
-json_rows_from files n (c ∷ cs) =
-    json_row files n c ∷ json_rows_from files (n + length (option_to_list (json_row files n c))) cs
+-- of each crate from the one with a number on its row, if it has one, numbered from n on
+abbrev pub json_rows_from : FileNumbers → ℕ → ℕ → List Crate → List (Option JsonRow)
+json_rows_from files c n [] = []
+json_rows_from files c n (krate ∷ more) =
+    json_row files c n krate
+    ∷ json_rows_from files (c + 1) (n + length (option_to_list (json_row files c n krate))) more
 
--- of each crate of a project its row, if it has one, by the crate's place
-abbrev pub rows_by_place : FileNumbers → ProjectJson → List (Option JsonRow)
-rows_by_place files project = json_rows_from files 0 (crates_in project)
+-- of each crate of a project its row, if it has one, by the crate's number; rows are numbered from n on
+abbrev pub rows_by_place : FileNumbers → ℕ → ProjectJson → List (Option JsonRow)
+rows_by_place files n project = json_rows_from files 0 n (crates_in project)
 
 -- the rows alone, in their order
 abbrev pub rows_among : List (Option JsonRow) → List JsonRow

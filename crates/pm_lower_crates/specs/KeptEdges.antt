@@ -1,8 +1,10 @@
 -- The edges that are kept of those wanted: in their order each, unless its target reaches its source over the
--- edges kept before. Each row reaches itself.
-use Rattle.std.specs.Prelude.{ℕ, ◌++◌, fold, if◌then◌else◌, List, [], ◌∷◌, map, filter, ◌==◌}
+-- edges kept before. Each row reaches itself. There may be edges before the first, as those of a toolchain's
+-- libraries.
+use Rattle.std.specs.Prelude.{ℕ, ◌++◌, List, [], ◌∷◌, map, filter, ◌==◌}
 use Rattle.graph_base.specs.EdgeList as graph
 use Rattle.graph_base.specs.Reach.{Reaches}
+use Rattle.pm_lower_crates.specs.KeptColumns.{keep_by, kept_by_ends}
 use Rattle.pm_lower_crates.specs.WantedEdges.{Dep, Edge}
 
 -- the ends of an edge: its source and its target
@@ -11,11 +13,15 @@ ends e = (e.source, e.dep.target)
 
 -- one more wanted edge, which is kept unless its target reaches its source
 abbrev pub keep : List Edge → Edge → List Edge
-keep kept e = if graph.reach_over (map ends kept) e.dep.target e.source then kept else kept ++ e ∷ []
+keep kept e = keep_by ends kept e
+
+-- the edges that are there before, and behind them those that are kept of the wanted ones
+abbrev pub kept_from : List Edge → List Edge → List Edge
+kept_from front wanted = kept_by_ends ends front wanted
 
 -- the edges that are kept of those wanted
-unfoldable pub kept_edges : List Edge → List Edge
-kept_edges wanted = fold keep [] wanted
+abbrev pub kept_edges : List Edge → List Edge
+kept_edges wanted = kept_from [] wanted
 
 -- the dependencies that some edges give a row, in their order
 abbrev pub deps_of : List Edge → ℕ → List Dep

@@ -1,5 +1,8 @@
+pub mod ClosedFront
 pub mod Columns
 pub mod DetachedLowering
+pub mod Facts
+pub mod Front
 pub mod Gathering
 pub mod JsonColumns
 pub mod JsonGathering
@@ -7,10 +10,13 @@ pub mod JsonLowering
 pub mod JsonRows
 pub mod JsonWantedEdges
 pub mod Keeping
+pub mod KeptColumns
 pub mod KeptEdges
+pub mod KeptFrom
 pub mod Loader
 pub mod Lowering
 pub mod Ranks
 pub mod Refusal
 pub mod Rows
+pub mod Shown
 pub mod WantedEdges

@@ -1,7 +1,9 @@
--- The lowering of a project: the crates of its graph, or why it has none. The rule is that of rust-analyzer's
--- `ProjectWorkspace::to_crate_graph`.
-use Rattle.std.specs.Prelude.{◌≡◌, ◌↔◌, ℕ, List, map, length, Option, Some, None, Result, Ok, Err, nat_lt, slice_get, if◌then◌else◌}
-use Rattle.std.specs.List.{Contains, flat_map}
+-- The lowering of a project: the crates of its rows and the edges between them, or why it has no graph. Rows,
+-- edges and refusals are those of all parts, a toolchain's libraries before the project; which numbers a
+-- graph has is told by `Shown`. The rule is that of rust-analyzer's `ProjectWorkspace::to_crate_graph`.
+use Rattle.std.specs.Prelude.{◌≡◌, ◌↔◌, ℕ, ◌+◌, List, [], ◌∷◌, ◌++◌, map, length, Option, Some, None, Result, Ok, Err, nat_lt, slice_get, if◌then◌else◌}
+use Rattle.std.specs.List.{Contains}
+use Rattle.std.specs.Option.{option_or}
 use Rattle.base_text_outside.specs.declared.limits.Limit.TheVariants.{Crates}
 use Rattle.base_text_paths.specs.declared.arena.Idx.{Idx}
 use Rattle.graph_base.specs.Reach.{Reaches}
@@ -9,15 +11,15 @@ use Rattle.crate_graph_values.specs.CrateData.{prelude_of, is_of_sysroot}
 use Rattle.crate_graph_values.specs.declared.builder.CrateBuilder.{CrateBuilder}
 use Rattle.crate_graph_values.specs.declared.crate_data.CrateTag.{CrateTag}
 use Rattle.crate_graph_values.specs.declared.crate_data.Dependency.{Dependency}
-use Rattle.crate_graph_values.specs.declared.workspace_data.CrateWorkspaceData.{CrateWorkspaceData}
 use Rattle.crate_graph.specs.Graph.{Graph, edges, target_of}
 use Rattle.pm_cargo.specs.Workspace.{Workspace}
 use Rattle.pm_lower_crates.specs.Columns.{Columns, columns_of, columns_seen}
+use Rattle.pm_lower_crates.specs.Facts.{Facts}
 use Rattle.pm_lower_crates.specs.KeptEdges.{deps_of, kept_edges}
 use Rattle.pm_lower_crates.specs.Loader.{FileNumbers}
 use Rattle.pm_lower_crates.specs.Refusal.{Refuses}
-use Rattle.pm_lower_crates.specs.Rows.{ProjectPart, Row, cargo, parts, rows_of, rows_of_parts}
-use Rattle.pm_lower_crates.specs.WantedEdges.{Dep, Edge, bad_names, wanted_edges}
+use Rattle.pm_lower_crates.specs.Rows.{Owner, Row, owners, rows_of}
+use Rattle.pm_lower_crates.specs.WantedEdges.{Dep, Edge, Public, RankedEdge, bad_names_of_owners, unranked, wanted_of_owners}
 use Rattle.pm_lower_crates.specs.declared.lower_error.LowerError.{LowerError}
 use Rattle.pm_lower_crates.specs.declared.lower_error.LowerError.TheVariants.{BadCrateName, TooMany}
 
@@ -29,39 +31,96 @@ pub record Crate : Type 0 where
   pub columns : Columns
   pub deps : List Dep
 
--- the crate of a row, which depends on others by the kept edges
-abbrev pub crate_of_row : Workspace → CrateWorkspaceData → List Edge → Row → Crate
-crate_of_row w shared kept row = record {
-  root = row.file;
-  columns = columns_of w shared row;
-  deps = deps_of kept row.number;
+-- crates, numbered from n on, with the dependencies that edges give each
+abbrev pub with_deps : List Edge → ℕ → List Crate → List Crate
+with_deps kept n [] = []
+with_deps kept n (c ∷ cs) = record c { deps = deps_of kept n } ∷ with_deps kept (n + 1) cs
+
+-- ---- parts
+
+-- a part of a project: a toolchain's libraries, the project itself, or the crates of the compiler
+pub record ProjectPart : Type 0 where
+  -- the crates of its rows, in order, which depend on nothing yet
+  pub rows : List Crate
+  -- the edges that its rows want, in order of rank
+  pub wanted : List RankedEdge
+  -- the bad names of dependencies, by package and dependency
+  pub bad_names : List (List ℕ)
+
+-- a part without rows
+abbrev pub no_project_part : ProjectPart
+no_project_part = record { rows = []; wanted = []; bad_names = [] }
+
+-- the edges that the rows of a part want, in their order
+abbrev pub wanted_edges : ProjectPart → List Edge
+wanted_edges part = unranked part.wanted
+
+-- the crates of a part, whose rows are numbered from n on, with the edges that are kept of those wanted
+unfoldable pub crates_from : ℕ → ProjectPart → List Crate
+crates_from n part = with_deps (kept_edges (wanted_edges part)) n part.rows
+
+-- the crate of a row, which depends on nothing yet
+abbrev pub row_crate : Facts → Workspace → Row → Crate
+row_crate facts w row = record { root = row.file; columns = columns_of facts w row; deps = [] }
+
+-- a Cargo workspace as part q, by its packages with their rows
+abbrev pub cargo_part : Facts → ℕ → Public → Workspace → List Owner → ProjectPart
+cargo_part facts q public w owners = record {
+  rows = map (row_crate facts w) (rows_of owners);
+  wanted = wanted_of_owners q public owners;
+  bad_names = bad_names_of_owners owners;
 }
 
--- the crates of a part's rows
-abbrev pub crates_of_part : CrateWorkspaceData → List Edge → ProjectPart → List Crate
-crates_of_part shared kept (cargo q w owners) = map (crate_of_row w shared kept) (rows_of owners)
+-- ---- refusals
 
--- the crates of a project: one for each row, in order, with the kept edges
-unfoldable pub crates_of_rows : CrateWorkspaceData → List ProjectPart → List Crate
-crates_of_rows shared parts = flat_map (crates_of_part shared (kept_edges (wanted_edges parts))) parts
+-- there are more rows than the limit
+abbrev pub too_many : ℕ → ℕ → Option LowerError
+too_many limit count = if nat_lt limit count then Some (TooMany Crates) else None
+
+-- a name is bad: the first
+abbrev pub bad_name : List (List ℕ) → Option LowerError
+bad_name [] = None
+bad_name (name ∷ names) = Some (BadCrateName name)
+
+-- why a part is refused, behind so many rows that are shown
+unfoldable pub part_refusal : ℕ → ℕ → ProjectPart → Option LowerError
+part_refusal limit shown part =
+    option_or (too_many limit (shown + length part.rows)) (bad_name part.bad_names)
+
+-- why a project is refused: the libraries' rows are too many, or a name of theirs is bad, or the rows that
+-- are shown are too many, or a name of the project's is bad
+abbrev pub refusal : ℕ → ProjectPart → ℕ → ProjectPart → Option LowerError
+refusal limit libraries shown project =
+    option_or (part_refusal limit 0 libraries) (part_refusal limit shown project)
+
+-- what there is unless it is refused
+abbrev pub unless_refused : {T : Type 0} → Option LowerError → T → Result T LowerError
+unless_refused None x = Ok x
+unless_refused (Some e) x = Err e
 
 -- ---- lowering
 
--- the first bad name refuses a project, and else it has its crates
-abbrev pub named_crates : CrateWorkspaceData → List ProjectPart → Option (List ℕ)
-    → Result (List Crate) LowerError
-named_crates shared parts (Some name) = Err (BadCrateName name)
-named_crates shared parts None = Ok (crates_of_rows shared parts)
+-- the crates of a part, whose rows are numbered from n on, behind that many rows that are shown
+abbrev pub lowered_behind : ℕ → ℕ → ProjectPart → Result (List Crate) LowerError
+lowered_behind limit n part = unless_refused (part_refusal limit n part) (crates_from n part)
 
--- the crates of a project, unless it has more rows than the limit, or else a bad name
-abbrev pub lowered_parts : CrateWorkspaceData → ℕ → List ProjectPart → Result (List Crate) LowerError
-lowered_parts shared limit parts =
-    if nat_lt limit (length (rows_of_parts parts)) then Err (TooMany Crates)
-    else named_crates shared parts (slice_get (bad_names parts) 0)
+-- the rows of a toolchain's libraries and of a project, as one part
+abbrev pub both : ProjectPart → ProjectPart → ProjectPart
+both libraries project = record {
+  rows = libraries.rows ++ project.rows;
+  wanted = libraries.wanted ++ project.wanted;
+  bad_names = libraries.bad_names ++ project.bad_names;
+}
 
--- the lowering of a Cargo workspace
-unfoldable pub lowering : FileNumbers → Workspace → CrateWorkspaceData → ℕ → Result (List Crate) LowerError
-lowering files w shared limit = lowered_parts shared limit (parts files w)
+-- the crates of all rows by their numbers, where so many of the libraries' rows are shown, or why there are
+-- none
+unfoldable pub lowered : ℕ → ProjectPart → ℕ → ProjectPart → Result (List Crate) LowerError
+lowered limit libraries shown project =
+    unless_refused (refusal limit libraries shown project) (crates_from 0 (both libraries project))
+
+-- a Cargo workspace as the project itself, whose rows are numbered from n on
+unfoldable pub cargo_rows : FileNumbers → Facts → Public → ℕ → Workspace → ProjectPart
+cargo_rows files facts public n w = cargo_part facts 1 public w (owners files w n)
 
 -- ---- graphs
 
@@ -86,6 +145,19 @@ pub record HasCrates (limit : ℕ) (graph : Graph) (crates : Result (List Crate)
 abbrev pub IsLowered : ℕ → Result Graph LowerError → Result (List Crate) LowerError → Type 0
 IsLowered limit (Ok graph) crates = HasCrates limit graph crates
 IsLowered limit (Err e) crates = Refuses e crates
+
+-- the new graph has the old one's crates, and behind them these, in order, and the old limit
+pub record HasCratesBehind (old new : Graph) (added : Result (List Crate) LowerError) : Type 0 where
+  pub crates : List Crate
+  pub added_are : added ≡ Ok crates
+  pub crates_are : map crate_seen new.crates ≡ map crate_seen old.crates ++ crates
+  pub limit_is : new.limit ≡ old.limit
+
+-- a call gives a graph with the crates of a lowering behind those that were there, or its refusal; running
+-- out of memory says nothing of it
+abbrev pub IsLoweredBehind : Graph → Result Graph LowerError → Result (List Crate) LowerError → Type 0
+IsLoweredBehind old (Ok new) crates = HasCratesBehind old new crates
+IsLoweredBehind old (Err e) crates = Refuses e crates
 
 -- ---- which edges are missing
 

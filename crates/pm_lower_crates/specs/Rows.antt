@@ -1,7 +1,7 @@
--- The rows of a project: the targets that become crates. A row is known by its part of the project, by the
--- place of its package there and by the place of its target among those of the package. Rows are numbered
--- through in that order, and a row's number is that of its crate. The rule is that of rust-analyzer's
--- `cargo_to_crate_graph`.
+-- The rows of a Cargo workspace: the targets that become crates. A row is known by its part of the project,
+-- by the number of its package there and by the place of its target among those of the package. Rows are
+-- numbered through in that order, over all parts; no number of a graph plays a part. The rule is that of
+-- rust-analyzer's `cargo_to_crate_graph`.
 use Rattle.std.specs.Prelude.{ℕ, ◌+◌, Bool, true, false, not, ◌&&◌, ◌||◌, List, [], ◌∷◌, length, filter, Option, None, if◌then◌else◌, slice_get}
 use Rattle.std.specs.List.{enumerate_from, flat_map, last_or}
 use Rattle.std.specs.Option.{option_and_then, option_map, option_to_list}
@@ -27,6 +27,16 @@ is_lib Bench = false
 is_lib BuildScript = false
 is_lib Other = false
 
+-- a library of procedural macros
+abbrev pub is_macro_row : TargetKind → Bool
+is_macro_row Bin = false
+is_macro_row (Lib macros) = macros
+is_macro_row Example = false
+is_macro_row Test = false
+is_macro_row Bench = false
+is_macro_row BuildScript = false
+is_macro_row Other = false
+
 -- a build script
 abbrev pub is_build_script : TargetKind → Bool
 is_build_script Bin = false
@@ -41,10 +51,11 @@ is_build_script Other = false
 
 -- a row: a target of a package that becomes a crate
 pub record Row : Type 0 where
-  -- of the row's crate: how many rows come before it
+  -- how many rows of the project come before it, those of other parts too
   pub number : ℕ
-  -- the package
+  -- the package, and its number in its part
   pub of : PackageData
+  pub of_number : ℕ
   -- of the target among those of the package
   pub place : ℕ
   pub target : TargetData
@@ -70,9 +81,9 @@ live_target files w of id =
     option_and_then (λ target. option_map (λ file. (target, file)) (root_file files w of target))
     (slice_get w.targets (number_of id))
 
--- the row of a target at a place, under a number
-abbrev pub row_at : PackageData → ℕ × TargetData × ℕ → ℕ → Row
-row_at of t n = record { number = n; of = of; place = t.0; target = t.1; file = t.2 }
+-- the row of a target at a place, under a number, by the number of the package
+abbrev pub row_at : ℕ → PackageData → ℕ × TargetData × ℕ → ℕ → Row
+row_at p of t n = record { number = n; of = of; of_number = p; place = t.0; target = t.1; file = t.2 }
 
 -- the targets of a package that have a row, each with its place and its file
 unfoldable pub live_targets : FileNumbers → Workspace → PackageData → List (ℕ × Idx TargetTag)
@@ -80,23 +91,27 @@ unfoldable pub live_targets : FileNumbers → Workspace → PackageData → List
 live_targets files w of ids =
     flat_map (λ id. option_to_list (option_map (λ t. (id.0, t.0, t.1)) (live_target files w of id.1))) ids
 
--- the rows of some targets, numbered from n on
-abbrev pub rows_from : PackageData → ℕ → List (ℕ × TargetData × ℕ) → List Row
-rows_from of n [] = []
-rows_from of n (t ∷ ts) = row_at of t n ∷ rows_from of (n + 1) ts
+-- the rows of some targets of the package with a number, numbered from n on
+abbrev pub rows_from : ℕ → PackageData → ℕ → List (ℕ × TargetData × ℕ) → List Row
+rows_from p of n [] = []
+rows_from p of n (t ∷ ts) = row_at p of t n ∷ rows_from p of (n + 1) ts
 
--- a package with its rows, numbered from n on
-unfoldable pub owner : FileNumbers → Workspace → ℕ → PackageData → Owner
-owner files w n of = record {
+-- the package with a number and its rows, numbered from n on
+unfoldable pub owner : FileNumbers → Workspace → ℕ → ℕ → PackageData → Owner
+owner files w p n of = record {
   of = of;
-  rows = rows_from of n (live_targets files w of (enumerate_from 0 of.targets));
+  rows = rows_from p of n (live_targets files w of (enumerate_from 0 of.targets));
 }
 
--- packages with their rows, numbered from n on
-abbrev pub owners_from : FileNumbers → Workspace → ℕ → List PackageData → List Owner
-owners_from files w n [] = []
-owners_from files w n (p ∷ ps) =
-    owner files w n p ∷ owners_from files w (n + length (owner files w n p).rows) ps
+-- the packages from the one with a number on, and their rows, numbered from n on
+abbrev pub owners_from : FileNumbers → Workspace → ℕ → ℕ → List PackageData → List Owner
+owners_from files w p n [] = []
+owners_from files w p n (of ∷ more) =
+    owner files w p n of ∷ owners_from files w (p + 1) (n + length (owner files w p n of).rows) more
+
+-- the packages of a workspace and their rows, numbered from n on
+abbrev pub owners : FileNumbers → Workspace → ℕ → List Owner
+owners files w n = owners_from files w 0 n w.packages
 
 -- the rows of some packages
 abbrev pub rows_of : List Owner → List Row
@@ -109,26 +124,3 @@ library rows = last_or None (filter (λ r. is_lib r.target.kind) rows)
 -- the library of the package at a place
 abbrev pub library_at : List Owner → ℕ → Option Row
 library_at owners place = option_and_then (λ o. library o.rows) (slice_get owners place)
-
--- ---- parts
-
--- a part of a project, by its number: 0 for a sysroot, 1 for the project itself. A Cargo workspace is one,
--- with its packages and their rows
-pub data ProjectPart : Type 0 where
-  cargo : ℕ → Workspace → List Owner → ProjectPart
-
--- the rows of a part, in order
-abbrev pub rows_of_part : ProjectPart → List Row
-rows_of_part (cargo q w owners) = rows_of owners
-
--- the rows of a project, in order
-abbrev pub rows_of_parts : List ProjectPart → List Row
-rows_of_parts parts = flat_map rows_of_part parts
-
--- the packages of a Cargo workspace with their rows, the first part with rows
-abbrev pub owners : FileNumbers → Workspace → List Owner
-owners files w = owners_from files w 0 w.packages
-
--- the parts of a project that has no sysroot: its workspace alone
-abbrev pub parts : FileNumbers → Workspace → List ProjectPart
-parts files w = cargo 1 w (owners files w) ∷ []

@@ -2,13 +2,48 @@
 
 ghost use Rattle.std.specs.Prelude.{◌≡◌, IfOk, string_bytes};
 ghost use Rattle.semver.specs.Identifiers.{parts_text};
-ghost use Rattle.pm_lower_crates.specs.Columns.{lang_of, origin_of, working_directory};
+ghost use Rattle.base_text_paths.specs.Arena.{number_of};
+ghost use Rattle.pm_lower_crates.specs.Columns.{cfgs_of, environment_of, lang_of, origin_of, working_directory};
+ghost use Rattle.pm_lower_crates.specs.Facts.{facts_of};
 
-use base_text_paths::{AbsPathBuf, Symbol, TryClone};
-use crate_graph_values::{CrateOrigin, LangCrateOrigin};
-use pm_cargo::CargoWorkspace;
-use pm_cargo_packages::PackageData;
+use crate::facts::CrateFacts;
+use base_text_paths::{AbsPathBuf, CfgOptions, Symbol, TryClone};
+use crate_graph_values::{CrateOrigin, Env, LangCrateOrigin};
+use pm_cargo::{BuildOutputs, CargoWorkspace};
+use pm_cargo_packages::{Package, PackageData};
 use std::alloc::{AllocError, Global};
+
+/// The atoms that hold in the crates of a name.
+#[tactic(auto, unfolding(crate::specs::Columns::cfgs_of))]
+pub fn cfgs_of<O: BuildOutputs>(
+    alloc: Global,
+    facts: &CrateFacts<'_, O>,
+    name: &str,
+) -> Result<CfgOptions, AllocError>
+    ensures { IfOk result (λ cfgs.
+        cfgs ≡ cfgs_of (facts_of O.output_at O.is_failed facts.now) name.now) }
+{
+    let atoms = facts.atoms.try_clone(alloc)?;
+    let mut cfgs = CfgOptions::of_atoms(atoms.into_inner());
+    facts.overrides.apply(&mut cfgs, name)?;
+    Ok(cfgs)
+}
+
+/// The variables of the crates of a package.
+#[tactic(auto, unfolding(crate::specs::Columns::environment_of))]
+pub(crate) fn environment_of<O: BuildOutputs>(
+    alloc: Global,
+    facts: &CrateFacts<'_, O>,
+    id: Package,
+) -> Result<Env, AllocError>
+    ensures { IfOk result (λ env.
+        env ≡ environment_of (facts_of O.output_at O.is_failed facts.now) (number_of id)) }
+{
+    match facts.outputs.output(id) {
+        Some(output) => output.envs.try_clone(alloc),
+        None => Ok(Env::new(alloc)),
+    }
+}
 
 /// A package's version as it is written.
 pub(crate) fn version_text(alloc: Global, package: &PackageData) -> Result<String, AllocError>
@@ -19,14 +54,15 @@ pub(crate) fn version_text(alloc: Global, package: &PackageData) -> Result<Strin
 
 /// Where the crates of a package come from.
 #[tactic(auto, unfolding(crate::specs::Columns::origin_of))]
-pub(crate) fn origin_of(
+pub(crate) fn origin_of<O: BuildOutputs>(
     alloc: Global,
-    workspace: &CargoWorkspace,
+    facts: &CrateFacts<'_, O>,
     package: &PackageData,
 ) -> Result<CrateOrigin, AllocError>
-    ensures { IfOk result (λ origin. origin ≡ origin_of workspace.now «package».now) }
+    ensures { IfOk result (λ origin.
+        origin ≡ origin_of (facts_of O.output_at O.is_failed facts.now) «package».now) }
 {
-    if workspace.is_sysroot() {
+    if facts.in_sysroot {
         return Ok(CrateOrigin::Lang(lang_of(package)));
     }
     let repo = package.repository.try_clone(alloc)?;

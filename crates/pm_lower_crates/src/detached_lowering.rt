@@ -1,70 +1,86 @@
-//! A detached file as a graph of crates.
+//! A detached file as the crates of a graph.
 
 ghost use Rattle.std.specs.Prelude.{◌≡◌, IfErr, IfOk, OnOk, length, map, ◌++◌, ◌∷◌, []};
 ghost use Rattle.std.specs.Option.{option_copied, option_map};
 ghost use Rattle.crate_graph_values.specs.Names.{shown_as};
-ghost use Rattle.pm_lower_crates.specs.DetachedLowering.{crate_of_file, crates_of_file, within_limit, detached_lowering, name_of, detached_wanted_edges};
-ghost use Rattle.pm_lower_crates.specs.Lowering.{IsLowered, LacksCyclesAlone, crate_seen};
+ghost use Rattle.pm_lower_crates.specs.DetachedLowering.{detached_rows, file_crate, file_part, name_of_file};
+ghost use Rattle.pm_lower_crates.specs.Facts.{facts_of};
+ghost use Rattle.pm_lower_crates.specs.Lowering.{IsLoweredBehind, LacksCyclesAlone, crate_seen, lowered_behind, wanted_edges};
 ghost use Rattle.pm_lower_crates.specs.Refusal.{IfTooMany};
 
+use crate::columns::cfgs_of;
+use crate::facts::CrateFacts;
+use crate::front::Front;
+use crate::keeping::keep_edges;
 use crate::loader::Loader;
 use crate::lower_error::LowerError;
 use crate::lowering::lower_cargo;
-use base_text_paths::{CfgOptions, Edition, FileId, Limits, ManifestPath, Symbol};
+use crate::public_edges::add_public;
+use base_text_paths::{Edition, FileId, ManifestPath, Symbol};
 use crate_graph::CrateGraphBuilder;
-use crate_graph_values::{CrateDisplayName, CrateOrigin, CrateWorkspaceData, Env, TargetKind};
-use pm_cargo::CargoWorkspace;
+use crate_graph_values::{CrateDisplayName, CrateOrigin, Env, TargetKind};
+use pm_cargo::{BuildOutputs, CargoWorkspace};
 use std::alloc::{AllocError, Global};
-use std::rc::Rc;
 
-/// The graph of a file's crates, which share what is known of the machine and the toolchain. Where Cargo
-/// reads the file as a project they are those of that project alone, and else the one of the file, where it
-/// is live.
-pub fn lower_detached<L: Loader>(
+/// The graph of a front, and behind it a file's crates by what is known of them. Where Cargo reads the file as a
+/// project they are those of that project alone, and else the one of the file, where it is live.
+pub fn lower_detached<L: Loader, O: BuildOutputs>(
     alloc: Global,
+    front: Front,
     file: &ManifestPath,
     cargo: Option<&CargoWorkspace>,
-    shared: &Rc<CrateWorkspaceData>,
+    facts: &CrateFacts<'_, O>,
     loader: &mut L,
-    limits: &Limits,
 ) -> Result<CrateGraphBuilder, LowerError>
-    ensures lowers { IsLowered limits.now.crates result (detached_lowering (L.files loader.old) file.now
-        (option_copied cargo.entry) shared.now.value limits.now.crates) }
-    ensures missing { IfOk result (λ graph. LacksCyclesAlone
-        (detached_wanted_edges (L.files loader.old) (option_copied cargo.entry)) graph.crates) }
+    ensures lowers { IsLoweredBehind front.graph result (lowered_behind
+        front.graph.limit (length front.graph.crates) (detached_rows (L.files loader.old)
+        (facts_of O.output_at O.is_failed facts.now) front.public
+        (length front.graph.crates) file.now (option_copied cargo.entry))) }
+    ensures missing { IfOk result (λ graph. LacksCyclesAlone (wanted_edges
+        (detached_rows (L.files loader.old) (facts_of O.output_at O.is_failed facts.now)
+        front.public (length front.graph.crates) file.now (option_copied cargo.entry)))
+        graph.crates) }
     ensures loader { L.files loader.new ≡ L.files loader.old }
 {
     match cargo {
-        Some(cargo) => lower_cargo(alloc, cargo, shared, loader, limits),
+        Some(cargo) => lower_cargo(alloc, front, cargo, facts, loader),
         None => {
             let number = loader.load(alloc, file.as_path())?;
-            graph_of(alloc, file, number, shared, limits)
+            graph_of(alloc, front, file, number, facts)
         }
     }
 }
 
-// The graph of a file alone, which is live under a number, if it has one.
-fn graph_of(
+// The same of a file alone, which is live under a number, if it has one.
+fn graph_of<O: BuildOutputs>(
     alloc: Global,
+    front: Front,
     file: &ManifestPath,
     number: Option<FileId>,
-    shared: &Rc<CrateWorkspaceData>,
-    limits: &Limits,
+    facts: &CrateFacts<'_, O>,
 ) -> Result<CrateGraphBuilder, LowerError>
-    ensures lowers { IsLowered limits.now.crates result (within_limit limits.now.crates
-        (crates_of_file file.now shared.now.value number)) }
-    ensures missing { IfOk result (λ graph. LacksCyclesAlone [] graph.crates) }
+    ensures lowers { IsLoweredBehind front.graph result (lowered_behind
+        front.graph.limit (length front.graph.crates) (file_part
+        (facts_of O.output_at O.is_failed facts.now) front.public
+        (length front.graph.crates) file.now number)) }
+    ensures missing { IfOk result (λ graph. LacksCyclesAlone (wanted_edges
+        (file_part (facts_of O.output_at O.is_failed facts.now) front.public
+        (length front.graph.crates) file.now number)) graph.crates) }
 {
-    let mut graph = CrateGraphBuilder::new(alloc, limits.crates);
+    let source = front.size();
+    let (mut graph, public) = front.into_parts();
+    let mut edges = Vec::new(alloc);
     if let Some(number) = number {
-        add_crate(alloc, &mut graph, file, number, shared)?;
+        add_crate(alloc, &mut graph, file, number, facts)?;
+        add_public(alloc, &public, source, &mut edges)?;
     }
+    keep_edges(&mut graph, edges)?;
     Ok(graph)
 }
 
 // The name of the crate of a file: the file's name but for its extension.
 fn name_of(alloc: Global, file: &ManifestPath) -> Result<Option<Symbol>, AllocError>
-    ensures { IfOk result (λ name. name ≡ name_of file.now) }
+    ensures { IfOk result (λ name. name ≡ name_of_file file.now) }
 {
     match file.as_path().file_stem() {
         Some(stem) => Ok(Some(Symbol::of_str(alloc, stem)?)),
@@ -74,16 +90,16 @@ fn name_of(alloc: Global, file: &ManifestPath) -> Result<Option<Symbol>, AllocEr
 
 // Puts the crate of a file into the graph.
 #[tactic(auto, unfolding(crate::specs::DetachedLowering::file_columns))]
-fn add_crate(
+fn add_crate<O: BuildOutputs>(
     alloc: Global,
     graph: &mut CrateGraphBuilder,
     file: &ManifestPath,
     number: FileId,
-    shared: &Rc<CrateWorkspaceData>,
+    facts: &CrateFacts<'_, O>,
 ) -> Result<(), LowerError>
     ensures limit { OnOk result (graph.new.limit ≡ graph.old.limit) }
     ensures added { OnOk result (map crate_seen graph.new.crates ≡ map crate_seen graph.old.crates
-        ++ crate_of_file file.now shared.now.value number ∷ []) }
+        ++ file_crate (facts_of O.output_at O.is_failed facts.now) file.now number ∷ []) }
     ensures room { OnOk result (length graph.old.crates ≡ graph.old.limit → ⊥) }
     ensures full { IfErr result (λ e. IfTooMany e
         (length graph.old.crates ≡ graph.old.limit)) }
@@ -91,13 +107,14 @@ fn add_crate(
     let name = name_of(alloc, file)?;
     let display_name = display_name_of(alloc, &name)?;
     let directory = file.parent().to_path_buf(alloc)?;
-    let shared = shared.clone()?;
+    let shared = facts.shared.clone()?;
+    let cfgs = cfgs_of(alloc, facts, "")?;
     graph.add_crate_root(
         number,
         Edition::CURRENT,
         display_name,
         None,
-        CfgOptions::new(alloc),
+        cfgs,
         None,
         Env::new(alloc),
         CrateOrigin::Local { repo: None, name },

@@ -4,12 +4,14 @@ ghost use Rattle.std.specs.Prelude.{◌≡◌, [], ◌∷◌, ◌++◌, true, fa
 ghost use Rattle.std.specs.Option.{option_copied};
 ghost use Rattle.base_text_paths.specs.Arena.{number_of};
 ghost use Rattle.crate_graph_values.specs.Names.{has_dash};
-ghost use Rattle.pm_lower_crates.specs.Gathering.{to_dependencies, to_dependency, to_own_library, edges_between};
+ghost use Rattle.pm_lower_crates.specs.Gathering.{edges_between, libraries_of, macros_of, to_dependencies, to_dependency, to_libraries};
 ghost use Rattle.pm_lower_crates.specs.Refusal.{IfBadName};
 ghost use Rattle.pm_lower_crates.specs.WantedEdges.{bad_name_of, bad_names_of, bad_names_of_owners, is_delayed, is_for, uses_library};
 
+use crate::front::PublicRows;
 use crate::lower_error::LowerError;
-use crate::rows::{Owner, Row, is_build_script, is_lib};
+use crate::public_edges::{add_public, macros_edge};
+use crate::rows::{Owner, Row, is_build_script, is_lib, is_macro};
 use crate::wanted_edge::WantedEdge;
 use base_text_paths::{Text, TryClone};
 use crate_graph_values::CrateName;
@@ -23,22 +25,59 @@ fn uses_library(library: &Row, row: &Row) -> bool
     row.place() != library.place() && !is_build_script(row.target().kind)
 }
 
-// The edges of a package's rows to its library.
-fn add_own_library(
+// The edge of a row to the library of procedural macros.
+fn add_macros(
     alloc: Global,
+    public: &PublicRows,
+    row: &Row,
+    edges: &mut Vec<WantedEdge>,
+) -> Result<(), AllocError>
+    ensures { OnOk result (edges.new.items ≡ edges.old.items ++ macros_of public.now row.now) }
+{
+    if let Some(macros) = public.macros() {
+        let edge = macros_edge(alloc, row.number(), macros, is_macro(row.target().kind))?;
+        edges.push(edge)?;
+    }
+    Ok(())
+}
+
+// The edges of a row to the public rows, and to its package's library.
+fn add_libraries(
+    alloc: Global,
+    public: &PublicRows,
+    library: Option<&Row>,
+    row: &Row,
+    edges: &mut Vec<WantedEdge>,
+) -> Result<(), AllocError>
+    ensures { OnOk result (edges.new.items ≡ edges.old.items
+        ++ libraries_of public.now (option_copied library.entry) row.now) }
+{
+    let source = row.number();
+    add_public(alloc, public, source, edges)?;
+    if let Some(library) = library {
+        if uses_library(library, row) {
+            let name = CrateName::normalize_dashes(alloc, library.target().name.as_str())?;
+            edges.push(WantedEdge::new(source, name, library.number()))?;
+        }
+    }
+    Ok(())
+}
+
+// The edges of a package's rows that no dependency of it asks for.
+fn add_first(
+    alloc: Global,
+    public: &PublicRows,
     owner: &Owner,
     edges: &mut Vec<WantedEdge>,
 ) -> Result<(), AllocError>
-    ensures { OnOk result (edges.new.items ≡ edges.old.items ++ to_own_library owner.now) }
+    ensures { OnOk result (edges.new.items
+        ≡ edges.old.items ++ to_libraries public.now owner.now) }
 {
-    let Some(library) = owner.library() else {
-        return Ok(());
-    };
     for row in owner.rows() {
-        if uses_library(library, row) {
-            let name = CrateName::normalize_dashes(alloc, library.target().name.as_str())?;
-            edges.push(WantedEdge::new(row.number(), name, library.number()))?;
-        }
+        add_macros(alloc, public, row, edges)?;
+    }
+    for from in owner.rows() {
+        add_libraries(alloc, public, owner.library(), from, edges)?;
     }
     Ok(())
 }
@@ -141,16 +180,20 @@ fn add_dependencies(
     Ok(())
 }
 
-/// All edges that are wanted between the rows, in order of rank.
-pub(crate) fn wanted_edges(alloc: Global, owners: &[Owner]) -> Result<Vec<WantedEdge>, LowerError>
-    ensures edges { IfOk result (λ edges. edges.items ≡ edges_between owners.now) }
+/// All edges that are wanted between the rows, and from them to public rows, in order of rank.
+pub(crate) fn wanted_edges(
+    alloc: Global,
+    public: &PublicRows,
+    owners: &[Owner],
+) -> Result<Vec<WantedEdge>, LowerError>
+    ensures edges { IfOk result (λ edges. edges.items ≡ edges_between public.now owners.now) }
     ensures good { OnOk result (bad_names_of_owners owners.now ≡ []) }
     ensures bad { IfErr result (λ e. IfBadName e
         (λ name. slice_get (bad_names_of_owners owners.now) 0 ≡ Some name)) }
 {
     let mut edges = Vec::new(alloc);
     for owner in owners {
-        add_own_library(alloc, owner, &mut edges)?;
+        add_first(alloc, public, owner, &mut edges)?;
     }
     let mut delayed = Vec::new(alloc);
     for from in owners {

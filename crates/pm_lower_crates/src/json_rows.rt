@@ -13,6 +13,7 @@ use std::marker::Model;
 pub(crate) struct Row<'a> {
     number: u32,
     of: &'a Crate,
+    of_number: usize,
     file: FileId,
 }
 
@@ -21,14 +22,29 @@ impl<'a> Model for Row<'a> {
 
     ghost Value = { seen.JsonRow };
 
-    ghost view = { λ a. record { number = a.number; of = a.of.now; file = a.file } };
+    ghost view = { λ a. record {
+      number = a.number;
+      of = a.of.now;
+      of_number = a.of_number;
+      file = a.file;
+    } };
 }
 
 impl<'a> Row<'a> {
-    pub(crate) fn new(number: u32, of: &'a Crate, file: FileId) -> Self
-        ensures { result ≡ record { number = number; of = of.now; file = file } }
+    pub(crate) fn new(number: u32, of: &'a Crate, of_number: usize, file: FileId) -> Self
+        ensures { result ≡ record {
+          number = number;
+          of = of.now;
+          of_number = of_number;
+          file = file;
+        } }
     {
-        Row { number, of, file }
+        Row {
+            number,
+            of,
+            of_number,
+            file,
+        }
     }
 
     pub(crate) fn number(&self) -> u32

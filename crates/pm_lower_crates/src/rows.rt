@@ -2,11 +2,12 @@
 
 ghost use Rattle.std.specs.Prelude.{◌≡◌};
 ghost use Rattle.std.specs.Option.{option_copied};
-ghost use Rattle.pm_lower_crates.specs.Rows.{is_build_script, is_lib, library};
+ghost use Rattle.base_text_paths.specs.Arena.{number_of};
+ghost use Rattle.pm_lower_crates.specs.Rows.{is_build_script, is_lib, is_macro_row, library};
 
 use base_text_paths::{FileId, Items};
 use crate_graph_values::TargetKind;
-use pm_cargo_packages::{PackageData, TargetData};
+use pm_cargo_packages::{Package, PackageData, TargetData};
 use std::marker::Model;
 
 /// A target of a package that is a crate of the graph.
@@ -14,12 +15,14 @@ use std::marker::Model;
 pub(crate) struct Row<'a> {
     number: u32,
     of: &'a PackageData,
+    of_number: Package,
     place: usize,
     target: &'a TargetData,
     file: FileId,
 }
 
 impl<'a> Model for Row<'a> {
+    ghost use Rattle.base_text_paths.specs.Arena.{number_of};
     ghost use Rattle.pm_lower_crates.specs.Rows as seen;
 
     ghost Value = { seen.Row };
@@ -27,6 +30,7 @@ impl<'a> Model for Row<'a> {
     ghost view = { λ a. record {
       number = a.number;
       of = a.of.now;
+      of_number = number_of a.of_number;
       place = a.place;
       target = a.target.now;
       file = a.file;
@@ -37,6 +41,7 @@ impl<'a> Row<'a> {
     pub(crate) fn new(
         number: u32,
         of: &'a PackageData,
+        of_number: Package,
         place: usize,
         target: &'a TargetData,
         file: FileId,
@@ -44,6 +49,7 @@ impl<'a> Row<'a> {
         ensures { result ≡ record {
           number = number;
           of = of.now;
+          of_number = number_of of_number;
           place = place;
           target = target.now;
           file = file;
@@ -52,6 +58,7 @@ impl<'a> Row<'a> {
         Row {
             number,
             of,
+            of_number,
             place,
             target,
             file,
@@ -61,7 +68,14 @@ impl<'a> Row<'a> {
     pub(crate) fn copy(&self) -> Self
         ensures { result ≡ self.now }
     {
-        Row::new(self.number, self.of, self.place, self.target, self.file)
+        Row::new(
+            self.number,
+            self.of,
+            self.of_number,
+            self.place,
+            self.target,
+            self.file,
+        )
     }
 
     /// The file that the row's crate begins in.
@@ -75,6 +89,13 @@ impl<'a> Row<'a> {
         ensures { result.now ≡ self.now.of }
     {
         self.of
+    }
+
+    /// The package's number.
+    pub(crate) fn of_number(&self) -> Package
+        ensures { number_of result ≡ self.now.of_number }
+    {
+        self.of_number
     }
 
     pub(crate) fn number(&self) -> u32
@@ -157,6 +178,17 @@ pub(crate) fn is_lib(kind: TargetKind) -> bool
     ensures { result ≡ is_lib kind }
 {
     matches!(kind, TargetKind::Lib { .. })
+}
+
+pub(crate) fn is_macro(kind: TargetKind) -> bool
+    ensures { result ≡ is_macro_row kind }
+{
+    matches!(
+        kind,
+        TargetKind::Lib {
+            is_proc_macro: true
+        }
+    )
 }
 
 pub(crate) fn is_build_script(kind: TargetKind) -> bool

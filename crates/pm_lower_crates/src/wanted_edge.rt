@@ -40,6 +40,16 @@ impl WantedEdge {
         }
     }
 
+    /// An edge from the row of a number, with this dependency and its marks.
+    pub fn of_dep(source: u32, dep: DependencyBuilder) -> Self
+        ensures { result ≡ record { source = source; dep = dep_seen dep } }
+    {
+        WantedEdge {
+            source: CrateBuilderId::from_raw(source),
+            dep,
+        }
+    }
+
     /// The row that wants the dependency, and the dependency.
     pub(crate) fn into_parts(self) -> (CrateBuilderId, DependencyBuilder)
         ensures source { number_of result.0 ≡ self.source }

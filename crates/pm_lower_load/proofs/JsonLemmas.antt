@@ -12,7 +12,8 @@ use Rattle.pm_json.specs.declared.workspace_json_error.WorkspaceJsonError.{Works
 use Rattle.pm_json.specs.ProjectJsonData.{project_at}
 use Rattle.pm_json.specs.declared.project_json_data.ProjectJsonData.{ProjectJsonData}
 use Rattle.pm_lower_load.specs.JsonDocument.{document_at, document_text, json_content, project_of_document, toolchain_member, without_toolchain}
-use Rattle.pm_lower_load.specs.Loading.{Loading, Refuses, ◌>>=◌, of_document, of_json_error, of_json_reading, of_read_error}
+use Rattle.base_values.specs.Outcome.{◌>>=◌}
+use Rattle.pm_lower_load.specs.Loading.{Loading, Refuses, of_document, of_json_error, of_json_reading, of_read_error}
 use Rattle.pm_lower_load.specs.declared.load_error.LoadError.{LoadError}
 use Rattle.pm_lower_load.proofs.LoadingLemmas.{refuses_document, refuses_first, refuses_json}
 use Rattle.pm_lower_load.proofs.MetadataLemmas.{above}
@@ -51,7 +52,7 @@ then_read (Some member) x = refl
 module _ (path : List ℕ) (limits : Limits) (files : TreeFiles) where
   -- there is no document
   pub content-refused : (e : LoadError) → Refuses e (document_at files path) → Refuses e (json_content path limits files)
-  unfolding json_content
+  unfolding json_content project_of_document
   content-refused e h = refuses_first e (document_at files path) (λ (stated : ProjectJsonData). project_of_document path limits.crates stated) h
 
   module _ (stated : ProjectJsonData) (copy dir : List ℕ) (is_stated : document_at files path ≡ Ok stated) (is_copy : copy ≡ path) (is_dir : Some dir ≡ parent_text path) where

@@ -10,9 +10,11 @@ use Rattle.json_fields.specs.declared.place.ReadError.TheVariants as missed
 use Rattle.pm_json.specs.Refusals as json
 use Rattle.pm_json.specs.declared.workspace_json_error.WorkspaceJsonError.{WorkspaceJsonError}
 use Rattle.pm_json.specs.declared.workspace_json_error.WorkspaceJsonError.TheVariants as json_refused
-use Rattle.pm_lower_load.specs.Loading.{Gives, Loading, Refuses, ◌>>=◌, of_document, of_fetch, of_json_error, of_json_reading, of_metadata_error, of_read_error, of_reading, of_workspace_error}
+use Rattle.base_values.specs.Outcome.{◌>>=◌}
+use Rattle.pm_lower_load.specs.Loading.{Gives, Loading, Refuses, of_document, of_fetch, of_json_error, of_json_reading, of_metadata_error, of_read_error, of_reading, of_workspace_error}
 use Rattle.pm_lower_load.specs.declared.load_error.LoadError.{LoadError}
 use Rattle.pm_lower_load.specs.declared.load_error.LoadError.TheVariants.{NoSuchFile, CargoMetadata, Io, Json, NoJson, NotAbsolute, NoParent, UnknownPackage, TooMany, OutOfMemory}
+use Rattle.pm_lower_load.proofs.MadeLemmas.{made_of_reading}
 use Rattle.pm_cargo_reading.specs.Reading as reading
 use Rattle.pm_cargo_reading.specs.Reading.{Reading}
 use Rattle.pm_cargo_reading.specs.declared.workspace_error.WorkspaceError.{WorkspaceError}
@@ -56,6 +58,12 @@ refuses_reading (refused.UnknownPackage id) part h = ap of_reading h
 refuses_reading (refused.TooMany limit) part h = ap of_reading h
 refuses_reading refused.OutOfMemory part h = record {}
 
+-- what is made of a reading, as a part of a load
+pub load_made : {A B : Type 0} (f : A → B) (part : Reading A) → of_reading (made_of_reading f part) ≡ (of_reading part >>= λ x. Ok (f x))
+unfolding made_of_reading
+load_made f (Ok x) = refl
+load_made f (Err e) = refl
+
 -- what was not fetched, as a part of a load
 pub refuses_fetch : (e : metadata.Error) (wanted : FetchAnswer) → AnswersFetch (Err e) wanted → Refuses (of_metadata_error e) (of_fetch wanted)
 refuses_fetch (unread.CargoMetadata stderr) wanted h = ap of_fetch h
@@ -63,6 +71,22 @@ refuses_fetch (unread.Io line) wanted h = ap of_fetch h
 refuses_fetch (unread.Json field) wanted h = ap of_fetch h
 refuses_fetch unread.NoJson wanted h = ap of_fetch h
 refuses_fetch unread.OutOfMemory wanted h = record {}
+
+-- memory ran out while metadata was fetched
+pub fetch_ran_out : {T U : Type 0} (e : metadata.Error) → IsErrOf {T = T} (Err e) unread.OutOfMemory → IsErrOf {T = U} (Err (of_metadata_error e)) OutOfMemory
+fetch_ran_out (unread.CargoMetadata stderr) h = cc
+fetch_ran_out (unread.Io line) h = cc
+fetch_ran_out (unread.Json field) h = cc
+fetch_ran_out unread.NoJson h = cc
+fetch_ran_out unread.OutOfMemory h = refl
+
+-- memory ran out while a document was read
+pub reading_ran_out : {T U : Type 0} (e : WorkspaceError) → IsErrOf {T = T} (Err e) refused.OutOfMemory → IsErrOf {T = U} (Err (of_workspace_error e)) OutOfMemory
+reading_ran_out (refused.NotAbsolute text) h = cc
+reading_ran_out (refused.NoParent text) h = cc
+reading_ran_out (refused.UnknownPackage id) h = cc
+reading_ran_out (refused.TooMany limit) h = cc
+reading_ran_out refused.OutOfMemory h = refl
 
 -- a document that its table does not read, as a part of a load
 pub refuses_document : {T : Type 0} (e : ReadError) (part : fields.Reading T) → fields.Gives {T = T} (Err e) part → Refuses (of_read_error e) (of_document part)

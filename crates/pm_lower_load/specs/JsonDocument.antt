@@ -8,7 +8,8 @@ use Rattle.pm_json.specs.Project as json
 use Rattle.pm_json.specs.declared.project_json.ProjectJson.{ProjectJson, out-ProjectJson}
 use Rattle.pm_json.specs.ProjectJsonData.{project_at}
 use Rattle.pm_json.specs.declared.project_json_data.ProjectJsonData.{ProjectJsonData, out-ProjectJsonData}
-use Rattle.pm_lower_load.specs.Loading.{Loading, ◌>>=◌, of_document, of_json_reading}
+use Rattle.base_values.specs.Outcome.{◌>>=◌}
+use Rattle.pm_lower_load.specs.Loading.{Loading, of_document, of_json_reading}
 use Rattle.pm_lower_load.specs.declared.load_error.LoadError.TheVariants.{Json, NoSuchFile}
 use Rattle.base_text_paths.specs.ManifestPath.{directory_of}
 use Rattle.pm_tools_ask.specs.Sysroot.{sysroot_of}
@@ -55,8 +56,10 @@ project_of_document path limit stated =
 
 -- the project at a path
 unfoldable pub json_content : List ℕ → Limits → TreeFiles → Loading ProjectJson
-json_content path limits files =
-    document_at files path >>= λ stated. project_of_document path limits.crates stated
+json_content path limits files = do
+  stated ← document_at files path
+  project ← of_json_reading (json.project_of limits.crates stated (Some path) (directory_of path))
+  without_toolchain (toolchain_member stated) project
 
 -- the toolchain that a project states
 abbrev pub stated_sysroot : ProjectJson → Toolchain

@@ -1,4 +1,3 @@
-pub mod Compiler
 pub mod DetachedRoots
 pub mod JsonDocument
 pub mod JsonRoots

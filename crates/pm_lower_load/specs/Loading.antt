@@ -14,17 +14,12 @@ use Rattle.pm_lower_load.specs.declared.load_error.LoadError.TheVariants.{NoSuch
 use Rattle.pm_cargo_reading.specs.Reading.{Reading}
 use Rattle.pm_cargo_reading.specs.declared.workspace_error.WorkspaceError.{WorkspaceError}
 use Rattle.pm_cargo_reading.specs.declared.workspace_error.WorkspaceError.TheVariants as refused
+use Rattle.base_text_outside.specs.declared.limits.Limit.{Limit}
+use Rattle.base_text_outside.specs.declared.limits.Limit.TheVariants.{Bytes, Paths, Packages, Targets, Crates}
 
 -- what is loaded, or a refusal
 abbrev pub Loading : Type 0 → Type 0
 Loading T = Result T LoadError
-
--- the next part is loaded where this one is not refused
-infixl 10 ◌>>=◌
--- a part of a load, and what is loaded with its value
-abbrev pub ◌>>=◌ : {A B : Type 0} → Loading A → (A → Loading B) → Loading B
-Ok x >>= f = f x
-Err e >>= f = Err e
 
 -- why a document is read as no workspace, as a refusal of a load
 abbrev pub of_workspace_error : WorkspaceError → LoadError
@@ -103,3 +98,16 @@ load_error_name (NoParent text) = codes "NoParent"
 load_error_name (UnknownPackage id) = codes "UnknownPackage"
 load_error_name (TooMany limit) = codes "TooMany"
 load_error_name OutOfMemory = codes "OutOfMemory"
+
+-- a limit by which documents are counted: of packages, targets or crates
+abbrev pub IsDocumentLimit : Limit → Type 0
+IsDocumentLimit Bytes = ⊥
+IsDocumentLimit Paths = ⊥
+IsDocumentLimit Packages = Unit {0}
+IsDocumentLimit Targets = Unit {0}
+IsDocumentLimit Crates = Unit {0}
+
+-- the limit that a refused load names, where it names one
+abbrev pub NamesDocumentLimit : LoadError → Type 0
+NamesDocumentLimit (TooMany limit) = IsDocumentLimit limit
+NamesDocumentLimit other = Unit {0}

@@ -5,7 +5,8 @@ use Rattle.std.specs.Option.{option_and_then}
 use Rattle.serde_json.specs.Data.{Data}
 use Rattle.json_fields.specs.Document.{document}
 use Rattle.json_fields.specs.Fields.{members_at, required_member, text_at}
-use Rattle.json_fields.specs.Outcome.{Reading, ◌>>=◌}
+use Rattle.base_values.specs.Outcome.{◌>>=◌}
+use Rattle.json_fields.specs.Outcome.{Reading}
 use Rattle.base_text_outside.specs.declared.command.CommandLine.{CommandLine}
 use Rattle.base_text.specs.declared.tool.Tool.TheVariants.{Cargo}
 use Rattle.pm_lower_load.specs.Loading.{Loading, of_reading}
@@ -40,7 +41,7 @@ locate_words manifest = codes "locate-project" ∷ codes "--workspace" ∷ codes
 -- the question, which is asked in the directory of the manifest
 abbrev pub locate_question : Toolchain → List ℕ → Means → CommandLine
 locate_question sysroot manifest means =
-    question sysroot Cargo (directory_of manifest) (locate_words manifest) means
+    question sysroot.root Cargo (directory_of manifest) (locate_words manifest) means
 
 -- the root that cargo locates, if it does
 unfoldable pub located_root : Toolchain → List ℕ → Means → Option (List ℕ)

@@ -2,7 +2,7 @@
 -- are left out. The rules are those of rust-analyzer's `ProjectWorkspace::to_roots`.
 use Rattle.std.specs.Prelude.{ℕ, Bool, not, if◌then◌else◌, List, [], ◌∷◌, ◌++◌, map, filter, flat_map, slice_get, codes, Option}
 use Rattle.std.specs.List.{dedup, enumerate_from}
-use Rattle.std.specs.Option.{option_map, option_map_or, option_to_list}
+use Rattle.std.specs.Option.{option_and_then, option_map, option_map_or, option_to_list}
 use Rattle.base_values.specs.Sorted.{sorted}
 use Rattle.base_text_paths.specs.Arena.{number_of}
 use Rattle.base_text_paths.specs.declared.arena.Idx.{Idx}
@@ -12,9 +12,14 @@ use Rattle.base_text_paths.specs.ManifestPath.{directory_of}
 use Rattle.pm_cargo_packages.specs.declared.package.PackageData.{PackageData}
 use Rattle.pm_cargo_packages.specs.declared.target.TargetTag.{TargetTag}
 use Rattle.pm_cargo.specs.Workspace.{Workspace}
+use Rattle.pm_cargo.specs.declared.output.BuildScriptOutput.{BuildScriptOutput}
 use Rattle.pm_lower_load.specs.declared.package_root.PackageRoot.{PackageRoot}
 
 -- ---- directories
+
+-- the directory that the build of the package with a number wrote into, if it did
+abbrev pub out_dir_in : (ℕ → Option BuildScriptOutput) → ℕ → Option (List ℕ)
+out_dir_in outputs number = option_and_then (λ output. output.out_dir) (outputs number)
 
 -- the directory of a name below a directory
 abbrev pub directory_below : List ℕ → List ℕ → List ℕ

@@ -1,8 +1,6 @@
 -- What the tools of a toolchain say of a project before its metadata is fetched. Each answer is the
 -- definition of its own call in a lower crate. The order is that of rust-analyzer's `ProjectWorkspace::load`.
 use Rattle.std.specs.Prelude.{ℕ, List, [], ◌++◌, codes, slice_get, Option, None, Result, Ok, Err}
-use Rattle.std.specs.Borrow.{Bor}
-use Rattle.std.specs.Option.{option_map}
 use Rattle.base_values.specs.Version.{Parts}
 use Rattle.crate_graph_values.specs.declared.target.TargetData.{TargetData}
 use Rattle.crate_graph_values.specs.declared.target.TargetLoadError.{TargetLoadError}
@@ -13,19 +11,10 @@ use Rattle.pm_lower_load.specs.declared.tool_answers.ToolAnswers.{ToolAnswers}
 use Rattle.pm_tools_ask.specs.Ask.{Means}
 use Rattle.pm_tools_ask.specs.Toolchain.{Toolchain}
 use Rattle.pm_tools_ask.specs.ConfigQuestion.{printed_config}
+use Rattle.pm_tools_info.specs.Config.{Query, compiler_query, manifest_query}
 use Rattle.pm_tools_info.specs.Queries.{cfg_answer, data_answer, target_answer, version_answer}
-use Rattle.pm_tools_info.specs.declared.query_config.QueryConfig.{QueryConfig}
-use Rattle.pm_tools_info.specs.declared.query_config.QueryConfig.TheVariants.{Cargo}
 use Rattle.pm_tools_info.specs.declared.query_error.QueryError.{QueryError}
 use Rattle.pm_tools_info.specs.declared.query_error.QueryError.TheVariants.{Failed}
-
--- a reference to a value; where the value stands has no effect
-abbrev pub reference : {T : Type 0} → T → Bor T
-reference x = record { ref_ptr = (0, 0); now = x }
-
--- the tools are asked by the manifest of the project
-abbrev pub query_of : Toolchain → List ℕ → Option (List ℕ) → QueryConfig
-query_of sysroot manifest file = Cargo (reference sysroot) (reference manifest) (option_map reference file)
 
 -- the platforms that are built for: none where nothing says which
 abbrev pub targets_or_none : Result (List (List ℕ)) QueryError → List (List ℕ)
@@ -53,10 +42,9 @@ platform_asked FirstTarget targets = slice_get targets 0
 platform_asked NoTarget targets = None
 
 -- what the tools say of a platform, with the other answers so far
-abbrev pub with_platform : QueryConfig → Option (List ℕ) → List (List ℕ) → Option Parts → Option (List ℕ)
-    → Means → ToolAnswers
-with_platform query file targets version platform means = record {
-  config_file = file;
+abbrev pub with_platform : Query → List (List ℕ) → Option Parts → Option (List ℕ) → Means → ToolAnswers
+with_platform query targets version platform means = record {
+  config_file = query.printed;
   targets = targets;
   toolchain = version;
   rustc_cfg = cfg_answer query platform means;
@@ -64,21 +52,23 @@ with_platform query file targets version platform means = record {
 }
 
 -- the same, where the platform is one of those that are built for, or none is named
-abbrev pub with_targets : PlatformAsked → QueryConfig → Option (List ℕ) → List (List ℕ) → Option Parts → Means
-    → ToolAnswers
-with_targets platform query file targets version means =
-    with_platform query file targets version (platform_asked platform targets) means
+abbrev pub with_targets : PlatformAsked → Query → List (List ℕ) → Option Parts → Means → ToolAnswers
+with_targets platform query targets version means =
+    with_platform query targets version (platform_asked platform targets) means
 
--- what the tools say of the project of a manifest, with this printed configuration
-abbrev pub answers_with : Toolchain → List ℕ → PlatformAsked → CargoConfig → Means → Option (List ℕ)
-    → ToolAnswers
-answers_with sysroot manifest platform config means file =
-    let query = query_of sysroot manifest file in
-    with_targets platform query file (targets_or_none (target_answer query config.target means))
+-- all that is asked of the tools, with the platform that is configured, if one is
+abbrev pub answers_to : PlatformAsked → Query → Option (List ℕ) → Means → ToolAnswers
+answers_to platform query target means =
+    with_targets platform query (targets_or_none (target_answer query target means))
     (version_or_none (version_answer query means)) means
 
 -- what the tools say of the project of a manifest
 unfoldable pub tool_answers : Toolchain → List ℕ → PlatformAsked → CargoConfig → Means → ToolAnswers
 tool_answers sysroot manifest platform config means =
-    answers_with sysroot manifest platform config means
-    (printed_config manifest sysroot config.config_path means)
+    let printed = printed_config manifest sysroot config.config_path means in
+    answers_to platform (manifest_query sysroot manifest printed) config.target means
+
+-- what the compiler of a toolchain says in a directory, where no manifest of cargo is asked for: of the given
+-- platform or of its own
+unfoldable pub compiler_answers : Toolchain → List ℕ → Option (List ℕ) → Means → ToolAnswers
+compiler_answers sysroot dir target means = answers_to FirstTarget (compiler_query sysroot dir) target means

@@ -3,15 +3,14 @@
 ghost use Rattle.std.specs.Prelude.{◌≡◌, IfOk, IsErrOf, codes, option_copied};
 ghost use Rattle.std.specs.Option.{option_map};
 ghost use Rattle.cargo_meta_values.specs.Errors.{metadata_error_text};
+ghost use Rattle.pm_cargo_fetch.specs.Fetch.{AnswersFetch};
 ghost use Rattle.pm_cargo_fetch.specs.Lines.{TakesLines};
-ghost use Rattle.pm_lower_load.specs.Loading.{Gives, of_fetch};
 ghost use Rattle.pm_lower_load.specs.Metadata as spec;
 ghost use Rattle.pm_lower_load.specs.Metadata.{fetched_as, fetched_lines, metadata_answer, metadata_lines};
 ghost use Rattle.pm_tools_ask.specs.Ask.{means_of};
 
-use crate::load_error::LoadError;
 use crate::tool_answers::ToolAnswers;
-use base_text::{ManifestPath, Progress, Runner, Text, ToolRoot, Tree, TryClone};
+use base_text::{AbsPath, ManifestPath, Progress, Runner, Text, ToolRoot, Tree, TryClone};
 use cargo_meta::Metadata;
 use cargo_meta_values::Error as MetadataError;
 use crate_graph_values::Env;
@@ -42,29 +41,48 @@ fn metadata_config(
     })
 }
 
-// The metadata of the workspace of a manifest, asked for in its directory.
-fn fetch_as<R: Runner, P: Progress>(
-    alloc: Global,
-    manifest: &ManifestPath,
-    asked: &CargoMetadataConfig,
-    root: &ToolRoot,
-    no_deps: bool,
-    runner: &R,
-    progress: &mut P,
-) -> Result<(Metadata, Option<MetadataError>), LoadError>
-    ensures answer { Gives result (of_fetch (fetched_as manifest.now asked.now root.now no_deps
-        (R.answers runner.now))) }
-    ensures lines { TakesLines (IsErrOf result LoadError.OutOfMemory)
-        (P.lines progress.old) (P.lines progress.new)
-        (fetched_lines manifest.now asked.now root.now no_deps (R.answers runner.now)) }
-{
-    let dir = manifest.parent();
-    let fetch = FetchMetadata::new(alloc, manifest, dir, asked, root, no_deps, runner)?;
-    Ok(fetch.exec(alloc, false, runner, progress)?)
+/// What metadata is fetched of, and how.
+#[derive_where(Clone, Copy)]
+pub struct Fetching<'a> {
+    pub manifest: &'a ManifestPath,
+    /// Where it is asked for.
+    pub dir: AbsPath<'a>,
+    /// With which features, platforms, words and variables.
+    pub asked: &'a CargoMetadataConfig,
+    /// Whether it is that of the members alone.
+    pub no_deps: bool,
+    /// Whether the lockfile stays as it is.
+    pub locked: bool,
 }
 
-/// The metadata of the workspace of a manifest, and beside it the error of the full question where the
-/// light answer stands in for it. `progress` takes the lines of [`exec`](FetchMetadata::exec).
+/// The metadata of a manifest's workspace by the tools of a toolchain, and beside it the error of the full
+/// question where the light answer stands in for it.
+pub fn fetch_as<R: Runner, P: Progress>(
+    alloc: Global,
+    fetching: Fetching<'_>,
+    root: &ToolRoot,
+    runner: &R,
+    progress: &mut P,
+) -> Result<(Metadata, Option<MetadataError>), MetadataError>
+    ensures answer { AnswersFetch result (fetched_as fetching.entry root.now (R.answers runner.now)) }
+    ensures lines { TakesLines (IsErrOf result MetadataError.OutOfMemory)
+        (P.lines progress.old) (P.lines progress.new)
+        (fetched_lines fetching.entry root.now (R.answers runner.now)) }
+{
+    let Fetching {
+        manifest,
+        dir,
+        asked,
+        no_deps,
+        locked,
+    } = fetching;
+    let fetch = FetchMetadata::new(alloc, manifest, dir, asked, root, no_deps, runner)?;
+    fetch.exec(alloc, locked, runner, progress)
+}
+
+/// The metadata of a project's workspace, asked for in the directory of its manifest, and beside it the error of
+/// the full question where the light answer stands in for it. The lockfile may change. `progress` takes the
+/// lines of [`exec`](FetchMetadata::exec).
 #[tactic(auto, unfolding(crate::specs::Metadata::metadata_answer))]
 pub fn fetch<R: Runner, T: Tree, P: Progress>(
     alloc: Global,
@@ -74,20 +92,24 @@ pub fn fetch<R: Runner, T: Tree, P: Progress>(
     answers: &ToolAnswers,
     ask: &Ask<'_, R, T>,
     progress: &mut P,
-) -> Result<(Metadata, Option<MetadataError>), LoadError>
-    ensures answer { Gives result (of_fetch (metadata_answer sysroot.now manifest.now config.now
-        answers.now (means_of R.answers T.files ask.now))) }
-    ensures lines { TakesLines (IsErrOf result LoadError.OutOfMemory)
+) -> Result<(Metadata, Option<MetadataError>), MetadataError>
+    ensures answer { AnswersFetch result (metadata_answer sysroot.now manifest.now config.now answers.now
+        (means_of R.answers T.files ask.now)) }
+    ensures lines { TakesLines (IsErrOf result MetadataError.OutOfMemory)
         (P.lines progress.old) (P.lines progress.new)
         (metadata_lines sysroot.now manifest.now config.now answers.now
         (means_of R.answers T.files ask.now)) }
 {
     let asked = metadata_config(alloc, config, answers)?;
     let root = sysroot.tool_root(alloc, ask)?;
-    let no_deps = config.no_deps;
-    fetch_as(
-        alloc, manifest, &asked, &root, no_deps, ask.runner, progress,
-    )
+    let fetching = Fetching {
+        manifest,
+        dir: manifest.parent(),
+        asked: &asked,
+        no_deps: config.no_deps,
+        locked: false,
+    };
+    fetch_as(alloc, fetching, &root, ask.runner, progress)
 }
 
 // The environment of the workspace: that of the printed configuration, and then what is configured.

@@ -3,10 +3,10 @@
 ghost use Rattle.std.specs.Prelude.{◌≡◌, IfOk, option_copied, slice_get};
 ghost use Rattle.std.specs.Option.{option_map};
 ghost use Rattle.base_text_paths.specs.AbsPath.{abs_text};
-ghost use Rattle.pm_lower_load.specs.Compiler.{compiler_answers};
 ghost use Rattle.pm_lower_load.specs.ToolAnswers as spec;
-ghost use Rattle.pm_lower_load.specs.ToolAnswers.{platform_asked, target_result, targets_or_none, version_or_none};
+ghost use Rattle.pm_lower_load.specs.ToolAnswers.{compiler_answers, platform_asked, target_result, targets_or_none, version_or_none};
 ghost use Rattle.pm_tools_ask.specs.Ask.{means_of};
+ghost use Rattle.pm_tools_info.specs.Config.{query_of};
 ghost use Rattle.pm_tools_info.specs.Queries.{data_answer, target_answer, version_answer};
 
 use base_text::{AbsPath, CfgAtom, Items, ManifestPath, Runner, Text, Tree, TryClone, Version};
@@ -65,8 +65,8 @@ fn ask_targets<R: Runner, T: Tree>(
     config: &CargoConfig,
     ask: &Ask<'_, R, T>,
 ) -> Result<Items<Text>, AllocError>
-    ensures { IfOk result (λ targets. targets ≡ targets_or_none (target_answer query.entry
-        config.now.target (means_of R.answers T.files ask.now))) }
+    ensures { IfOk result (λ targets. targets ≡ targets_or_none (target_answer
+        (query_of query.entry) config.now.target (means_of R.answers T.files ask.now))) }
 {
     let given = match &config.target {
         Some(target) => Some(target.as_str()),
@@ -86,7 +86,7 @@ fn ask_version<R: Runner, T: Tree>(
     ask: &Ask<'_, R, T>,
 ) -> Result<Option<Version>, AllocError>
     ensures { IfOk result (λ found. found ≡ version_or_none
-        (version_answer query.entry (means_of R.answers T.files ask.now))) }
+        (version_answer (query_of query.entry) (means_of R.answers T.files ask.now))) }
 {
     match version::get(alloc, query, ask) {
         Ok(found) => Ok(found),
@@ -103,8 +103,8 @@ fn ask_machine<R: Runner, T: Tree>(
     toolchain: Option<&Version>,
     ask: &Ask<'_, R, T>,
 ) -> Result<TargetLoadResult, AllocError>
-    ensures { IfOk result (λ machine. machine ≡ target_result (data_answer query.entry
-        (option_copied target.entry) (option_copied toolchain.entry)
+    ensures { IfOk result (λ machine. machine ≡ target_result (data_answer
+        (query_of query.entry) (option_copied target.entry) (option_copied toolchain.entry)
         (means_of R.answers T.files ask.now))) }
 {
     match target_data::get(alloc, query, target, toolchain, ask) {

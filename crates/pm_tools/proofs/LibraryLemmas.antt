@@ -1,7 +1,7 @@
 -- The last component of a text, its extension, and paths that must be absolute.
 use Rattle.std.proofs.Common.{◌≡◌, ℕ, ◌+◌, ◌-◌, List, [], ◌∷◌, ◌++◌, length, true, false, cond, Some, None, Ok, Err, ap, arith, get_or, length-append, sym, ◌∙◌}
 use Rattle.std.proofs.Math.Seq.{get_or-append_seam}
-use Rattle.std.proofs.lemmas.Bool.{cond-false, cond-true}
+use Rattle.std.proofs.lemmas.Bool.{cond-true}
 use Rattle.std.proofs.lemmas.List.Elements.{filter-append}
 use Rattle.std.proofs.lemmas.Option.{slice_get-get_or}
 use Rattle.std.specs.List.{filter}
@@ -13,6 +13,7 @@ use Rattle.base_text_paths.proofs.Parents.{file_name-last, file_name-up}
 use Rattle.pm_tools.specs.Artifact.{absolute_output_path}
 use Rattle.pm_tools.specs.Library.{extension_in}
 use Rattle.pm_tools.specs.declared.build_error.BuildError.TheVariants.{NotAbsolute}
+use Rattle.base_text_paths.proofs.Absolute.{if_absolute-is, if_absolute-other}
 
 -- ---- the last component
 
@@ -50,9 +51,9 @@ extension-last text name is other = ap (option_and_then extension_of) (file_name
 -- an absolute text gives its clean path
 pub absolute_is : (text path : List ℕ) → is_absolute text ≡ true → path ≡ path_text (components text) → absolute_output_path text ≡ Ok path
 unfolding absolute_output_path
-absolute_is text path absolute is = cond-true _ _ _ absolute ∙ ap Ok (sym is)
+absolute_is text path absolute is = if_absolute-is text path (λ p. Ok p) (Err (NotAbsolute text)) absolute is
 
 -- any other is refused with the text
 pub relative_is : (text copy : List ℕ) → is_absolute text ≡ false → copy ≡ text → absolute_output_path text ≡ Err (NotAbsolute copy)
 unfolding absolute_output_path
-relative_is text copy relative is = cond-false _ _ _ relative ∙ ap (λ t. Err (NotAbsolute t)) (sym is)
+relative_is text copy relative is = if_absolute-other text (λ p. Ok p) (Err (NotAbsolute text)) relative ∙ ap (λ t. Err (NotAbsolute t)) (sym is)

@@ -12,7 +12,8 @@ use Rattle.pm_cargo_packages.specs.declared.package.PackageData.{PackageData}
 use Rattle.std.specs.Str.Lines.{lines}
 use Rattle.pm_tools.specs.Lines.{artifact_lines, gains_library, library_line, lines_among, lines_from, message_lines, name_at}
 use Rattle.pm_tools.specs.Outputs.{BuildState, Outputs, start_state, take_output_line}
-use Rattle.pm_tools.specs.Reading.{Reading, Refuses, ◌>>=◌, take_each}
+use Rattle.base_values.specs.Outcome.{◌>>=◌, take_each}
+use Rattle.pm_tools.specs.Reading.{Reading, Refuses}
 use Rattle.pm_tools.specs.declared.build_error.BuildError.{BuildError}
 use Rattle.pm_tools.specs.declared.build_error.BuildError.TheVariants.{Io, NotAbsolute, OutOfMemory}
 

@@ -5,9 +5,10 @@ use Rattle.std.specs.Str.Lines.{lines}
 use Rattle.base_text_outside.specs.declared.command.Output.{Output}
 use Rattle.pm_cargo_packages.specs.declared.package.PackageData.{PackageData}
 use Rattle.pm_tools.specs.Outputs.{BuildScripts, BuildState, Outputs, change_output, changed_at, error_of, outputs_after, outputs_among, scripts_of, start_state, take_output_line, with_line}
-use Rattle.pm_tools.specs.Reading.{Leaves, Reading, Refuses, ◌>>=◌, take_each}
+use Rattle.base_values.specs.Outcome.{◌>>=◌, take_each}
+use Rattle.pm_tools.specs.Reading.{Leaves, Reading, Refuses}
 use Rattle.pm_tools.specs.declared.build_error.BuildError.{BuildError}
-use Rattle.pm_tools.specs.declared.output.BuildScriptOutput.{BuildScriptOutput}
+use Rattle.pm_cargo.specs.declared.output.BuildScriptOutput.{BuildScriptOutput}
 use Rattle.pm_tools.proofs.ReadingLemmas.{refuses_bind, refuses_same}
 
 -- the two parts of what a build gives
@@ -23,7 +24,7 @@ on_some None x P is h = cc
 pub leaves_at : (r : Result (Unit {0}) BuildError) (change : BuildScriptOutput → Reading BuildScriptOutput) (outputs new : Outputs) (place : ℕ) (output changed : BuildScriptOutput)
     → get outputs place ≡ Some output → new ≡ insert outputs place changed → Leaves r changed (change output) → Leaves r new (outputs_after change outputs place)
 leaves_at (Ok u) change outputs new place output changed there put h =
-    ap (changed_at change outputs place) there ∙ ap (λ q. q >>= λ x. Ok (insert outputs place x)) h ∙ ap Ok (sym put)
+    ap (changed_at change outputs place) there ∙ ap (λ (q : Reading BuildScriptOutput). q >>= λ x. Ok (insert outputs place x)) h ∙ ap Ok (sym put)
 leaves_at (Err e) change outputs new place output changed there put h =
     refuses_same e (change output >>= λ x. Ok (insert outputs place x)) (outputs_after change outputs place) (sym (ap (changed_at change outputs place) there))
     (refuses_bind e (change output) (λ x. Ok (insert outputs place x)) h)
@@ -31,7 +32,7 @@ leaves_at (Err e) change outputs new place output changed there put h =
 -- what a call leaves of the outputs, it leaves of the state
 pub leaves_outputs : (r : Result (Unit {0}) BuildError) (change : BuildScriptOutput → Reading BuildScriptOutput) (s : BuildState) (new : Outputs) (place : ℕ)
     → Leaves r new (outputs_after change s.outputs place) → Leaves r (record s { outputs = new }) (change_output s change place)
-leaves_outputs (Ok u) change s new place h = ap (λ q. q >>= λ outputs. Ok (record s { outputs = outputs })) h
+leaves_outputs (Ok u) change s new place h = ap (λ (q : Reading Outputs). q >>= λ outputs. Ok (record s { outputs = outputs })) h
 leaves_outputs (Err e) change s new place h = refuses_bind e (outputs_after change s.outputs place) (λ outputs. Ok (record s { outputs = outputs })) h
 
 -- what is left is left of what is the same
@@ -59,6 +60,6 @@ pub output_is : (packages : List PackageData) (s t p : BuildState) (output : Out
     → ◌≡◌ {A = Outputs × Option (List ℕ)} (outputs, error) (p.outputs, error_of output.ok p.errors) → outputs_among packages output ≡ Ok (the_scripts outputs error)
 unfolding outputs_among
 output_is packages s t p output text err outputs error start is read pushed err_is given =
-    ap (λ r. r >>= λ x. Ok (scripts_of output x)) (sym (same_lines packages s output.out text start is) ∙ read)
+    ap (λ (r : Reading BuildState). r >>= λ x. Ok (scripts_of output x)) (sym (same_lines packages s output.out text start is) ∙ read)
     ∙ ap (λ (q : BuildState). Ok (the_scripts q.outputs (error_of output.ok q.errors))) (sym (pushed ∙ ap (λ e. record t { errors = fold with_line t.errors (lines e) }) err_is))
     ∙ ap (λ (x : Outputs × Option (List ℕ)). Ok (the_scripts x.0 x.1)) (sym given)

@@ -2,7 +2,8 @@
 use Rattle.std.proofs.Common.{◌≡◌, ℕ, suc, ◌+◌, ◌<◌, List, [], ◌∷◌, ◌++◌, length, take, drop, get_or, Ok, Err, ap, refl, subst, sym, ◌∙◌}
 use Rattle.std.proofs.Math.Seq.{drop-cons}
 use Rattle.std.proofs.lemmas.List.{take-append-drop}
-use Rattle.pm_tools.specs.Reading.{Reading, Refuses, ◌>>=◌, take_each}
+use Rattle.base_values.specs.Outcome.{◌>>=◌, take_each}
+use Rattle.pm_tools.specs.Reading.{Reading, Refuses}
 use Rattle.pm_tools.specs.declared.build_error.BuildError.{BuildError}
 use Rattle.pm_tools.specs.declared.build_error.BuildError.TheVariants.{Io, NotAbsolute, OutOfMemory}
 
@@ -19,9 +20,6 @@ refuses_same e part whole same h = subst (Refuses e) same h
 -- a refused part ends the reading
 pub refuses_bind : {A B : Type 0} (e : BuildError) (part : Reading A) (rest : A → Reading B) → Refuses e part → Refuses e (part >>= rest)
 refuses_bind e part rest h = refuses_on e part (part >>= rest) (λ x is. ap (λ r. r >>= rest) is) h
-
-pub ok_bind : {A B : Type 0} (part : Reading A) (rest : A → Reading B) (x : A) → part ≡ Ok x → (part >>= rest) ≡ rest x
-ok_bind part rest x is = ap (λ r. r >>= rest) is
 
 -- the items before a place, the one at it, and those behind it
 pub split_at : {X : Type 0} (all xs : List X) (x : X) (n : ℕ) → xs ≡ take n all → n < length all → x ≡ get_or all n x → xs ++ x ∷ drop (suc n) all ≡ all

@@ -13,9 +13,10 @@ use Rattle.pm_cargo_packages.specs.declared.package.PackageData.{PackageData}
 use Rattle.pm_tools.specs.SharedBuild.{SharedBuild, output_of_id, outputs_by_id, shared_outputs, with_output}
 use Rattle.pm_tools.specs.Outputs.{BuildScripts, Outputs, outputs_among}
 use Rattle.pm_tools.specs.Packages.{lent_packages, packages_of_all}
-use Rattle.pm_tools.specs.Reading.{Reading, Refuses, ◌>>=◌}
+use Rattle.base_values.specs.Outcome.{◌>>=◌}
+use Rattle.pm_tools.specs.Reading.{Reading, Refuses}
 use Rattle.pm_tools.specs.declared.build_error.BuildError.{BuildError}
-use Rattle.pm_tools.specs.declared.output.BuildScriptOutput.{BuildScriptOutput}
+use Rattle.pm_cargo.specs.declared.output.BuildScriptOutput.{BuildScriptOutput}
 use Rattle.pm_tools.proofs.ReadingLemmas.{refuses_bind}
 
 -- the numbers of numbered items

@@ -1,21 +1,21 @@
 -- What an artifact says of the library that a procedural macro is loaded from.
 use Rattle.std.specs.Prelude.{ℕ, Bool, ◌&&◌, not, true, false, if◌then◌else◌, List, find, Option, Some, None, Ok, Err}
 use Rattle.std.specs.List.{list_any}
-use Rattle.base_text_paths.specs.Paths.{components, is_absolute, path_text}
+use Rattle.base_text_paths.specs.Paths.{if_absolute}
 use Rattle.cargo_meta_values.specs.declared.kinds.TargetKind.{TargetKind}
 use Rattle.cargo_meta_values.specs.declared.kinds.TargetKind.TheVariants as kind
 use Rattle.cargo_msgs.specs.declared.artifact.Artifact.{Artifact}
 use Rattle.pm_tools.specs.Library.{is_library}
-use Rattle.pm_tools.specs.Reading.{Reading, ◌>>=◌}
+use Rattle.base_values.specs.Outcome.{◌>>=◌}
+use Rattle.pm_tools.specs.Reading.{Reading}
 use Rattle.pm_tools.specs.declared.build_error.BuildError.TheVariants.{NotAbsolute}
-use Rattle.pm_tools.specs.declared.output.BuildScriptOutput.{BuildScriptOutput}
-use Rattle.pm_tools.specs.declared.output.ProcMacroDylibPath.{ProcMacroDylibPath}
-use Rattle.pm_tools.specs.declared.output.ProcMacroDylibPath.TheVariants.{Path, DylibNotFound, NotProcMacro, NotBuilt}
+use Rattle.pm_cargo.specs.declared.output.BuildScriptOutput.{BuildScriptOutput}
+use Rattle.pm_cargo.specs.declared.output.ProcMacroDylibPath.{ProcMacroDylibPath}
+use Rattle.pm_cargo.specs.declared.output.ProcMacroDylibPath.TheVariants.{Path, DylibNotFound, NotProcMacro, NotBuilt}
 
 -- the path of a text, which must be absolute; it is kept clean
 unfoldable pub absolute_output_path : List ℕ → Reading (List ℕ)
-absolute_output_path text =
-    if is_absolute text then Ok (path_text (components text)) else Err (NotAbsolute text)
+absolute_output_path text = if_absolute text (λ path. Ok path) (Err (NotAbsolute text))
 
 -- whether a kind is that of a procedural macro
 abbrev pub is_macro_kind : TargetKind → Bool

@@ -4,7 +4,6 @@ pub mod Errors
 pub mod Laws
 pub mod Library
 pub mod Lines
-pub mod Output
 pub mod Outputs
 pub mod Packages
 pub mod Question

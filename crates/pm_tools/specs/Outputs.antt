@@ -18,11 +18,12 @@ use Rattle.pm_cargo.specs.Workspace.{Workspace}
 use Rattle.pm_cargo_packages.specs.declared.package.PackageData.{PackageData}
 use Rattle.pm_cargo_reading.specs.Nodes.{place_of_package}
 use Rattle.pm_tools.specs.Artifact.{output_after_artifact}
-use Rattle.pm_tools.specs.Output.{default_output}
-use Rattle.pm_tools.specs.Reading.{Reading, ◌>>=◌, take_each}
+use Rattle.pm_cargo.specs.Output.{default_output}
+use Rattle.base_values.specs.Outcome.{◌>>=◌, take_each}
+use Rattle.pm_tools.specs.Reading.{Reading}
 use Rattle.pm_tools.specs.Script.{named_atoms, invalid_cfg_line, output_after_script}
-use Rattle.pm_tools.specs.contracts.output.BuildScriptOutput as stored
-use Rattle.pm_tools.specs.declared.output.BuildScriptOutput.{BuildScriptOutput}
+use Rattle.pm_cargo.specs.contracts.output.BuildScriptOutput as stored
+use Rattle.pm_cargo.specs.declared.output.BuildScriptOutput.{BuildScriptOutput}
 
 -- the outputs of packages, each under the number of its package
 abbrev pub Outputs : Type 0

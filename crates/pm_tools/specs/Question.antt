@@ -28,7 +28,7 @@ abbrev pub cargo_question : CargoConfig → Workspace → Toolchain → Option P
 cargo_question config w sysroot version means =
     with_channel (is_unstable w.manifest_path version)
     (with_wrapper (wraps_compiler config version) means.tools.myself
-    (question sysroot Cargo w.workspace_root (build_words config w version) means))
+    (question sysroot.root Cargo w.workspace_root (build_words config w version) means))
 
 -- the configured command in a directory, where its words begin with a program
 abbrev pub configured_question : Option (List (List ℕ)) → List ℕ → Means → Option CommandLine

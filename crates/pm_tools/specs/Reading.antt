@@ -1,18 +1,11 @@
 -- What reading the output of a build gives: a value, or the first refusal in the order of the output.
-use Rattle.std.specs.Prelude.{◌≡◌, List, [], ◌∷◌, Result, Ok, Err}
+use Rattle.std.specs.Prelude.{◌≡◌, Result, Ok, Err}
 use Rattle.pm_tools.specs.declared.build_error.BuildError.{BuildError}
 use Rattle.pm_tools.specs.declared.build_error.BuildError.TheVariants.{Io, NotAbsolute, OutOfMemory}
 
 -- a value, or a refusal
 abbrev pub Reading : Type 0 → Type 0
 Reading T = Result T BuildError
-
--- the next part is read where this one is not refused
-infixl 10 ◌>>=◌
--- a reading, and what is read with its value
-abbrev pub ◌>>=◌ : {A B : Type 0} → Reading A → (A → Reading B) → Reading B
-Ok x >>= f = f x
-Err e >>= f = Err e
 
 -- a reading is refused with this error; running out of memory says nothing of it
 abbrev pub Refuses : {T : Type 0} → BuildError → Reading T → Type 0
@@ -29,8 +22,3 @@ Gives (Err e) reading = Refuses e reading
 abbrev pub Leaves : {S : Type 0} → Result (Unit {0}) BuildError → S → Reading S → Type 0
 Leaves (Ok u) new reading = reading ≡ Ok new
 Leaves (Err e) new reading = Refuses e reading
-
--- each item is taken in turn, up to the first that is refused
-unfoldable pub take_each : {S X : Type 0} → (S → X → Reading S) → S → List X → Reading S
-take_each step s [] = Ok s
-take_each step s (x ∷ xs) = step s x >>= λ next. take_each step next xs

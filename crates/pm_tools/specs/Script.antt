@@ -7,8 +7,9 @@ use Rattle.base_values.specs.ByText.{with_value}
 use Rattle.crate_graph_values.specs.Env.{with_pairs}
 use Rattle.cargo_msgs.specs.declared.build.BuildScript.{BuildScript}
 use Rattle.pm_tools.specs.Artifact.{absolute_output_path}
-use Rattle.pm_tools.specs.Reading.{Reading, ◌>>=◌}
-use Rattle.pm_tools.specs.declared.output.BuildScriptOutput.{BuildScriptOutput}
+use Rattle.base_values.specs.Outcome.{◌>>=◌}
+use Rattle.pm_tools.specs.Reading.{Reading}
+use Rattle.pm_cargo.specs.declared.output.BuildScriptOutput.{BuildScriptOutput}
 use Rattle.pm_tools.specs.declared.script.AtomsError.{AtomsError}
 use Rattle.pm_tools.specs.declared.script.AtomsError.TheVariants.{Invalid, OutOfMemory}
 

@@ -17,9 +17,10 @@ use Rattle.pm_cargo_packages.specs.declared.package.PackageData.{PackageData}
 use Rattle.pm_cargo_reading.specs.Nodes.{place_of_package}
 use Rattle.pm_tools.specs.Outputs.{BuildScripts, Outputs, build_scripts_code, outputs_among}
 use Rattle.pm_tools.specs.Packages.{packages_of_all}
-use Rattle.pm_tools.specs.Reading.{Reading, ◌>>=◌}
+use Rattle.base_values.specs.Outcome.{◌>>=◌}
+use Rattle.pm_tools.specs.Reading.{Reading}
 use Rattle.pm_tools.specs.declared.build_error.BuildError.TheVariants.{Io}
-use Rattle.pm_tools.specs.declared.output.BuildScriptOutput.{BuildScriptOutput}
+use Rattle.pm_cargo.specs.declared.output.BuildScriptOutput.{BuildScriptOutput}
 
 -- the output of an id, among the outputs of some packages
 abbrev pub output_of_id : List PackageData → Outputs → List ℕ → Option BuildScriptOutput
@@ -64,6 +65,6 @@ abbrev pub shared_build_by : List Workspace → CommandLine → Option Output �
 shared_build_by workspaces line None = Err (Io (line_text line))
 shared_build_by workspaces line (Some output) = shared_outputs workspaces output
 
--- what one build gives the packages of some workspaces: this command is asked once for all of them
+-- what one build gives the packages of some workspaces: the answer to this command counts for all of them
 abbrev pub shared_build : CommandLine → List Workspace → List (Question × Output) → Reading SharedBuild
 shared_build line workspaces answers = shared_build_by workspaces line (answer_of answers line)

@@ -7,9 +7,9 @@ ghost use Rattle.pm_tools.specs.Reading.{Gives, Leaves};
 
 use crate::build_error::BuildError;
 use crate::library::{absolute_path, is_library};
-use crate::output::{BuildScriptOutput, ProcMacroDylibPath};
 use base_text::Text;
 use cargo_msgs::Artifact;
+use pm_cargo::{BuildScriptOutput, ProcMacroDylibPath};
 use std::alloc::Global;
 use std::mem;
 

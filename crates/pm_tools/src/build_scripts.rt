@@ -13,11 +13,10 @@ ghost use Rattle.pm_tools_ask.specs.Ask.{means_of};
 
 use crate::build_command::build_question;
 use crate::build_error::BuildError;
-use crate::output::BuildScriptOutput;
 use crate::outputs::OutputsBuilder;
 use crate::packages::KnownPackages;
 use base_text::{ArenaMap, Output, Progress, Runner, Text, Tree, TryClone, Version};
-use pm_cargo::CargoWorkspace;
+use pm_cargo::{BuildOutputs, BuildScriptOutput, CargoWorkspace};
 use pm_cargo_config::CargoConfig;
 use pm_cargo_fetch::line_text;
 use pm_cargo_packages::{Package, PackageTag};
@@ -152,6 +151,22 @@ impl WorkspaceBuildScripts {
         ensures { option_copied result ≡ get self.now.outputs (number_of idx) }
     {
         self.outputs.get(idx)
+    }
+}
+
+impl BuildOutputs for WorkspaceBuildScripts {
+    ghost use Rattle.std.specs.Prelude.{is_some};
+
+    ghost output_at = { λ scripts. get scripts.outputs };
+
+    ghost is_failed = { λ scripts. is_some scripts.error };
+
+    fn output(&self, package: Package) -> Option<&BuildScriptOutput> {
+        self.outputs.get(package)
+    }
+
+    fn has_failed(&self) -> bool {
+        self.error.is_some()
     }
 }
 

@@ -1,39 +1,14 @@
-//! Laws for callers' proofs. Each is a function that does nothing: its contract is the law.
+//! Laws for callers' proofs. Each is a function that changes nothing: its contract is the law.
 
-ghost use Rattle.std.specs.Prelude.{◌≡◌};
 ghost use Rattle.crate_graph_values.specs.Laws.{IsContentEqualityOn};
-ghost use Rattle.pm_tools.specs.Laws.{HasCleanLibrary, HasCleanOutput, HasCleanBuild};
-ghost use Rattle.pm_tools.specs.declared.output.ProcMacroDylibPath.{ProcMacroDylibPath};
-ghost use Rattle.pm_tools.specs.declared.output.ProcMacroDylibPath.TheVariants.{NotBuilt};
+ghost use Rattle.pm_tools.specs.Laws.{HasCleanBuild};
 
 use crate::build_scripts::WorkspaceBuildScripts;
-use crate::output::{BuildScriptOutput, ProcMacroDylibPath};
-
-/// Of a package of which nothing is said, nothing was built.
-pub fn default_library_is_not_built()
-    ensures { (path : ProcMacroDylibPath)
-        → ⟦<ProcMacroDylibPath as Default>⟧.is_default path → path ≡ NotBuilt }
-{}
-
-/// What is known of two libraries is equal exactly where it is the same, with the same path. Each path's text
-/// is clean.
-pub fn equality_of_libraries_is_content()
-    ensures { IsContentEqualityOn HasCleanLibrary ⟦<ProcMacroDylibPath as PartialEq>⟧.eq }
-{}
-
-/// Two outputs are equal exactly where all that they hold is. Each path's text is clean.
-pub fn equality_of_outputs_is_content()
-    ensures { IsContentEqualityOn HasCleanOutput ⟦<BuildScriptOutput as PartialEq>⟧.eq }
-{
-    equality_of_libraries_is_content();
-    base_text_paths::laws::equality_is_content();
-    crate_graph_values::laws::equality_of_environments_is_content();
-}
 
 /// What two builds give is equal exactly where the same packages have the same outputs, and the errors are the
 /// same. Each path's text is clean.
 pub fn equality_of_build_scripts_is_content()
     ensures { IsContentEqualityOn HasCleanBuild ⟦<WorkspaceBuildScripts as PartialEq>⟧.eq }
 {
-    equality_of_outputs_is_content();
+    pm_cargo::output_laws::equality_of_outputs_is_content();
 }

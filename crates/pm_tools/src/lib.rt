@@ -10,7 +10,6 @@ mod features;
 pub mod laws;
 mod library;
 mod lines;
-pub mod output;
 mod outputs;
 mod packages;
 pub mod project_json_from_command;
@@ -21,10 +20,10 @@ mod words_of_build;
 pub use build_command::{build_question, configured_question};
 pub use build_error::BuildError;
 pub use build_scripts::WorkspaceBuildScripts;
-pub use output::{BuildScriptOutput, ProcMacroDylibPath};
+pub use pm_cargo::{BuildOutputs, BuildScriptOutput, ProcMacroDylibPath};
 pub use pm_tools_ask::{
-    Ask, BadManifest, CargoConfigFile, ProjectManifest, RustLibSrcWorkspace, Sysroot,
-    cargo_config_env,
+    Ask, BadManifest, CargoConfigFile, DiscoverError, ProjectManifest, RustLibSrcWorkspace,
+    Sysroot, cargo_config_env,
 };
 pub use pm_tools_info::{QueryConfig, QueryError, rustc_cfg, target_data, target_tuple, version};
 pub use project_json_from_command::ProjectJsonFromCommand;

@@ -7,10 +7,10 @@ ghost use Rattle.pm_tools.specs.Script.{GivesAtom, GivesAtoms, named_atoms, outp
 
 use crate::build_error::BuildError;
 use crate::library::absolute_path;
-use crate::output::BuildScriptOutput;
 use base_text::{AbsPathBuf, CfgAtom, CfgError, Items, Text, TryClone, parse_cfg};
 use cargo_msgs::BuildScript;
 use crate_graph_values::Env;
+use pm_cargo::BuildScriptOutput;
 use std::alloc::{AllocError, AllocFailed, Global};
 use std::mem;
 

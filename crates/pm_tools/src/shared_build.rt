@@ -9,11 +9,10 @@ ghost use Rattle.pm_tools.specs.SharedBuild as spec;
 
 use crate::build_error::BuildError;
 use crate::build_scripts::WorkspaceBuildScripts;
-use crate::output::BuildScriptOutput;
 use crate::packages::KnownPackages;
 use base_text::{ArenaMap, CommandLine, Output, Progress, Runner, TryClone};
 use cargo_meta_values::PackageId;
-use pm_cargo::CargoWorkspace;
+use pm_cargo::{BuildScriptOutput, CargoWorkspace};
 use pm_cargo_fetch::line_text;
 use pm_cargo_packages::PackageTag;
 use std::alloc::{AllocError, Global};

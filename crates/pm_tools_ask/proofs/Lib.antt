@@ -2,6 +2,7 @@ pub mod ConfigEnv
 pub mod Equalities
 pub mod Lines
 pub mod ManifestEqualities
+pub mod ManifestSearch
 pub mod Names
 pub mod Orders
 pub mod RelativeRoots

@@ -9,25 +9,22 @@ use Rattle.pm_tools_ask.specs.Statements.{origin_root, root_at, statement_of, st
 use Rattle.pm_tools_ask.specs.declared.statement.Statement.{Statement}
 use Rattle.pm_tools_ask.specs.ConfigEnv.{relative_keys}
 use Rattle.pm_tools_ask.specs.RelativeRoots.{relative_root, relative_variable, root_for}
+use Rattle.std.proofs.Math.Bool.{and-false}
 
 and_true : (b : Bool) → (b && true) ≡ b
 and_true true = refl
 and_true false = refl
 
-and_false : (b : Bool) → (b && false) ≡ false
-and_false true = refl
-and_false false = refl
-
 -- the three tests on keys of three parts
 three_match : (a b c : Bool) (name : List ℕ) (variable : List ℕ) → bytes_eq variable name ≡ b
     → (a && (b && (c && true))) ≡ option_map_or (λ v. bytes_eq v name) (cond (a && c) (Some variable) None) false
 three_match true b true name variable is = and_true b ∙ sym is
-three_match true b false name variable is = and_false b
+three_match true b false name variable is = and-false b
 three_match false b c name variable is = refl
 
 -- and on more parts
 more_match : (a b c : Bool) → (a && (b && (c && false))) ≡ false
-more_match true true c = and_false c
+more_match true true c = and-false c
 more_match true false c = refl
 more_match false b c = refl
 
@@ -35,7 +32,7 @@ more_match false b c = refl
 pub keys_match : (keys : List (List ℕ)) (name : List ℕ)
     → pointwise (pointwise nat_eq) keys (relative_keys name) ≡ option_map_or (λ v. bytes_eq v name) (relative_variable keys) false
 keys_match [] name = refl
-keys_match (a ∷ []) name = and_false (bytes_eq a (codes "env"))
+keys_match (a ∷ []) name = and-false (bytes_eq a (codes "env"))
 keys_match (a ∷ b ∷ []) name = more_match (bytes_eq a (codes "env")) (bytes_eq b name) false
 keys_match (a ∷ b ∷ c ∷ []) name = three_match (bytes_eq a (codes "env")) (bytes_eq b name) (bytes_eq c (codes "relative")) name b refl
 keys_match (a ∷ b ∷ c ∷ d ∷ more) name = more_match (bytes_eq a (codes "env")) (bytes_eq b name) (bytes_eq c (codes "relative"))

@@ -22,7 +22,7 @@ config_words manifest config_path =
 abbrev pub config_question : List ℕ → Toolchain → Option (List ℕ) → Means → CommandLine
 config_question manifest sysroot config_path means =
     with_last_variable (codes "RUSTC_BOOTSTRAP") (codes "1")
-    (question sysroot Cargo (directory_of manifest) (config_words manifest config_path) means)
+    (question sysroot.root Cargo (directory_of manifest) (config_words manifest config_path) means)
 
 -- the configuration that is printed, where an answer serves
 abbrev pub printed_config : List ℕ → Toolchain → Option (List ℕ) → Means → Option (List ℕ)

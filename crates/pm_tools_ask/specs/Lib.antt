@@ -3,9 +3,11 @@ pub mod Ask
 pub mod Config
 pub mod ConfigEnv
 pub mod ConfigQuestion
+pub mod DiscoverErrors
 pub mod Laws
 pub mod Line
 pub mod Manifest
+pub mod ManifestDiscovery
 pub mod Questions
 pub mod Quotes
 pub mod Reader

@@ -29,16 +29,17 @@ abbrev pub rustc_below : TreeFiles → Option (List ℕ) → Option (List ℕ)
 rustc_below files None = None
 rustc_below files (Some root) = held_path files (path_text (components_with_tail root (codes "bin/rustc")))
 
--- the toolchain as commands are started by it
-abbrev pub tool_root : Toolchain → Means → ToolRoot
-tool_root sysroot means = record {
+-- the toolchain of a directory, if one is known, as commands are started by it: what was read of its sources
+-- plays no part
+abbrev pub tool_root : Option (List ℕ) → Means → ToolRoot
+tool_root root means = record {
   tools = means.tools;
-  root = sysroot.root;
-  rustc = rustc_below means.files sysroot.root;
+  root = root;
+  rustc = rustc_below means.files root;
   toolchain_set = is_some (value_at (codes "RUSTUP_TOOLCHAIN") means.process_env);
 }
 
 -- the command that starts a tool in a directory, with no words and the variables that are given beside those
 -- of the process
-abbrev pub start_command : Toolchain → Tool → List ℕ → Means → CommandLine
-start_command sysroot tool dir means = tool_command (tool_root sysroot means) tool dir means.extra_env
+abbrev pub start_command : Option (List ℕ) → Tool → List ℕ → Means → CommandLine
+start_command root tool dir means = tool_command (tool_root root means) tool dir means.extra_env

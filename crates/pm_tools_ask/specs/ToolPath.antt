@@ -10,7 +10,6 @@ use Rattle.base_text.specs.declared.tool.Tool.{Tool}
 use Rattle.base_text.specs.declared.tool.Tool.TheVariants.{Cargo, Rustc, Rustup}
 use Rattle.pm_tools_ask.specs.Ask.{Means}
 use Rattle.pm_tools_ask.specs.Sysroot.{tool_root}
-use Rattle.pm_tools_ask.specs.Toolchain.{Toolchain}
 
 -- the word by which `rustup` knows a tool
 abbrev pub tool_word : Tool → List ℕ
@@ -24,9 +23,9 @@ with_environment env variables =
     fold (λ set variable. with_value variable.0 (Some variable.1) set) variables env
 
 -- the question for the path of a tool
-abbrev pub path_question : Toolchain → Tool → List ℕ → List (List ℕ × List ℕ) → Means → CommandLine
-path_question sysroot tool dir env means =
-    record (tool_command (tool_root sysroot means) Rustup dir (with_environment env means.extra_env))
+abbrev pub path_question : Option (List ℕ) → Tool → List ℕ → List (List ℕ × List ℕ) → Means → CommandLine
+path_question root tool dir env means =
+    record (tool_command (tool_root root means) Rustup dir (with_environment env means.extra_env))
     { words = codes "which" ∷ tool_word tool ∷ [] }
 
 -- the path that an output says, or the name where there is no output
@@ -39,8 +38,8 @@ abbrev pub path_by_answer : Option (List ℕ) → List ℕ → Option Output →
 path_by_answer None name answer = name
 path_by_answer (Some root) name answer = answered_path name answer
 
--- the path of a tool
-abbrev pub tool_path : Toolchain → Tool → List ℕ → List (List ℕ × List ℕ) → Means → List ℕ
-tool_path sysroot tool dir env means =
-    path_by_answer sysroot.root (tool_name means.tools tool)
-    (answer_of means.answers (path_question sysroot tool dir env means))
+-- the path of a tool of a toolchain's directory, if one is known
+abbrev pub tool_path : Option (List ℕ) → Tool → List ℕ → List (List ℕ × List ℕ) → Means → List ℕ
+tool_path root tool dir env means =
+    path_by_answer root (tool_name means.tools tool)
+    (answer_of means.answers (path_question root tool dir env means))

@@ -23,9 +23,9 @@ pub struct BadManifest {
     pub path: AbsPathBuf,
 }
 
-// Whether the file name of a path is `name`.
+/// Whether the file name of a path is `name`.
 #[tactic(auto, unfolding(crate::specs::Manifest::has_name))]
-fn has_name(path: AbsPath<'_>, name: &str) -> bool
+pub(crate) fn has_name(path: AbsPath<'_>, name: &str) -> bool
     ensures { result ≡ has_name name.now (abs_text path.entry) }
 {
     match path.file_name() {

@@ -20,7 +20,7 @@ impl Sysroot {
         ask: &Ask<'_, R, T>,
     ) -> Result<CommandLine, AllocError>
         ensures { IfOk result (λ line. line
-            ≡ question self.now tool dir.now words.items (means_of R.answers T.files ask.now)) }
+            ≡ question self.now.root tool dir.now words.items (means_of R.answers T.files ask.now)) }
     {
         let command = self.tool(alloc, tool, dir, ask)?;
         Ok(CommandLine {

@@ -82,7 +82,7 @@ impl Sysroot {
         alloc: Global,
         ask: &Ask<'_, R, T>,
     ) -> Result<ToolRoot, AllocError>
-        ensures { IfOk result (λ root. root ≡ tool_root self.now (means_of R.answers T.files ask.now)) }
+        ensures { IfOk result (λ root. root ≡ tool_root self.now.root (means_of R.answers T.files ask.now)) }
     {
         Ok(ToolRoot {
             tools: ask.tools.try_clone(alloc)?,
@@ -117,7 +117,7 @@ impl Sysroot {
         ask: &Ask<'_, R, T>,
     ) -> Result<CommandLine, AllocError>
         ensures { IfOk result (λ line.
-            line ≡ start_command self.now tool dir.now (means_of R.answers T.files ask.now)) }
+            line ≡ start_command self.now.root tool dir.now (means_of R.answers T.files ask.now)) }
     {
         self.tool_root(alloc, ask)?
             .command(alloc, tool, dir, ask.extra_env)

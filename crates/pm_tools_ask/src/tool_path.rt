@@ -13,8 +13,8 @@ use std::alloc::{AllocError, Global};
 
 impl Sysroot {
     /// The path of a tool: what `rustup` writes when it is asked in a directory, whether or not it succeeds.
-    /// It is the tool's name where no answer is recorded, and where there is no toolchain, of which nothing
-    /// is asked. The command of the question has the variables of `envs` over those of `ask`.
+    /// It is the tool's name where no answer is recorded, and where there is no toolchain, whatever is
+    /// recorded. The command of the question has the variables of `envs` over those of `ask`.
     pub fn tool_path<R: Runner, T: Tree>(
         &self,
         alloc: Global,
@@ -24,7 +24,7 @@ impl Sysroot {
         ask: &Ask<'_, R, T>,
     ) -> Result<Text, AllocError>
         ensures { IfOk result (λ path. path
-            ≡ tool_path self.now tool dir.now envs.now (means_of R.answers T.files ask.now)) }
+            ≡ tool_path self.now.root tool dir.now envs.now (means_of R.answers T.files ask.now)) }
     {
         if self.root().is_none() {
             return Text::of_str(alloc, ask.tools.name(tool));
@@ -46,7 +46,7 @@ impl Sysroot {
         ask: &Ask<'_, R, T>,
     ) -> Result<CommandLine, AllocError>
         ensures { IfOk result (λ line. line
-            ≡ path_question self.now tool dir.now envs.now (means_of R.answers T.files ask.now)) }
+            ≡ path_question self.now.root tool dir.now envs.now (means_of R.answers T.files ask.now)) }
     {
         let variables = with_environment(alloc, ask.extra_env, envs)?;
         let command = self

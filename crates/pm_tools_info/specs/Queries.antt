@@ -11,23 +11,22 @@ use Rattle.pm_tools_info.specs.TargetSpec.{machine_of, spec_of}
 use Rattle.pm_tools_info.specs.Version.{version_behind}
 use Rattle.pm_tools_info.specs.Asked.{answer_to, reading_of_answer}
 use Rattle.pm_tools_info.specs.BuildTarget.{build_targets}
-use Rattle.pm_tools_info.specs.Config.{configuration_of, front_of}
+use Rattle.pm_tools_info.specs.Config.{Query, front_of}
 use Rattle.pm_tools_info.specs.Questions.{cfg_questions, host_questions, spec_questions, version_questions}
-use Rattle.pm_tools_info.specs.declared.query_config.QueryConfig.{QueryConfig}
 use Rattle.pm_tools_info.specs.declared.query_error.QueryError.{QueryError}
 use Rattle.pm_tools_info.specs.declared.query_error.QueryError.TheVariants.{BadSpec, NoHost}
 
 -- the version of the tool, where its answer has one
-abbrev pub version_answer : QueryConfig → Means → Result (Option Parts) QueryError
-version_answer config means =
-    reading_of_answer (λ text. Ok (version_behind (front_of config) text))
-    (answer_to means.answers (version_questions config means))
+abbrev pub version_answer : Query → Means → Result (Option Parts) QueryError
+version_answer query means =
+    reading_of_answer (λ text. Ok (version_behind (front_of query) text))
+    (answer_to means.answers (version_questions query means))
 
 -- the platform that the compiler runs on
-abbrev pub host_answer : QueryConfig → Means → Result (List ℕ) QueryError
-host_answer config means =
+abbrev pub host_answer : Query → Means → Result (List ℕ) QueryError
+host_answer query means =
     reading_of_answer (λ text. ok_or (host_of text) NoHost)
-    (answer_to means.answers (host_questions config means))
+    (answer_to means.answers (host_questions query means))
 
 -- one platform
 abbrev pub one_target : Result (List ℕ) QueryError → Result (List (List ℕ)) QueryError
@@ -48,16 +47,16 @@ unless_given (Some target) answer = Ok (target ∷ [])
 
 -- the platforms that are built for: the given one, or else those of the configuration, or else that of the
 -- compiler
-abbrev pub target_answer : QueryConfig → Option (List ℕ) → Means → Result (List (List ℕ)) QueryError
-target_answer config target means =
+abbrev pub target_answer : Query → Option (List ℕ) → Means → Result (List (List ℕ)) QueryError
+target_answer query target means =
     unless_given target
-    (unless_stated (option_and_then build_targets (configuration_of config)) (one_target (host_answer config means)))
+    (unless_stated (option_and_then build_targets query.printed) (one_target (host_answer query means)))
 
 -- the machine of a platform
-abbrev pub data_answer : QueryConfig → Option (List ℕ) → Option Parts → Means → Result TargetData QueryError
-data_answer config target version means =
+abbrev pub data_answer : Query → Option (List ℕ) → Option Parts → Means → Result TargetData QueryError
+data_answer query target version means =
     reading_of_answer (λ text. ok_or (option_map machine_of (spec_of text)) BadSpec)
-    (answer_to means.answers (spec_questions config target version means))
+    (answer_to means.answers (spec_questions query target version means))
 
 -- the atoms of an answer, which are none where there is no answer
 abbrev pub atoms_of_answer : Result (List ℕ) QueryError → List CfgAtom
@@ -65,5 +64,5 @@ atoms_of_answer (Ok text) = atoms_of text
 atoms_of_answer (Err error) = []
 
 -- the atoms that hold for a platform
-abbrev pub cfg_answer : QueryConfig → Option (List ℕ) → Means → List CfgAtom
-cfg_answer config target means = atoms_of_answer (answer_to means.answers (cfg_questions config target means))
+abbrev pub cfg_answer : Query → Option (List ℕ) → Means → List CfgAtom
+cfg_answer query target means = atoms_of_answer (answer_to means.answers (cfg_questions query target means))

@@ -5,7 +5,8 @@ use Rattle.std.specs.Result.{result_ok}
 use Rattle.serde_json.specs.Data.{Data}
 use Rattle.json_fields.specs.Document.{document}
 use Rattle.json_fields.specs.Fields.{members_at, required_member, text_at}
-use Rattle.json_fields.specs.Outcome.{Reading, ◌>>=◌}
+use Rattle.base_values.specs.Outcome.{◌>>=◌}
+use Rattle.json_fields.specs.Outcome.{Reading}
 use Rattle.crate_graph_values.specs.declared.target.Arch.{Arch}
 use Rattle.crate_graph_values.specs.declared.target.Arch.TheVariants.{Wasm32, Wasm64, Other}
 use Rattle.crate_graph_values.specs.declared.target.TargetData.{TargetData}

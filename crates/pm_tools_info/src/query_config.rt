@@ -1,7 +1,7 @@
 //! What is asked of: which toolchain, and where.
 
 ghost use Rattle.std.specs.Prelude.{◌≡◌};
-ghost use Rattle.pm_tools_info.specs.Config.{dir_of, front_of, toolchain_of, tool_of};
+ghost use Rattle.pm_tools_info.specs.Config.{front_of, query_of, tool_of};
 
 use base_text::{AbsPath, ManifestPath, Tool};
 use pm_tools_ask::{CargoConfigFile, Sysroot};
@@ -18,7 +18,7 @@ pub enum QueryConfig<'a> {
 
 impl<'a> QueryConfig<'a> {
     pub(crate) fn sysroot(self) -> &'a Sysroot
-        ensures { result.now ≡ toolchain_of self.entry }
+        ensures { result.now ≡ (query_of self.entry).sysroot }
     {
         match self {
             QueryConfig::Rustc(sysroot, _) | QueryConfig::Cargo(sysroot, _, _) => sysroot,
@@ -27,7 +27,7 @@ impl<'a> QueryConfig<'a> {
 
     /// The directory in which questions are asked.
     pub(crate) fn dir(self) -> &'a str
-        ensures { result.now ≡ dir_of self.entry }
+        ensures { result.now ≡ (query_of self.entry).dir }
     {
         match self {
             QueryConfig::Rustc(_, dir) => dir.as_str(),
@@ -37,7 +37,7 @@ impl<'a> QueryConfig<'a> {
 
     /// The tool that prints its own version.
     pub(crate) fn tool(self) -> Tool
-        ensures { result ≡ tool_of self.entry }
+        ensures { result ≡ tool_of (query_of self.entry) }
     {
         match self {
             QueryConfig::Rustc(..) => Tool::Rustc,
@@ -47,7 +47,7 @@ impl<'a> QueryConfig<'a> {
 
     /// What that tool prints before its version.
     pub(crate) fn front(self) -> &'static str
-        ensures { result.now ≡ front_of self.entry }
+        ensures { result.now ≡ front_of (query_of self.entry) }
     {
         match self {
             QueryConfig::Rustc(..) => "rustc ",

@@ -3,6 +3,7 @@
 ghost use Rattle.std.specs.Prelude.{◌≡◌, IfOk, option_copied};
 ghost use Rattle.pm_tools_ask.specs.Ask.{means_of};
 ghost use Rattle.pm_tools_ask.specs.Questions.{question};
+ghost use Rattle.pm_tools_info.specs.Config.{query_of};
 ghost use Rattle.pm_tools_info.specs.Questions as spec;
 
 use crate::query_config::QueryConfig;
@@ -37,7 +38,7 @@ pub(crate) fn host_questions<R: Runner, T: Tree>(
     ask: &Ask<'_, R, T>,
 ) -> Result<Questions, AllocError>
     ensures { IfOk result (λ questions. questions
-        ≡ spec.host_questions config.entry (means_of R.answers T.files ask.now)) }
+        ≡ spec.host_questions (query_of config.entry) (means_of R.answers T.files ask.now)) }
 {
     let words = words_of(alloc, &["-vV"])?;
     let line = config
@@ -54,7 +55,7 @@ pub(crate) fn version_questions<R: Runner, T: Tree>(
     ask: &Ask<'_, R, T>,
 ) -> Result<Questions, AllocError>
     ensures { IfOk result (λ questions. questions
-        ≡ spec.version_questions config.entry (means_of R.answers T.files ask.now)) }
+        ≡ spec.version_questions (query_of config.entry) (means_of R.answers T.files ask.now)) }
 {
     let words = words_of(alloc, &["--version"])?;
     let line = config
@@ -71,7 +72,7 @@ pub(crate) fn cfg_questions<R: Runner, T: Tree>(
     target: Option<&str>,
     ask: &Ask<'_, R, T>,
 ) -> Result<Questions, AllocError>
-    ensures { IfOk result (λ questions. questions ≡ spec.cfg_questions config.entry
+    ensures { IfOk result (λ questions. questions ≡ spec.cfg_questions (query_of config.entry)
         (option_copied target.entry) (means_of R.answers T.files ask.now)) }
 {
     let words = rustc_cfg_words(alloc, target)?;
@@ -90,15 +91,17 @@ fn cargo_cfg_question<R: Runner, T: Tree>(
     target: Option<&str>,
     ask: &Ask<'_, R, T>,
 ) -> Result<Option<CommandLine>, AllocError>
-    ensures { IfOk result (λ line. line ≡ (spec.cfg_questions config.entry
+    ensures { IfOk result (λ line. line ≡ (spec.cfg_questions (query_of config.entry)
         (option_copied target.entry) (means_of R.answers T.files ask.now)).first) }
 {
-    let QueryConfig::Cargo(sysroot, _, _) = config else {
-        return Ok(None);
-    };
-    let words = cargo_cfg_words(alloc, target)?;
-    let line = sysroot.question(alloc, Tool::Cargo, config.dir(), words, ask)?;
-    Ok(Some(allow_unstable(alloc, line, true)?))
+    match config {
+        QueryConfig::Rustc(..) => Ok(None),
+        QueryConfig::Cargo(sysroot, ..) => {
+            let words = cargo_cfg_words(alloc, target)?;
+            let line = sysroot.question(alloc, Tool::Cargo, config.dir(), words, ask)?;
+            Ok(Some(allow_unstable(alloc, line, true)?))
+        }
+    }
 }
 
 /// What the specification of a platform is.
@@ -110,7 +113,7 @@ pub(crate) fn spec_questions<R: Runner, T: Tree>(
     version: Option<&Version>,
     ask: &Ask<'_, R, T>,
 ) -> Result<Questions, AllocError>
-    ensures { IfOk result (λ questions. questions ≡ spec.spec_questions config.entry
+    ensures { IfOk result (λ questions. questions ≡ spec.spec_questions (query_of config.entry)
         (option_copied target.entry) (option_copied version.entry)
         (means_of R.answers T.files ask.now)) }
 {
@@ -132,14 +135,16 @@ fn cargo_spec_question<R: Runner, T: Tree>(
     version: Option<&Version>,
     ask: &Ask<'_, R, T>,
 ) -> Result<Option<CommandLine>, AllocError>
-    ensures { IfOk result (λ line. line ≡ (spec.spec_questions config.entry
+    ensures { IfOk result (λ line. line ≡ (spec.spec_questions (query_of config.entry)
         (option_copied target.entry) (option_copied version.entry)
         (means_of R.answers T.files ask.now)).first) }
 {
-    let QueryConfig::Cargo(sysroot, _, _) = config else {
-        return Ok(None);
-    };
-    let words = cargo_spec_words(alloc, target, version)?;
-    let line = sysroot.question(alloc, Tool::Cargo, config.dir(), words, ask)?;
-    Ok(Some(set_variable(alloc, line, "RUSTC_BOOTSTRAP", "1")?))
+    match config {
+        QueryConfig::Rustc(..) => Ok(None),
+        QueryConfig::Cargo(sysroot, ..) => {
+            let words = cargo_spec_words(alloc, target, version)?;
+            let line = sysroot.question(alloc, Tool::Cargo, config.dir(), words, ask)?;
+            Ok(Some(set_variable(alloc, line, "RUSTC_BOOTSTRAP", "1")?))
+        }
+    }
 }

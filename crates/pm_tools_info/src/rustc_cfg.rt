@@ -2,6 +2,7 @@
 
 ghost use Rattle.std.specs.Prelude.{◌≡◌, IfOk, option_copied};
 ghost use Rattle.pm_tools_ask.specs.Ask.{means_of};
+ghost use Rattle.pm_tools_info.specs.Config.{query_of};
 ghost use Rattle.pm_tools_info.specs.Queries.{cfg_answer};
 
 use crate::asking::answer_to;
@@ -22,8 +23,8 @@ pub fn get<R: Runner, T: Tree>(
     target: Option<&str>,
     ask: &Ask<'_, R, T>,
 ) -> Result<Items<CfgAtom>, AllocError>
-    ensures { IfOk result (λ atoms. atoms ≡ cfg_answer config.entry (option_copied target.entry)
-        (means_of R.answers T.files ask.now)) }
+    ensures { IfOk result (λ atoms. atoms ≡ cfg_answer (query_of config.entry)
+        (option_copied target.entry) (means_of R.answers T.files ask.now)) }
 {
     let answer = answer_to(
         alloc,

@@ -3,6 +3,7 @@
 ghost use Rattle.std.specs.Prelude.{option_copied};
 ghost use Rattle.pm_tools_ask.specs.Ask.{means_of};
 ghost use Rattle.pm_tools_info.specs.Asked.{AnswersQuery};
+ghost use Rattle.pm_tools_info.specs.Config.{query_of};
 ghost use Rattle.pm_tools_info.specs.Queries.{data_answer};
 
 use crate::asking::answer_to;
@@ -26,7 +27,7 @@ pub fn get<R: Runner, T: Tree>(
     version: Option<&Version>,
     ask: &Ask<'_, R, T>,
 ) -> Result<TargetData, QueryError>
-    ensures { AnswersQuery result (data_answer config.entry (option_copied target.entry)
+    ensures { AnswersQuery result (data_answer (query_of config.entry) (option_copied target.entry)
         (option_copied version.entry) (means_of R.answers T.files ask.now)) }
 {
     let answer = answer_to(

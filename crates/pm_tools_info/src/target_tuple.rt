@@ -5,7 +5,7 @@ ghost use Rattle.std.specs.Option.{option_and_then};
 ghost use Rattle.pm_tools_ask.specs.Ask.{means_of};
 ghost use Rattle.pm_tools_info.specs.Asked.{AnswersQuery};
 ghost use Rattle.pm_tools_info.specs.BuildTarget as stated;
-ghost use Rattle.pm_tools_info.specs.Config.{configuration_of};
+ghost use Rattle.pm_tools_info.specs.Config.{query_of};
 ghost use Rattle.pm_tools_info.specs.Queries.{host_answer, target_answer};
 
 use crate::asking::answer_to;
@@ -26,8 +26,8 @@ pub fn get<R: Runner, T: Tree>(
     target: Option<&str>,
     ask: &Ask<'_, R, T>,
 ) -> Result<Items<Text>, QueryError>
-    ensures { AnswersQuery result (target_answer config.entry (option_copied target.entry)
-        (means_of R.answers T.files ask.now)) }
+    ensures { AnswersQuery result (target_answer (query_of config.entry)
+        (option_copied target.entry) (means_of R.answers T.files ask.now)) }
 {
     if let Some(target) = target {
         return Ok(one_target(alloc, target)?);
@@ -50,7 +50,7 @@ fn one_target(alloc: Global, target: &str) -> Result<Items<Text>, AllocError>
 // The platforms that the configuration states.
 fn stated_targets(alloc: Global, config: QueryConfig<'_>) -> Result<Option<Items<Text>>, AllocError>
     ensures { IfOk result (λ targets. targets
-        ≡ option_and_then stated.build_targets (configuration_of config.entry)) }
+        ≡ option_and_then stated.build_targets (query_of config.entry).printed) }
 {
     match config {
         QueryConfig::Cargo(_, _, Some(config)) => build_targets(alloc, config),
@@ -64,7 +64,8 @@ fn host<R: Runner, T: Tree>(
     config: QueryConfig<'_>,
     ask: &Ask<'_, R, T>,
 ) -> Result<Text, QueryError>
-    ensures { AnswersQuery result (host_answer config.entry (means_of R.answers T.files ask.now)) }
+    ensures { AnswersQuery result
+        (host_answer (query_of config.entry) (means_of R.answers T.files ask.now)) }
 {
     let answer = answer_to(alloc, &host_questions(alloc, config, ask)?, ask.runner);
     let text = answer?;

@@ -2,6 +2,7 @@
 
 ghost use Rattle.pm_tools_ask.specs.Ask.{means_of};
 ghost use Rattle.pm_tools_info.specs.Asked.{AnswersQuery};
+ghost use Rattle.pm_tools_info.specs.Config.{query_of};
 ghost use Rattle.pm_tools_info.specs.Queries.{version_answer};
 
 use crate::asking::answer_to;
@@ -20,7 +21,8 @@ pub fn get<R: Runner, T: Tree>(
     config: QueryConfig<'_>,
     ask: &Ask<'_, R, T>,
 ) -> Result<Option<Version>, QueryError>
-    ensures { AnswersQuery result (version_answer config.entry (means_of R.answers T.files ask.now)) }
+    ensures { AnswersQuery result
+        (version_answer (query_of config.entry) (means_of R.answers T.files ask.now)) }
 {
     let answer = answer_to(alloc, &version_questions(alloc, config, ask)?, ask.runner);
     let text = answer?;

@@ -1,5 +1,5 @@
 -- One more call: what it makes of the batch of the calls before it.
-use Rattle.std.proofs.Common.{◌≡◌, ℕ, Bool, true, false, ◌&&◌, List, [], ◌∷◌, Option, Some, None, refl, sym, ◌∙◌, ap, subst, nat_eq, eqb-true, eq-eqb, true≢false, map, if◌then◌else◌}
+use Rattle.std.proofs.Common.{◌≡◌, ℕ, Bool, true, false, List, [], ◌∷◌, Option, Some, None, refl, sym, ◌∙◌, ap, subst, nat_eq, eqb-true, eq-eqb, true≢false, map, if◌then◌else◌}
 use Rattle.std.proofs.lemmas.Bool.{false_from_ne_true}
 use Rattle.std.specs.List.{filter}
 use Rattle.std.specs.Map.{lookup}
@@ -12,11 +12,7 @@ use Rattle.vfs_core.specs.Batch.{began_with_creation, changed_file, changes_of, 
 use Rattle.vfs_core.specs.Distinct.{with_item}
 use Rattle.vfs_core.specs.Files.{Files, KeepsCalls}
 use Rattle.vfs_core.proofs.DistinctLemmas.{keys_of_insert_entry}
-
--- nothing holds with what does not
-and-false : (b : Bool) → (b && false) ≡ false
-and-false true = refl
-and-false false = refl
+use Rattle.std.proofs.Math.Bool.{and-false}
 
 -- a change behind one whose kind says whether the file is new
 merged-deletion : (is_new : Bool) (bytes : List ℕ) (hash : ℕ)

@@ -14,7 +14,7 @@ use Rattle.vfs_core.specs.declared.marks.MarkKind.TheVariants.{Text, Gone, Out}
 use Rattle.vfs_core.specs.FileState.{state_after, state_of}
 use Rattle.vfs_core.specs.Files.{Files, Follows, KeepsNumbers, entry_state, kind_of, paths_of, state_at, state_by_marks}
 use Rattle.vfs_core.specs.Hash.{content_hash}
-use Rattle.vfs_core.specs.Marks.{is_out, kept_text_after, kept_text, leaves_out, merged_text, same_hash, with_path}
+use Rattle.vfs_core.specs.Marks.{is_out, text_after_mark, kept_text, leaves_out, merged_text, same_hash, with_path}
 use Rattle.vfs_core.specs.VfsPathOrder.{vfs_path_eq-same, vfs_path_equiv}
 use Rattle.vfs_core.specs.VfsPath.{PathContent, vfs_path_eq}
 use Rattle.vfs_core.proofs.DistinctLemmas.{keys_of_insert_entry}
@@ -38,7 +38,7 @@ merged_text-hash text (Some before) = merged_text-split text before (same_hash t
 
 -- the state table is what the texts that count say
 state_after-kept : (contents : Option (List ℕ)) (before : Option (List ℕ))
-    → state_after (state_of before) contents ≡ state_of (kept_text_after (kind_of contents) before)
+    → state_after (state_of before) contents ≡ state_of (text_after_mark (kind_of contents) before)
 state_after-kept None None = refl
 state_after-kept None (Some before) = refl
 state_after-kept (Some text) None = refl
@@ -58,7 +58,7 @@ state_next-contents (Some text) before = refl
 
 -- the state that follows from one more thing that is said
 told-next : (kind : MarkKind) (was_out : Bool) (before : Option (List ℕ))
-    → cond (leaves_out kind || was_out) Excluded (state_of (kept_text_after kind before))
+    → cond (leaves_out kind || was_out) Excluded (state_of (text_after_mark kind before))
     ≡ state_next kind (cond was_out Excluded (state_of before))
 told-next Out was_out before = refl
 told-next Gone true before = refl
@@ -68,7 +68,7 @@ told-next (Text text) false before = sym (state_after-kept (Some text) before)
 
 -- the same by whether the mark is of the path
 told-split : (kind : MarkKind) (was_out : Bool) (before : Option (List ℕ)) (is_own : Bool)
-    → cond (cond is_own (leaves_out kind || was_out) was_out) Excluded (state_of (cond is_own (kept_text_after kind before) before))
+    → cond (cond is_own (leaves_out kind || was_out) was_out) Excluded (state_of (cond is_own (text_after_mark kind before) before))
     ≡ cond is_own (state_next kind (cond was_out Excluded (state_of before))) (cond was_out Excluded (state_of before))
 told-split kind was_out before true = told-next kind was_out before
 told-split kind was_out before false = refl

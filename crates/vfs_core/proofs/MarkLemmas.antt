@@ -9,7 +9,7 @@ use Rattle.vfs_core.specs.declared.marks.MarkKind.{MarkKind}
 use Rattle.vfs_core.specs.declared.marks.MarkKind.TheVariants.{Text, Gone, Out}
 use Rattle.vfs_core.specs.Hash.{content_hash}
 use Rattle.vfs_core.specs.VfsPath.{PathContent, vfs_path_eq}
-use Rattle.vfs_core.specs.Marks.{is_out, kept_text, leaves_out, live_text_after, LivesNext, kinds_at, texts_since, same_hash, last_after, first_of_run, text_of_kinds, live_files, live_paths, live_text, mentioned_paths, merged_text, kept_text_after}
+use Rattle.vfs_core.specs.Marks.{is_out, kept_text, leaves_out, live_text_after, LivesNext, kinds_at, texts_since, same_hash, last_after, first_of_run, text_of_kinds, live_files, live_paths, live_text, mentioned_paths, merged_text, text_after_mark}
 
 -- the marks of a path
 abbrev of_place : PathContent → List Mark → List Mark
@@ -70,7 +70,7 @@ text_of_kinds-text text kinds = first_of_run-cons text (texts_since kinds)
 
 -- what counts after one more thing that is said
 pub text_of_kinds-next : (kind : MarkKind) (kinds : List MarkKind)
-    → text_of_kinds (kind ∷ kinds) ≡ kept_text_after kind (text_of_kinds kinds)
+    → text_of_kinds (kind ∷ kinds) ≡ text_after_mark kind (text_of_kinds kinds)
 text_of_kinds-next Gone kinds = unfold text_of_kinds in refl
 text_of_kinds-next Out kinds = unfold text_of_kinds in refl
 text_of_kinds-next (Text text) kinds = text_of_kinds-text text kinds
@@ -78,14 +78,14 @@ text_of_kinds-next (Text text) kinds = text_of_kinds-text text kinds
 -- the same by whether the mark is of the path
 own-split : (mark : Mark) (marks : List Mark) (path : PathContent) (is_own : Bool)
     → text_of_kinds (map (λ m. m.kind) (cond is_own (mark ∷ of_place path marks) (of_place path marks)))
-    ≡ cond is_own (kept_text_after mark.kind (text_of_kinds (kinds_at path marks))) (text_of_kinds (kinds_at path marks))
+    ≡ cond is_own (text_after_mark mark.kind (text_of_kinds (kinds_at path marks))) (text_of_kinds (kinds_at path marks))
 own-split mark marks path true = text_of_kinds-next mark.kind (kinds_at path marks)
 own-split mark marks path false = refl
 
 -- a mark of another path changes nothing, one of its own what it says
 pub kept_text_mark : (mark : Mark) (marks : List Mark) (path : PathContent)
     → kept_text (mark ∷ marks) path
-    ≡ cond (vfs_path_eq path mark.path) (kept_text_after mark.kind (kept_text marks path)) (kept_text marks path)
+    ≡ cond (vfs_path_eq path mark.path) (text_after_mark mark.kind (kept_text marks path)) (kept_text marks path)
 unfolding kept_text
 kept_text_mark mark marks path = own-split mark marks path (vfs_path_eq path mark.path)
 
@@ -99,7 +99,7 @@ pub kept_text_split : (marks : List Mark) (path : PathContent) (mark : Mark)
     → 1 ≤ length marks → mark ≡ get_or marks 0 mark
     → kept_text marks path
     ≡ cond (vfs_path_eq path mark.path)
-    (kept_text_after mark.kind (kept_text (take (length marks - 1) (drop 1 marks)) path))
+    (text_after_mark mark.kind (kept_text (take (length marks - 1) (drop 1 marks)) path))
     (kept_text (take (length marks - 1) (drop 1 marks)) path)
 kept_text_split [] path mark some first = absurd (omega arith)
 kept_text_split (m ∷ ms) path mark some first =
@@ -125,7 +125,7 @@ is_out_mark mark marks path = out-split (vfs_path_eq path mark.path) (leaves_out
 
 -- what one more thing that is said makes of the live text, by whether the path was left out
 live-next : (kind : MarkKind) (was_out : Bool) (before : Option (List ℕ))
-    → cond (leaves_out kind || was_out) None (kept_text_after kind before)
+    → cond (leaves_out kind || was_out) None (text_after_mark kind before)
     ≡ live_text_after kind was_out (cond was_out None before)
 live-next Gone true before = refl
 live-next Gone false before = refl
@@ -135,7 +135,7 @@ live-next (Text text) false before = refl
 
 -- the same by whether the mark is of the path
 live-split : (mark : Mark) (was_out : Bool) (before : Option (List ℕ)) (is_own : Bool)
-    → cond (cond is_own (leaves_out mark.kind || was_out) was_out) None (cond is_own (kept_text_after mark.kind before) before)
+    → cond (cond is_own (leaves_out mark.kind || was_out) was_out) None (cond is_own (text_after_mark mark.kind before) before)
     ≡ cond is_own (live_text_after mark.kind was_out (cond was_out None before)) (cond was_out None before)
 live-split mark was_out before true = live-next mark.kind was_out before
 live-split mark was_out before false = refl

@@ -11,7 +11,7 @@ use Rattle.base_text_paths.specs.FileName.{extension_of, is_dot, stem_of}
 use Rattle.base_text_paths.specs.Paths.{is_slash}
 use Rattle.base_text_paths.specs.Rows.{IsCutAtLast, Lacks}
 use Rattle.base_text_paths.proofs.Dots.{before_at_cut as before_dot, before_lacking, extension_none, stem_whole}
-use Rattle.vfs_core.specs.VirtualPath.{climb, last_name, virtual_parent, without_end_slash, without_dots}
+use Rattle.vfs_core.specs.VirtualPath.{climb, last_name, virtual_parent, virtual_without_end_slash, without_dots}
 
 -- texts that differ are distinguished
 not_bytes : (xs ys : List ℕ) → (xs ≡ ys → ⊥) → bytes_eq xs ys ≡ false
@@ -105,17 +105,17 @@ pub named_no_dot : (name : List ℕ) → Lacks 46 name → (stem_of name ≡ nam
 named_no_dot name lacks = (stem_whole name (before_lacking name lacks), extension_none name (before_lacking name lacks))
 
 -- a slash at the end
-pub without_end_slash_end : (text front : List ℕ) → text ≡ front ++ 47 ∷ [] → without_end_slash text ≡ front
-unfolding without_end_slash
-without_end_slash_end text front e =
+pub virtual_without_end_slash_end : (text front : List ℕ) → text ≡ front ++ 47 ∷ [] → virtual_without_end_slash text ≡ front
+unfolding virtual_without_end_slash
+virtual_without_end_slash_end text front e =
     let end : length text - 1 ≡ length front = omega (arith, ap length e, length-append front (47 ∷ [])) in
     let slash : get_or text (length text - 1) 0 ≡ 47 =
     ap (get_or text (length text - 1)) refl ∙ ap (λ n. get_or text n 0) end ∙ ap (λ s. get_or s (length front) 0) e ∙ get_or-append_seam front 47 [] 0 in
     cond-true _ _ _ (eq-eqb _ 47 slash) ∙ ap (λ n. take n text) end ∙ ap (take (length front)) e ∙ take-append_seam front (47 ∷ [])
 
-pub without_end_slash_other : (text : List ℕ) → ((front : List ℕ) → text ≡ front ++ 47 ∷ [] → ⊥) → without_end_slash text ≡ text
-unfolding without_end_slash
-without_end_slash_other text lacks = cond-false _ _ _ (ne_eqb _ 47 (λ slash. lacks (take (length text - 1) text) (ends text slash)))
+pub virtual_without_end_slash_other : (text : List ℕ) → ((front : List ℕ) → text ≡ front ++ 47 ∷ [] → ⊥) → virtual_without_end_slash text ≡ text
+unfolding virtual_without_end_slash
+virtual_without_end_slash_other text lacks = cond-false _ _ _ (ne_eqb _ 47 (λ slash. lacks (take (length text - 1) text) (ends text slash)))
   where
     ends : (text : List ℕ) → get_or text (length text - 1) 0 ≡ 47 → text ≡ take (length text - 1) text ++ 47 ∷ []
     ends [] slash = absurd (omega (arith, slash))

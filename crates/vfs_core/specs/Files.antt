@@ -80,8 +80,8 @@ abbrev pub is_change_at : Files → PathContent → Option (List ℕ) → Bool
 is_change_at files path contents = is_change (state_at files path) contents
 
 -- the bytes of contents
-abbrev pub bytes_of : {Z : Type 0} → Option (Vec ℕ Z) → Option (List ℕ)
-bytes_of contents = option_map (λ bytes. bytes.items) contents
+abbrev pub bytes_of_contents : {Z : Type 0} → Option (Vec ℕ Z) → Option (List ℕ)
+bytes_of_contents contents = option_map (λ bytes. bytes.items) contents
 
 -- one path has the state that contents make of it, each other path what it had
 abbrev pub SetsState : Files → Files → PathContent → Option (List ℕ) → Type 0

@@ -63,10 +63,10 @@ merged_text text None = text
 merged_text text (Some before) = if same_hash text before then before else text
 
 -- what one more thing that is said of a file makes of the text that counted
-abbrev pub kept_text_after : MarkKind → Option (List ℕ) → Option (List ℕ)
-kept_text_after Gone before = None
-kept_text_after Out before = before
-kept_text_after (Text text) before = Some (merged_text text before)
+abbrev pub text_after_mark : MarkKind → Option (List ℕ) → Option (List ℕ)
+text_after_mark Gone before = None
+text_after_mark Out before = before
+text_after_mark (Text text) before = Some (merged_text text before)
 
 -- what it makes of the text of a file that is live, or not, and may have been left out before
 abbrev pub live_text_after : MarkKind → Bool → Option (List ℕ) → Option (List ℕ)

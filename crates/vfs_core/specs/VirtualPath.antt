@@ -32,8 +32,8 @@ abbrev pub virtual_joined : List ℕ → List ℕ → Option (List ℕ)
 virtual_joined base tail = option_map (λ parts. parts.0 ++ 47 ∷ without_dots parts.1) (climb base tail)
 
 -- a text without one slash at its end
-unfoldable pub without_end_slash : List ℕ → List ℕ
-without_end_slash text =
+unfoldable pub virtual_without_end_slash : List ℕ → List ℕ
+virtual_without_end_slash text =
     if slice_index text (length text - 1) == 47 then take (length text - 1) text else text
 
 -- what follows the last slash, or the whole text where there is none
@@ -46,7 +46,7 @@ stem_and_extension_if_any name = if length name == 0 then None else Some (stem_o
 
 -- the last name as a stem and an extension, where one slash at the end plays no part
 abbrev pub virtual_stem_and_extension : List ℕ → Option (List ℕ × Option (List ℕ))
-virtual_stem_and_extension text = stem_and_extension_if_any (last_name (without_end_slash text))
+virtual_stem_and_extension text = stem_and_extension_if_any (last_name (virtual_without_end_slash text))
 
 -- the parts from the first component on
 abbrev pub from_component : List (List ℕ) → List (List ℕ)

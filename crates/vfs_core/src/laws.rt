@@ -5,8 +5,8 @@ ghost use Rattle.vfs_core.specs.Marks.{live_files, live_paths, live_text, LivesN
 ghost use Rattle.vfs_core.specs.VfsPath.{vfs_path_eq, PathContent};
 ghost use Rattle.vfs_core.specs.declared.marks.Mark.{Mark};
 
-#[tactic(auto, using(crate::proofs::MarkLemmas::live_text_mark, crate::proofs::MarkLemmas::live_text_none, crate::proofs::MarkLemmas::live_files_paths))]
 /// Marks can be followed one at a time.
+#[tactic(auto, using(crate::proofs::MarkLemmas::live_text_mark, crate::proofs::MarkLemmas::live_text_none, crate::proofs::MarkLemmas::live_files_paths))]
 pub fn marks_follow_one_another()
     ensures none { (path : PathContent) → live_text [] path ≡ None }
     ensures next { (mark : Mark) (marks : List Mark) (path : PathContent)

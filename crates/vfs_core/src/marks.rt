@@ -2,7 +2,7 @@
 
 ghost use Rattle.std.specs.Prelude.{◌≡◌};
 ghost use Rattle.std.specs.Option.{option_copied};
-ghost use Rattle.vfs_core.specs.Marks.{is_out, kept_text, kept_text_after, leaves_out, live_text, merged_text, same_hash};
+ghost use Rattle.vfs_core.specs.Marks.{is_out, kept_text, text_after_mark, leaves_out, live_text, merged_text, same_hash};
 
 use crate::hash::content_hash;
 use crate::vfs_path::VfsPath;
@@ -86,7 +86,7 @@ fn kept_text<'a>(marks: &'a [Mark], path: &VfsPath) -> Option<&'a Text>
         [mark, older @ ..] => {
             let before = kept_text(older, path);
             if *path == mark.path {
-                kept_text_after(&mark.kind, before)
+                text_after_mark(&mark.kind, before)
             } else {
                 before
             }
@@ -94,8 +94,8 @@ fn kept_text<'a>(marks: &'a [Mark], path: &VfsPath) -> Option<&'a Text>
     }
 }
 
-fn kept_text_after<'a>(kind: &'a MarkKind, before: Option<&'a Text>) -> Option<&'a Text>
-    ensures { option_copied result ≡ kept_text_after kind.now (option_copied before.entry) }
+fn text_after_mark<'a>(kind: &'a MarkKind, before: Option<&'a Text>) -> Option<&'a Text>
+    ensures { option_copied result ≡ text_after_mark kind.now (option_copied before.entry) }
 {
     match kind {
         MarkKind::Gone => None,

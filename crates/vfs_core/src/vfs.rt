@@ -6,7 +6,7 @@ ghost use Rattle.std.specs.Map.Iter.{ShowsInOrder};
 ghost use Rattle.std.specs.Result.{IsErrOf};
 ghost use Rattle.indexmap.specs.IndexMap.{spare};
 ghost use Rattle.vfs_core.specs.Batch.{with_change};
-ghost use Rattle.vfs_core.specs.Files.{bytes_of, existence_at, existing_files, is_change_at, lookup_result, no_files};
+ghost use Rattle.vfs_core.specs.Files.{bytes_of_contents, existence_at, existing_files, is_change_at, lookup_result, no_files};
 ghost use Rattle.vfs_core.specs.Files.{number_for, path_number, numbered_path, path_at, paths_of, state_at, with_contents, with_state};
 ghost use Rattle.vfs_core.specs.Calls.{LeavesOut, SetsContents, TakesBatch};
 ghost use Rattle.vfs_core.specs.Files.{Follows, Gathers, GivesBatch, HasRoomFor, IsFullFor, KeepsCalls, KeepsMarks};
@@ -131,9 +131,11 @@ impl Vfs {
         contents: Option<Vec<u8>>,
     ) -> Result<bool, VfsError>
         ensures changed { IfOk result (λ answer. answer
-            ≡ is_change_at self.old path (bytes_of contents)) }
-        ensures files { OnOk result (self.new ≡ with_contents self.old path (bytes_of contents)) }
-        ensures effects { OnOk result (SetsContents self.old self.new path (bytes_of contents)) }
+            ≡ is_change_at self.old path (bytes_of_contents contents)) }
+        ensures files { OnOk result
+            (self.new ≡ with_contents self.old path (bytes_of_contents contents)) }
+        ensures effects { OnOk result
+            (SetsContents self.old self.new path (bytes_of_contents contents)) }
         ensures stable { KeepsNumbers self.old self.new }
         ensures too_many { IsErrOf result VfsError.TooMany ↔ IsFullFor self.old path }
         ensures err { OnErr result (self.new ≡ self.old) }

@@ -6,7 +6,7 @@ ghost use Rattle.base_text_paths.specs.FileName.{extension_of, stem_of};
 ghost use Rattle.base_text_paths.specs.Paths.{components};
 ghost use Rattle.vfs_core.specs.RealPath.{name_texts};
 ghost use Rattle.vfs_core.specs.VirtualPath.{trim_back, both_texts, climb, trim_front, last_name, virtual_parent};
-ghost use Rattle.vfs_core.specs.VirtualPath.{without_end_slash, virtual_stem_and_extension, virtual_rest, without_dots};
+ghost use Rattle.vfs_core.specs.VirtualPath.{virtual_without_end_slash, virtual_stem_and_extension, virtual_rest, without_dots};
 ghost use Rattle.vfs_core.specs.VirtualPath.{TakesComponent};
 
 use base_text_paths::paths::{is_component, split_last};
@@ -44,8 +44,8 @@ pub(crate) fn without_dots(tail: &str) -> &str
 }
 
 /// The text without one slash at its end.
-fn without_end_slash(text: &str) -> &str
-    ensures { result.now ≡ without_end_slash text.now }
+fn virtual_without_end_slash(text: &str) -> &str
+    ensures { result.now ≡ virtual_without_end_slash text.now }
 {
     match text.strip_suffix('/') {
         Some(front) => front,
@@ -67,7 +67,7 @@ fn last_name(text: &str) -> &str
 pub(crate) fn name_and_extension(text: &str) -> Option<(&str, Option<&str>)>
     ensures { option_map name_texts result ≡ virtual_stem_and_extension text.now }
 {
-    let name = last_name(without_end_slash(text));
+    let name = last_name(virtual_without_end_slash(text));
     if name.is_empty() {
         None
     } else {

@@ -1,21 +1,10 @@
 -- What placing adds to a count of steps: one path, and files one after the other.
-use Rattle.std.proofs.Common.{◌≡◌, ℕ, zero, suc, ◌+◌, ◌≤◌, List, [], ◌∷◌, ◌++◌, Result, Ok, Err, ap, append_assoc, arith, length, refl, subst, sym, zero-add, ◌∙◌}
+use Rattle.std.proofs.Common.{◌≡◌, ℕ, zero, suc, ◌+◌, ◌≤◌, List, [], ◌∷◌, ◌++◌, Result, Ok, Err, ap, append_assoc, arith, refl, subst, sym, zero-add, ◌∙◌}
 use Rattle.std.specs.Prelude.{OnErr}
-use Rattle.base_text_outside.specs.Causes.{next_count}
+use Rattle.base_text_outside.specs.Causes.{next_count, raised_by}
 use Rattle.vfs_core.specs.VfsPath.{PathContent}
 use Rattle.vfs_sets.specs.Placement.{placed_text}
-use Rattle.vfs_sets.specs.Probes.{CountsFiles, CountsFront, CountsPlacing, CountsProbes, RaisesAtMost, most_probes, prefixes_tried, raised_by}
-
--- a count rises by one at most for each step
-pub raised_by-most : (steps count : ℕ) → raised_by steps count ≤ count + steps
-raised_by-most zero count = omega arith
-raised_by-most (suc steps) count =
-    let more = raised_by-most steps count in
-    let step : next_count (raised_by steps count) ≤ raised_by steps count + 1 = raised-most (raised_by steps count) in
-    omega (arith, more, step)
-  where
-    raised-most : (n : ℕ) → next_count n ≤ n + 1
-    raised-most n = omega arith
+use Rattle.vfs_sets.specs.Probes.{CountsFiles, CountsFront, CountsPlacing, CountsProbes, RaisesAtMost, most_probes, most_tries}
 
 -- steps after steps
 raised_by-sum : (more steps count : ℕ) → raised_by more (raised_by steps count) ≡ raised_by (more + steps) count
@@ -54,7 +43,7 @@ counts_raise : (sets : List (List PathContent)) (files : List (ℕ × PathConten
     → CountsFiles sets files before now → RaisesAtMost (most_probes files) before now
 counts_raise sets [] before now counts = record { steps = 0; within = omega arith; raised = sym counts }
 counts_raise sets (file ∷ files) before now counts =
-    RaisesAtMost-again (length (prefixes_tried (placed_text file.1))) (most_probes files) before counts.0 now counts.1.raises
+    RaisesAtMost-again (most_tries (placed_text file.1)) (most_probes files) before counts.0 now counts.1.raises
     (counts_raise sets files counts.0 now counts.2)
 
 -- the first of some files have no more probes than all

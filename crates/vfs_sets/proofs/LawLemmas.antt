@@ -1,12 +1,16 @@
 -- What the laws of the crate say.
-use Rattle.std.proofs.Common.{◌≡◌, ◌↔◌, ◌<◌, ℕ, List, true, ap, arith, length, subst, sym}
+use Rattle.std.proofs.Common.{◌≡◌, ◌↔◌, ◌+◌, ◌*◌, ◌<◌, ◌≤◌, ℕ, List, [], ◌∷◌, true, ap, arith, length, subst, sym}
 use Rattle.base_values.specs.Equality.{IsContentEquality}
 use Rattle.base_values.proofs.Equalities.{lists, numbers, pairs}
 use Rattle.std.proofs.lemmas.Bool.Decides.{Decides-and}
+use Rattle.std.proofs.lemmas.List.Sums.{sum_by-cons}
+use Rattle.std.specs.List.{count_by, sum_by}
+use Rattle.base_text_paths.specs.Paths.{is_slash}
 use Rattle.vfs_core.specs.VfsPath.{PathContent, vfs_path_eq}
 use Rattle.vfs_core.specs.VfsPathOrder.{vfs_path_eq-same, vfs_path_equiv}
 use Rattle.vfs_sets.specs.FileSet.{files_eq}
-use Rattle.vfs_sets.specs.Placement.{FitsNoRoot, IsPlaceOf, place_of}
+use Rattle.vfs_sets.specs.Placement.{FitsNoRoot, IsPlaceOf, place_of, placed_text}
+use Rattle.vfs_sets.specs.Probes.{most_probes}
 use Rattle.vfs_sets.proofs.FitLemmas.{fits_no_root, place_of_is}
 use Rattle.vfs_sets.proofs.ProbeLemmas.{FitsNoRoot-computed, IsPlaceOf-computed, set-within}
 
@@ -33,3 +37,19 @@ place_is_computed sets path number = (
 pub no_place_is_computed : (sets : List (List PathContent)) (path : PathContent)
     → FitsNoRoot sets path ↔ (place_of sets path ≡ length sets)
 no_place_is_computed sets path = (λ none. sym (FitsNoRoot-computed sets path none), fits_no_root sets path)
+
+-- what is counted at most is within either bound
+pub within_bytes : (files : List (ℕ × PathContent)) → most_probes files ≤ sum_by (λ file. length (placed_text file.1) + 1) files
+within_bytes [] = omega arith
+within_bytes (file ∷ files) =
+    let more = within_bytes files in
+    let sum = sum_by-cons (λ (file : ℕ × PathContent). length (placed_text file.1) + 1) file files in
+    omega (arith, more, sum)
+
+pub within_slashes : (files : List (ℕ × PathContent))
+    → most_probes files ≤ sum_by (λ file. 2 * count_by is_slash (placed_text file.1) + 1) files
+within_slashes [] = omega arith
+within_slashes (file ∷ files) =
+    let more = within_slashes files in
+    let sum = sum_by-cons (λ (file : ℕ × PathContent). 2 * count_by is_slash (placed_text file.1) + 1) file files in
+    omega (arith, more, sum)

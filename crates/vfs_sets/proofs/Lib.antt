@@ -1,3 +1,4 @@
+pub mod ComponentLemmas
 pub mod CountLemmas
 pub mod FitLemmas
 pub mod LawLemmas
@@ -8,5 +9,7 @@ pub mod ProbeLemmas
 pub mod RootLemmas
 pub mod RootMapLemmas
 pub mod RowLemmas
+pub mod SearchLemmas
 pub mod SiblingLemmas
 pub mod TriedLemmas
+pub mod WholeLemmas

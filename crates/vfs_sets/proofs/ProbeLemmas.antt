@@ -1,7 +1,7 @@
 -- The set that the longest prefix among the roots gives is the place of a path.
 use Rattle.std.proofs.Common.{◌≡◌, ℕ, zero, suc, ◌+◌, ◌<◌, ◌≤◌, Bool, true, false, ◌||◌, List, [], ◌∷◌, Option, Some, None}
 use Rattle.std.proofs.Common.{ap, arith, cond, Contains, get_or, length, nat_eq, nat_lt, refl, subst, sym, take, true≢false, ◌∙◌, Vec}
-use Rattle.std.proofs.lemmas.Bool.{and_parts, or_left, or_right}
+use Rattle.std.proofs.lemmas.Bool.{and_from, and_parts, or_left, or_right}
 use Rattle.std.proofs.lemmas.Bool.Decides.{nat_tests}
 use Rattle.std.proofs.lemmas.Grind.{common_steps}
 use Rattle.std.specs.Bool.{beq}
@@ -9,13 +9,14 @@ use Rattle.std.specs.Cmp.Lexicographic.{bytes_decides, pointwise}
 use Rattle.std.specs.List.{list_any, position_from}
 use Rattle.std.specs.Str.{bytes_eq}
 use Rattle.vfs_core.specs.VfsPath.{PathContent}
-use Rattle.vfs_sets.specs.Placement.{FitsNoRoot, IsFit, IsPlaceOf, fits_path, place_of, placed_text}
-use Rattle.vfs_sets.specs.Probes.{CountsProbes, prefixes_tried, raised_by, tries_down_to}
+use Rattle.vfs_sets.specs.Placement.{FitsNoRoot, IsFit, IsPlaceOf, begins_text, fits_path, place_of, placed_text}
+use Rattle.base_text_outside.specs.Causes.{raised_by}
+use Rattle.vfs_sets.specs.Probes.{CountsProbes, prefixes_tried, tries_down_to}
 use Rattle.vfs_sets.specs.RootMaps.{HasNoPrefix, IsOfLongestPrefix, MapsRoots, is_root_of, number_by_text}
-use Rattle.vfs_sets.proofs.CountLemmas.{raised_by-most}
+use Rattle.base_text_outside.proofs.Counts.{raised_by-most}
 use Rattle.vfs_sets.proofs.FitLemmas.{at_most-split, fits_no_root, place_of_is, IsPlaceOf-one}
 use Rattle.vfs_sets.proofs.PlaceLemmas.{place_within}
-use Rattle.vfs_sets.proofs.TriedLemmas.{prefixes_tried-each, prefixes_tried-length, prefixes_tried-within, tries_down_to-count}
+use Rattle.vfs_sets.proofs.TriedLemmas.{prefixes_tried-begin, prefixes_tried-each, prefixes_tried-most, prefixes_tried-within, tries_down_to-most}
 
 -- an item that passes, where one does
 any-split : (test : PathContent → Bool) (first : PathContent) (rest : List PathContent) (is_first : Bool) → test first ≡ is_first
@@ -92,12 +93,21 @@ IsPrefix root path = root.text ≡ take (length root.text) (placed_text path)
 fit-prefix : (root path : PathContent) → fits_path root path ≡ true → IsPrefix root path
 fit-prefix root path h =
     (bytes_decides root.text (take (length root.text) (placed_text path))).0
-    (and_parts (beq root.is_virtual path.is_virtual) (pointwise nat_eq root.text (take (length root.text) (placed_text path))) h).1
+    (and_parts (pointwise nat_eq root.text (take (length root.text) (placed_text path))) _
+    (and_parts (beq root.is_virtual path.is_virtual) (begins_text root.text (placed_text path)) h).1).0
 
 prefix-short : (root path : PathContent) → IsPrefix root path → length root.text ≤ length (placed_text path)
 prefix-short root path is =
     let short : length root.text ≡ length (take (length root.text) (placed_text path)) = ap length is in
     grind (arith, common_steps)
+
+-- and that prefix is tried
+fit-tried : (root path : PathContent) → fits_path root path ≡ true → Contains (prefixes_tried (placed_text path)) (length root.text)
+fit-tried root path h =
+    let is = fit-prefix root path h in
+    prefixes_tried-each (placed_text path) (length root.text) (prefix-short root path is)
+    (subst (λ (t : List ℕ). begins_text t (placed_text path) ≡ true) is
+    (and_parts (beq root.is_virtual path.is_virtual) (begins_text root.text (placed_text path)) h).1)
 
 -- a set with a root that fits is found at the length of the root
 fit-found : (sets : List (List PathContent)) (path : PathContent) (other : ℕ) (rival : PathContent) → IsFit sets path other rival
@@ -106,7 +116,7 @@ fit-found sets path other rival fit =
     let text = take (length rival.text) (placed_text path) in
     let same : bytes_eq text rival.text ≡ true = (bytes_decides text rival.text).1 (sym (fit-prefix rival path fit.begins)) in
     let kind : beq rival.is_virtual path.is_virtual ≡ true =
-    (and_parts (beq rival.is_virtual path.is_virtual) (pointwise nat_eq rival.text text) fit.begins).0 in
+    (and_parts (beq rival.is_virtual path.is_virtual) (begins_text rival.text (placed_text path)) fit.begins).0 in
     let passes : is_root_of path.is_virtual text rival ≡ true = rw (kind, same) refl in
     least-is (list_any (is_root_of path.is_virtual text)) 0 sets other (set-within sets other fit.own.0 fit.own.1)
     (item-any (is_root_of path.is_virtual text) (get_or sets other []) rival fit.own.0 fit.own.1 fit.own.2 passes)
@@ -136,21 +146,18 @@ probed_place {Z} sets path entries number before now maps longest =
     let within : longest.size ≤ length (placed_text path) = prefixes_tried-within (placed_text path) longest.size longest.tried in
     let cut : length text ≡ longest.size = grind (arith, common_steps) in
     let size : length root.text ≡ longest.size = sym (ap length is) ∙ cut in
-    let prefix : root.text ≡ take (length root.text) (placed_text path) =
-    sym is ∙ ap (λ n. take n (placed_text path)) (sym size) in
+    let whole : begins_text root.text (placed_text path) ≡ true =
+    subst (λ (t : List ℕ). begins_text t (placed_text path) ≡ true) is (prefixes_tried-begin (placed_text path) longest.size longest.tried) in
     let begins : fits_path root path ≡ true =
-    let same : pointwise nat_eq root.text (take (length root.text) (placed_text path)) ≡ true =
-    (bytes_decides root.text (take (length root.text) (placed_text path))).1 prefix in
-    rw (kind, same) refl in (
+    and_from (beq root.is_virtual path.is_virtual) (begins_text root.text (placed_text path)) kind whole in (
       record {
         root = root;
         own = record { own = subst (λ n. Contains (get_or sets n []) root) (sym set) item.1; begins = begins };
         longest = λ other rival fit.
             let at = fit-found sets path other rival fit in
-            let short = prefix-short rival path (fit-prefix rival path fit.begins) in
             let no_longer = at_most-split (length rival.text) longest.size (nat_lt longest.size (length rival.text)) refl (λ longer.
             nothing (number_by_text (take (length rival.text) (placed_text path)) entries) at.0
-            (longest.none_longer (length rival.text) (prefixes_tried-each (placed_text path) (length rival.text) short) longer)
+            (longest.none_longer (length rival.text) (fit-tried rival path fit.begins) longer)
             (maps.each (take (length rival.text) (placed_text path)) ∙ at.1)) in
             omega (arith, no_longer, size);
         least = λ other rival fit same.
@@ -169,9 +176,8 @@ pub probed_none : {Z : Type 0} (sets : List (List PathContent)) (path : PathCont
     → (before now : ℕ) → MapsRoots path.is_virtual sets entries → HasNoPrefix entries (placed_text path) before now → FitsNoRoot sets path
 probed_none sets path entries before now maps none = λ other rival fit.
     let at = fit-found sets path other rival fit in
-    let short = prefix-short rival path (fit-prefix rival path fit.begins) in
     nothing (number_by_text (take (length rival.text) (placed_text path)) entries) at.0
-    (none.none (length rival.text) (prefixes_tried-each (placed_text path) (length rival.text) short))
+    (none.none (length rival.text) (fit-tried rival path fit.begins))
     (maps.each (take (length rival.text) (placed_text path)) ∙ at.1)
 
 -- the place is the one that is computed: the same by whether a set is computed
@@ -201,8 +207,7 @@ FitsNoRoot-computed sets path = none-split sets path (nat_lt (place_of sets path
 counts_found : (sets : List (List PathContent)) (path : PathContent) (number before now size : ℕ) (place : IsPlaceOf sets path number)
     → length place.root.text ≡ size → now ≡ raised_by (tries_down_to size (placed_text path)) before → CountsProbes sets path before now
 counts_found sets path number before now size place same counts =
-    let all = prefixes_tried-length (placed_text path) in
-    let tries = tries_down_to-count size (placed_text path) in
+    let all = tries_down_to-most size (placed_text path) in
     record {
       found = λ other root longest.
           let up = place.longest other root longest.own in
@@ -212,22 +217,22 @@ counts_found sets path number before now size place same counts =
       none = λ fits_none. absurd (fits_none number place.root place.own);
       at_most =
           let most = raised_by-most (tries_down_to size (placed_text path)) before in
-          omega (arith, counts, most, all, tries);
-      raises = record {
-        steps = tries_down_to size (placed_text path);
-        within = omega (arith, all, tries);
-        raised = counts;
-      };
+          omega (arith, counts, most, all);
+      raises = record { steps = tries_down_to size (placed_text path); within = all; raised = counts };
     }
 
 counts_none : (sets : List (List PathContent)) (path : PathContent) (before now : ℕ) → FitsNoRoot sets path
     → now ≡ raised_by (length (prefixes_tried (placed_text path))) before → CountsProbes sets path before now
-counts_none sets path before now fits_none counts = record {
-  found = λ other root longest. absurd (fits_none other root longest.own);
-  none = λ again. counts;
-  at_most = let most = raised_by-most (length (prefixes_tried (placed_text path))) before in omega (arith, counts, most);
-  raises = record { steps = length (prefixes_tried (placed_text path)); within = omega arith; raised = counts };
-}
+counts_none sets path before now fits_none counts =
+    let all = prefixes_tried-most (placed_text path) in
+    record {
+      found = λ other root longest. absurd (fits_none other root longest.own);
+      none = λ again. counts;
+      at_most =
+          let most = raised_by-most (length (prefixes_tried (placed_text path))) before in
+          omega (arith, counts, most, all);
+      raises = record { steps = length (prefixes_tried (placed_text path)); within = all; raised = counts };
+    }
 
 -- what a search of the map of the path's kind gives: the place, with each probe counted
 pub found_place : {Z : Type 0} (sets : List (List PathContent)) (path : PathContent) (kind : Bool) (text : List ℕ)

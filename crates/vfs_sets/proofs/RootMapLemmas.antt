@@ -1,16 +1,13 @@
 -- Roots of a kind that are put beside a set's number, from the last set to the first.
 use Rattle.std.proofs.Common.{◌≡◌, ℕ, suc, ◌+◌, ◌<◌, ◌≤◌, Bool, true, false, cond, ◌&&◌, List, [], ◌∷◌, Option, Some}
-use Rattle.std.proofs.Common.{Vec, get_or, drop, length, refl, sym, ◌∙◌, ap, arith, add-one, drop-cons, nat_le, subst, None, ◌-◌}
-use Rattle.std.proofs.lemmas.Bool.Decides.{nat_tests}
+use Rattle.std.proofs.Common.{Vec, get_or, drop, length, refl, sym, ◌∙◌, ap, arith, add-one, drop-cons, subst}
 use Rattle.std.specs.Bool.{beq}
 use Rattle.std.specs.Cmp.Lexicographic.{bytes_decides, nat_list_eq_equiv}
 use Rattle.std.specs.HashMap.{HashMap, Updates}
 use Rattle.std.specs.List.{list_any, position_from}
 use Rattle.std.specs.Map.{KeepsOthers}
 use Rattle.std.specs.Str.{bytes_eq}
-use Rattle.base_text_outside.specs.Causes.{next_count}
 use Rattle.vfs_core.specs.VfsPath.{PathContent}
-use Rattle.vfs_sets.specs.Probes.{raised_by}
 use Rattle.vfs_sets.specs.RootMaps.{MapsRoots, PutsRoot, PutsRootsOf, is_root_of, number_by_text}
 use Rattle.vfs_sets.proofs.PlaceLemmas.{drop_end}
 use Rattle.vfs_sets.proofs.RootLemmas.{either}
@@ -145,24 +142,3 @@ pub maps_behind_all : {Z : Type 0} (kind : Bool) (sets : List (List PathContent)
 maps_behind_all kind sets number entries behind none = record {
   each = λ text. behind.each text ∙ ap (λ n. position_from (list_any (is_root_of kind text)) n (drop n sets)) none;
 }
-
--- one prefix more has no number: the same by whether another is longer
-untried-split : (look : ℕ → Option ℕ) (untried size longer : ℕ) (is_tried : Bool) → nat_le untried longer ≡ is_tried
-    → ((n : ℕ) → untried ≤ n → n ≤ size → look n ≡ None) → look (untried - 1) ≡ None → 0 < untried
-    → untried - 1 ≤ longer → longer ≤ size → look longer ≡ None
-untried-split look untried size longer true h tried none some from short = tried longer (grind (arith, nat_tests)) short
-untried-split look untried size longer false h tried none some from short =
-    let same : untried - 1 ≡ longer = grind (arith, nat_tests) in subst (λ n. look n ≡ None) same none
-
-pub untried_next : (look : ℕ → Option ℕ) (untried size : ℕ)
-    → ((n : ℕ) → untried ≤ n → n ≤ size → look n ≡ None) → look (untried - 1) ≡ None → 0 < untried
-    → (longer : ℕ) → untried - 1 ≤ longer → longer ≤ size → look longer ≡ None
-untried_next look untried size tried none some longer =
-    untried-split look untried size longer (nat_le untried longer) refl tried none some
-
--- one step more
-pub raised_next : (before total untried now after : ℕ) → 0 < untried → untried ≤ total
-    → now ≡ raised_by (total - untried) before → after ≡ next_count now → after ≡ raised_by (total - (untried - 1)) before
-raised_next before total untried now after some within counts ticks =
-    let next : total - (untried - 1) ≡ suc (total - untried) = omega arith in
-    ticks ∙ ap next_count counts ∙ sym (ap (λ n. raised_by n before) next)

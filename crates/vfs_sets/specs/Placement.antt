@@ -1,10 +1,10 @@
--- Which set takes a path: of the roots whose encoding begins that of the path's directory, the longest, and
+-- Which set takes a path: of the roots that begin the path's directory by whole components, the longest, and
 -- of these the least set.
--- From the documentation of the file system's partition into sets.
-use Rattle.std.specs.Prelude.{◌≡◌, ◌≤◌, ℕ, ◌+◌, ◌&&◌, ◌==◌, Bool, List, [], ◌∷◌, Option, Some, None, Contains, IsTrue, length, max}
-use Rattle.std.specs.Prelude.{nat_eq, nat_le, nat_lt, slice_index_or, if◌then◌else◌}
+-- From the documentation of source roots: a file belongs to the nearest root that encloses it.
+use Rattle.std.specs.Prelude.{◌≡◌, ◌≤◌, ℕ, ◌+◌, ◌&&◌, ◌||◌, ◌==◌, Bool, List, [], ◌∷◌, Option, Some, None, Contains, IsTrue, drop, length, max}
+use Rattle.std.specs.Prelude.{codes, nat_eq, nat_le, nat_lt, slice_index_or, if◌then◌else◌}
 use Rattle.std.specs.Bool.{beq}
-use Rattle.std.specs.List.{starts_with}
+use Rattle.std.specs.List.{ends_with, starts_with}
 use Rattle.std.specs.Option.{unwrap_or}
 use Rattle.vfs_core.specs.VfsPath.{PathContent, text_above}
 
@@ -16,9 +16,18 @@ encoding path = (if path.is_virtual then 1 else 0) ∷ path.text
 abbrev pub placed_text : PathContent → List ℕ
 placed_text path = unwrap_or (text_above path) path.text
 
--- a root fits a path of its kind, where its bytes begin that text
+-- whether a root's text begins a text by whole components: it is a prefix of its bytes, and the text ends
+-- there, or the root's text ends in a slash, or the next byte of the text is one
+abbrev pub begins_text : List ℕ → List ℕ → Bool
+begins_text root text =
+    starts_with nat_eq text root
+    && (length root == length text
+    || ends_with nat_eq root (codes "/")
+    || starts_with nat_eq (drop (length root) text) (codes "/"))
+
+-- a root fits a path of its kind, where its text begins that one
 abbrev pub fits_path : PathContent → PathContent → Bool
-fits_path root path = beq root.is_virtual path.is_virtual && starts_with nat_eq (placed_text path) root.text
+fits_path root path = beq root.is_virtual path.is_virtual && begins_text root.text (placed_text path)
 
 -- a root of a set fits a path
 pub record IsFit (sets : List (List PathContent)) (path : PathContent) (number : ℕ) (root : PathContent)

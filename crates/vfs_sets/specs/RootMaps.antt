@@ -1,5 +1,5 @@
 -- The roots of one kind by their texts, each text with the least set that has a root of it, and the longest
--- prefix of a text that stands among them.
+-- prefix of a text, of those that are tried, that stands among them.
 -- From the documentation of the file system's partition into sets.
 use Rattle.std.specs.Prelude.{◌≡◌, ◌<◌, ◌&&◌, ℕ, Bool, true, false, List, [], ◌∷◌, Option, None, Some, Contains, length, max, take, if◌then◌else◌}
 use Rattle.std.specs.Bool.{beq}
@@ -8,7 +8,8 @@ use Rattle.std.specs.Map.{lookup}
 use Rattle.std.specs.Str.{bytes_eq}
 use Rattle.std.specs.declared.vec.Vec.{Vec}
 use Rattle.vfs_core.specs.VfsPath.{PathContent}
-use Rattle.vfs_sets.specs.Probes.{prefixes_tried, raised_by, tries_down_to}
+use Rattle.base_text_outside.specs.Causes.{raised_by}
+use Rattle.vfs_sets.specs.Probes.{prefixes_tried, tries_down_to}
 
 -- whether a root is of a kind and has a text
 abbrev pub is_root_of : Bool → List ℕ → PathContent → Bool

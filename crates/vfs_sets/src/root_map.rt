@@ -1,6 +1,7 @@
 //! The roots of sets by their texts, one map for each kind, and the search for the longest that begins a text.
 
-ghost use Rattle.std.specs.Prelude.{◌≡◌, IfOk, MatchOption, OnOk};
+ghost use Rattle.std.specs.Prelude.{◌≡◌, ◌≤◌, IfOk, MatchOption, OnOk, length, take};
+ghost use Rattle.vfs_sets.specs.Placement.{begins_text};
 ghost use Rattle.vfs_sets.specs.RootMaps.{HasNoPrefix, HasTextsUpTo, IsOfLongestPrefix, MapsRoots, PutsRoot, PutsRootsOf, longest_text, longest_text_of_all};
 
 use base_text_paths::{Items, Ledger, Steps};
@@ -87,8 +88,8 @@ fn longest_root_of(roots: &[VfsPath]) -> usize
     longest
 }
 
-/// The number beside the longest prefix of a text that has one. The text itself comes first, the empty prefix last, and
-/// each prefix is a step. One that is longer than every text of the map is not looked up.
+/// The number beside the longest prefix of a text that has one, of the prefixes that begin it by whole components. The text
+/// itself comes first, and each prefix is a step. One that is longer than every text of the map is not looked up.
 pub(crate) fn number_of_longest_prefix<L: Ledger>(
     map: &HashMap<Vec<u8>, u64>,
     longest: usize,
@@ -105,6 +106,9 @@ pub(crate) fn number_of_longest_prefix<L: Ledger>(
     let mut untried = text.len() + 1;
     while untried > 0 {
         untried -= 1;
+        if !ends_component(text, untried) {
+            continue;
+        }
         steps.ledger.tick();
         if untried <= longest {
             if let Some(number) = map.get(&text[..untried]) {
@@ -113,4 +117,12 @@ pub(crate) fn number_of_longest_prefix<L: Ledger>(
         }
     }
     None
+}
+
+/// Whether a component of a text ends after so many of its bytes: the text ends there, or a slash is next to that place.
+fn ends_component(text: &[u8], size: usize) -> bool
+    requires { size ≤ length text.now }
+    ensures { result ≡ begins_text (take size text.now) text.now }
+{
+    size == text.len() || text[size] == b'/' || size > 0 && text[size - 1] == b'/'
 }

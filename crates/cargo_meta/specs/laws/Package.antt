@@ -4,7 +4,7 @@ use Rattle.std.proofs.Common.{◌∙◌, arith}
 use Rattle.serde_json.specs.Data.{members_depth, Members, no_members, null}
 use Rattle.serde_json.specs.Written.{members_have_float}
 use Rattle.json_fields.specs.Fields.{members_at}
-use Rattle.json_fields.specs.Outcome.{◌>>=◌}
+use Rattle.base_values.specs.Outcome.{◌>>=◌}
 use Rattle.json_fields.specs.Laws.Rows.{required_member-set_member, optional_member-set_member, default_member-set_member, optional_member-set_unless_null, default_member-set_unless_null, default_member-no_members, null-or_not}
 use Rattle.json_fields.specs.Laws.RoundTrips.{AreWithin, AreWritten, ReadsAs, and_then, any-round_trips, at_last, default_member-kept, list-round_trips, list_member-kept, map-round_trips, no_members-written, optional_member-kept, required_member-kept, set_member-written, set_unless_null-written, table-round_trips, text-round_trips, weaker}
 use Rattle.json_fields.specs.Laws.TextForms.{bare-round_trips, version-round_trips}

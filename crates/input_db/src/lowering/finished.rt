@@ -49,6 +49,13 @@ impl FinishedCrates {
         &self.numbers
     }
 
+    // The same, to keep.
+    pub(super) fn into_numbers(self) -> Vec<Crate>
+        ensures { result.items ≡ self.numbers }
+    {
+        self.numbers
+    }
+
     // Whether no crate of the root file is finished.
     pub(super) fn is_first_of_root(&self, file: FileId) -> bool
         ensures { result ≡ is_first_of_root self.now.roots file }

@@ -8,7 +8,7 @@ use Rattle.serde_json.specs.Written.{has_float}
 use Rattle.json_fields.specs.Laws.Parts.{first_of_none, rest_of_none}
 use Rattle.json_fields.specs.Laws.RoundTrips.{ReadsAs, and_then, at_last, below_position-as, raised-above}
 use Rattle.json_fields.specs.Outcome.{Reading}
-use Rattle.json_fields.specs.Pairs.{pair_at, pair_data, two_items}
+use Rattle.json_fields.specs.Pairs.{json_pair_at, pair_data, two_items}
 use Rattle.json_fields.specs.RoundTrip.{IsKept, RoundTrips, outer_height}
 
 module _ {A B : Type 0} (ra : Data → Reading A) (wa : A → Data) (ha : ℕ) (ka : RoundTrips ra wa ha)
@@ -20,7 +20,7 @@ module _ {A B : Type 0} (ra : Data → Reading A) (wa : A → Data) (ha : ℕ) (
   second-kept d = record { holds = kb.keeps d }
 
   two-kept : (d e : Data) → ReadsAs (two_items ra rb (item d (item e no_items)))
-      (IsKept (pair_at ra rb) (pair_data wa wb) (has_float (array (item d (item e no_items)))) (max (max (outer_height ha) (outer_height hb)) (depth (array (item d (item e no_items))))))
+      (IsKept (json_pair_at ra rb) (pair_data wa wb) (has_float (array (item d (item e no_items)))) (max (max (outer_height ha) (outer_height hb)) (depth (array (item d (item e no_items))))))
   two-kept d e =
       and_then (below_position-as 0 (first-kept d)) λ x first.
       and_then (below_position-as 1 (second-kept e)) λ y second.
@@ -34,8 +34,8 @@ module _ {A B : Type 0} (ra : Data → Reading A) (wa : A → Data) (ha : ℕ) (
       })
 
   pair-kept : (d : Data)
-      → IfOk (pair_at ra rb d)
-      (IsKept (pair_at ra rb) (pair_data wa wb) (has_float d) (max (max (outer_height ha) (outer_height hb)) (depth d)))
+      → IfOk (json_pair_at ra rb d)
+      (IsKept (json_pair_at ra rb) (pair_data wa wb) (has_float d) (max (max (outer_height ha) (outer_height hb)) (depth d)))
   pair-kept null = tt
   pair-kept (boolean b) = tt
   pair-kept (number n) = tt
@@ -48,7 +48,7 @@ module _ {A B : Type 0} (ra : Data → Reading A) (wa : A → Data) (ha : ℕ) (
 
   -- pairs
   pub pair-round_trips :
-      RoundTrips (pair_at ra rb) (pair_data wa wb) (max (outer_height ha) (outer_height hb))
+      RoundTrips (json_pair_at ra rb) (pair_data wa wb) (max (outer_height ha) (outer_height hb))
   pair-round_trips = record { keeps = pair-kept }
 
 -- a list of another length is no pair

@@ -10,7 +10,8 @@ use Rattle.json_fields.specs.Laws.Depths.{set_member-within, set_unless_null-wit
 use Rattle.json_fields.specs.Laws.Parts.{first_of_none, rest_of_none, get_member-no_float, get_member-within}
 use Rattle.json_fields.specs.Laws.Rows.{set_member-no_float, set_unless_null-no_float}
 use Rattle.json_fields.specs.Fields.{any_at, default_member, flag_at, read_or, items_from, list_at, map_at, members_at, members_from, number_at, option_at, optional_member, required_member, text_at, under}
-use Rattle.json_fields.specs.Outcome.{Reading, ◌>>=◌, below_key, below_position}
+use Rattle.base_values.specs.Outcome.{◌>>=◌}
+use Rattle.json_fields.specs.Outcome.{Reading, below_key, below_position}
 use Rattle.json_fields.specs.RoundTrip.{IsKept, RoundTrips, outer_height}
 use Rattle.json_fields.specs.Written.{entries_data, is_null, items_data, list_data, map_data, option_data, set_member, set_unless_null}
 

@@ -11,7 +11,8 @@ use Rattle.serde_json.specs.Find.{get_member}
 use Rattle.json_fields.specs.Laws.Parts.{first_of_none, rest_of_none}
 use Rattle.serde_json.proofs.Views.{get_member-put, get_member-put_other}
 use Rattle.json_fields.specs.Fields.{read_or, option_at, required_member, optional_member, default_member}
-use Rattle.json_fields.specs.Outcome.{Gives, Reading, ◌>>=◌, below_key}
+use Rattle.base_values.specs.Outcome.{◌>>=◌}
+use Rattle.json_fields.specs.Outcome.{Gives, Reading, below_key}
 use Rattle.json_fields.specs.declared.place.ReadError.{ReadError}
 use Rattle.json_fields.specs.declared.place.ReadError.TheVariants.{Missed, OutOfMemory}
 use Rattle.json_fields.specs.Written.{is_null, set_member, set_unless_null}

@@ -100,10 +100,10 @@ impl Live {
     {
         let last = self.kept_now(alloc)?;
         let roots = file_roots(alloc, &self.project)?;
-        let graph = crate_graph(alloc, &self.project, &self.files)?;
+        let graph = crate_graph(alloc, &self.project, &self.recorded.files)?;
         live_page::refresh(
             alloc,
-            &mut self.files,
+            &mut self.recorded.files,
             &mut self.db,
             roots.as_slice(),
             graph,
@@ -117,7 +117,7 @@ impl Live {
         ensures { IfOk result (KeepsLast self.now) }
     {
         Ok(LastFlush {
-            texts: self.texts.try_clone(alloc)?,
+            texts: self.recorded.texts.try_clone(alloc)?,
             project: self.project.try_clone(alloc)?,
         })
     }

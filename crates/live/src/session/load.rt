@@ -1,15 +1,14 @@
 //! Recording an answer, and loading a project.
 
-ghost use Rattle.std.specs.Prelude.{◌≡◌, IfErr, IfOk, OnErr, OnOk};
-ghost use Rattle.live.specs.Marked.{AddsAnswer, FailsLoad, LoadsProject, sources_kept};
+ghost use Rattle.std.specs.Prelude.{◌≡◌, IfErr, OnErr, OnOk};
+ghost use Rattle.live.specs.Marked.{AddsAnswer, FailsLoad, LoadsProject};
 ghost use Rattle.live_script.specs.declared.fault.LiveError.TheVariants.{OutOfMemory};
 
-use crate::kept_files::kept_files;
 use crate::session::Live;
-use base_text::{CommandLine, Output, Shared, Text, TryClone};
-use live_project::{Project, Sources};
+use base_text::{CommandLine, Output, Shared, Text};
+use live_project::Project;
 use live_script::LiveError;
-use std::alloc::{AllocError, Global};
+use std::alloc::Global;
 use std::rc::Rc;
 
 impl Live {
@@ -23,7 +22,7 @@ impl Live {
         ensures only { IfErr result (λ e. e ≡ OutOfMemory) }
         ensures err { OnErr result (self.new ≡ self.old) }
     {
-        match self.answers.insert(line, output) {
+        match self.recorded.record_answer(line, output) {
             Ok(()) => Ok(()),
             Err(error) => Err(LiveError::from(error)),
         }
@@ -35,23 +34,10 @@ impl Live {
         ensures refused { IfErr result (FailsLoad self.old path) }
         ensures err { OnErr result (self.new ≡ self.old) }
     {
-        let sources = self.sources(alloc, path)?;
+        let sources = self.recorded.sources(alloc, path)?;
         let project = Project::load(alloc, sources)?;
         let project = Rc::new(alloc, project)?;
         self.project = Some(Shared::new(project));
         Ok(())
-    }
-
-    // What a load keeps: the configuration, the answers and the files that live, as they are now. No text is copied.
-    fn sources(&mut self, alloc: Global, path: Text) -> Result<Sources, AllocError>
-        ensures kept { IfOk result (λ sources. sources ≡ sources_kept self.old path) }
-        ensures same { self.new ≡ self.old }
-    {
-        Ok(Sources {
-            config: self.config.share(alloc)?,
-            answers: self.answers.try_clone(alloc)?,
-            files: kept_files(alloc, &self.files, &self.texts)?,
-            path,
-        })
     }
 }

@@ -4,7 +4,7 @@ use Rattle.std.proofs.Common.{◌∙◌, arith}
 use Rattle.serde_json.specs.Data.{members_depth, Members, no_members}
 use Rattle.serde_json.specs.Written.{members_have_float}
 use Rattle.json_fields.specs.Fields.{list_at, members_at}
-use Rattle.json_fields.specs.Outcome.{◌>>=◌}
+use Rattle.base_values.specs.Outcome.{◌>>=◌}
 use Rattle.json_fields.specs.Laws.Cfgs.{cfg-round_trips}
 use Rattle.json_fields.specs.Laws.Rows.{required_member-set_member, optional_member-set_member, default_member-set_member}
 use Rattle.json_fields.specs.Laws.RoundTrips.{AreWithin, AreWritten, ReadsAs, and_then, at_last, default_member-kept, flag-round_trips, list-round_trips, list_member-kept, map_member-kept, no_members-written, optional_member-kept, required_member-kept, set_member-written, table-round_trips, text-round_trips}

@@ -1,5 +1,5 @@
 use Rattle.std.proofs.Common.{◌≡◌}
-use Rattle.crate_graph.specs.Counting.{raised_by}
+use Rattle.base_text_outside.specs.Causes.{raised_by}
 use Rattle.crate_graph.proofs.insertion.count_steps.Given as goal
 
 abbrev pub invariant-loop : goal.invariant-loop

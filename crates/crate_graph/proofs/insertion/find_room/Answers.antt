@@ -1,5 +1,5 @@
 use Rattle.std.proofs.Common.{◌≡◌, ◌∙◌, ℕ, List, ap, length}
-use Rattle.crate_graph.specs.Counting.{raised_by}
+use Rattle.base_text_outside.specs.Causes.{raised_by}
 use Rattle.crate_graph.proofs.VisitLemmas.{IsSearch, marks_count, nodes_in, not_reached, path_is, room_placed, steps_most, visits}
 use Rattle.crate_graph.proofs.insertion.find_room.Goals as goal
 

@@ -7,7 +7,7 @@ use Rattle.std.proofs.lemmas.List.{take_all}
 use Rattle.std.proofs.lemmas.Option.{slice_get-get_or}
 use Rattle.input_db.specs.Identity.{named_in}
 use Rattle.input_db.specs.Identity.{data_of, number_in}
-use Rattle.input_db.specs.FinishSteps.{FinishedCrates, Progress, finish_crate, progress_after, none_finished}
+use Rattle.input_db.specs.FinishSteps.{FinishedCrates, Progress, finish_crate, progress_after}
 use Rattle.input_db.specs.SetInDb.{finished_crate}
 use Rattle.crate_graph.proofs.ExtendLemmas.{targets_within}
 use Rattle.crate_graph.proofs.GraphLemmas.{length-edges}
@@ -20,27 +20,27 @@ use Rattle.input_db.proofs.lowering.finish_all.Goals as goal
 pub loop-number-init : goal.loop-number-init
 loop-number-init g c =
     ap (λ (f : FinishedCrates). record { db = g.D.SourceDatabase.seen c.args.db.now; finished = f })
-    (c.in_ok-finished.ensures ∙ ap none_finished c.len.ensures.length)
+    c.requires.none
 
 pub index-krate-requires : goal.index-krate-requires
 index-krate-requires g c =
     let within : c.loop-number.number-index < length c.args.order.now = omega (arith, c.loop-number-test.true) in
-    let fits = (c.requires.all (get_or c.args.order.now c.loop-number.number-index 0)).0
+    let fits = (c.requires.behind.all (get_or c.args.order.now c.loop-number.number-index 0)).0
     (Contains-get_or c.args.order.now c.loop-number.number-index 0 within) in
     omega (arith, fits, length-edges c.args.graph.now.crates, c.from_raw.ensures)
 
 -- there is a number for each crate
-numbers-long : (g : Over) (c : goal.After-finished-in-loop-number-1 g) → length c.loop-number.finished.numbers ≡ length c.args.graph.now.crates
+numbers-long : (g : Over) (c : goal.After-finished-1 g) → length c.loop-number.finished.numbers ≡ length c.args.graph.now.crates
 numbers-long g c = ap (λ (l : Progress). length l.finished.numbers) c.loop-number.invariant
     ∙ long c.args.graph.now.crates (g.D.SourceDatabase.seen c.args.db.now) c.args.order.now c.loop-number.number-index
 
 -- the crate is that of its number
-crate-is : (g : Over) (c : goal.After-finished-in-loop-number-1 g)
+crate-is : (g : Over) (c : goal.After-finished-1 g)
     → slice_get c.args.graph.now.crates (get_or c.args.order.now c.loop-number.number-index 0) ≡ Some c.index-krate.result.now
 crate-is g c = ap (slice_get c.args.graph.now.crates) (sym c.from_raw.ensures) ∙ c.index-krate.ensures
 
 -- and it stands at its place of the order
-crate-at : (g : Over) (c : goal.After-finished-in-loop-number-1 g)
+crate-at : (g : Over) (c : goal.After-finished-1 g)
     → finished_crate c.args.graph.now.crates c.args.order.now c.loop-number.number-index ≡ Some c.index-krate.result.now
 crate-at g c =
     let within : c.loop-number.number-index < length c.args.order.now = omega (arith, c.loop-number-test.true) in
@@ -50,19 +50,19 @@ crate-at g c =
 pub finish-requires-clause-number : goal.finish-requires-clause-number
 finish-requires-clause-number g c =
     let within : c.loop-number.number-index < length c.args.order.now = omega (arith, c.loop-number-test.true) in
-    let fits = (c.requires.all (get_or c.args.order.now c.loop-number.number-index 0)).0
+    let fits = (c.requires.behind.all (get_or c.args.order.now c.loop-number.number-index 0)).0
     (Contains-get_or c.args.order.now c.loop-number.number-index 0 within) in
     omega (arith, fits, length-edges c.args.graph.now.crates, numbers-long g c)
 
 pub finish-requires-clause-targets : goal.finish-requires-clause-targets
 finish-requires-clause-targets g c =
-    targets_within c.args.graph.now.crates _ c.index-krate.result.now _ c.len.ensures.well_made.in_range (numbers-long g c) (crate-is g c)
+    targets_within c.args.graph.now.crates _ c.index-krate.result.now _ c.requires.well_made.in_range (numbers-long g c) (crate-is g c)
 
 pub finish-requires-clause-known : goal.finish-requires-clause-known
 finish-requires-clause-known g c =
     subst (λ (l : Progress). All (λ named. named < length l.db.crates) (named_in (data_of (number_in l.finished.numbers) c.index-krate.result.now)))
     (sym c.loop-number.invariant)
-    (known c.args.graph.now.crates (g.D.SourceDatabase.seen c.args.db.now) c.args.order.now c.requires c.loop-number.number-index
+    (known c.args.graph.now.crates (g.D.SourceDatabase.seen c.args.db.now) c.args.order.now c.requires.behind c.loop-number.number-index
     c.index-krate.result.now (crate-at g c))
 
 pub loop-number-preserved : goal.loop-number-preserved

@@ -1,6 +1,6 @@
 use Rattle.std.proofs.Common.{◌≡◌, ◌<◌, ◌^◌, [], ◌++◌, Ok, length}
 use Rattle.pm_cargo_reading.specs.Packages.{take_package}
-use Rattle.pm_cargo_reading.specs.Reading.{take_each}
+use Rattle.base_values.specs.Outcome.{take_each}
 use Rattle.pm_cargo_reading.proofs.contents.take_packages.Given as goal
 
 abbrev pub invariant-loop-package : goal.invariant-loop-package

@@ -1,7 +1,7 @@
 use Rattle.std.proofs.Common.{◌≡◌, [], Ok, ap, arith, sym, ◌∙◌}
 use Rattle.std.proofs.lemmas.Result.{err_from_is_err_and}
 use Rattle.pm_cargo_reading.specs.Nodes.{take_dependency}
-use Rattle.pm_cargo_reading.specs.Reading.{take_each}
+use Rattle.base_values.specs.Outcome.{take_each}
 use Rattle.pm_cargo_reading.proofs.NodeLemmas.{link-is, link-no_dependencies, link-unknown}
 use Rattle.pm_cargo_reading.proofs.ReadingLemmas.{refuses_same}
 use Rattle.pm_cargo_reading.proofs.WithinLemmas.{known_place-within}

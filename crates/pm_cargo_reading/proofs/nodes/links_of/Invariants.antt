@@ -1,6 +1,6 @@
 use Rattle.std.proofs.Common.{◌≡◌, [], ◌++◌, Ok}
 use Rattle.pm_cargo_reading.specs.Nodes.{take_node}
-use Rattle.pm_cargo_reading.specs.Reading.{take_each}
+use Rattle.base_values.specs.Outcome.{take_each}
 use Rattle.pm_cargo_reading.proofs.nodes.links_of.Given as goal
 
 abbrev pub invariant-loop-node : goal.invariant-loop-node

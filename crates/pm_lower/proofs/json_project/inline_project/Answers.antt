@@ -1,6 +1,5 @@
-use Rattle.std.proofs.Common.{[], ◌∷◌, ap}
+use Rattle.std.proofs.Common.{◌∙◌, [], ◌∷◌, Err, ap}
 use Rattle.std.proofs.lemmas.Result.{err_from_is_err_and}
-use Rattle.std.specs.Prelude.{is_err}
 use Rattle.pm_cargo_fetch.proofs.Lines.{TakesLines-stopped, TakesLines-whole}
 use Rattle.pm_lower.specs.Lines.{metadata_line, sysroot_line}
 use Rattle.pm_lower.proofs.JsonLemmas.{inline-is}
@@ -10,7 +9,7 @@ use Rattle.pm_lower.proofs.json_project.inline_project.Goals as goal
 pub returns-in_err-sysroot-clause-lines : goal.returns-in_err-sysroot-clause-lines
 returns-in_err-sysroot-clause-lines g c =
     let p = err_from_is_err_and c.from_residual.result c.from_residual.ensures.1 in
-    TakesLines-stopped (ap is_err p.1) c.in_err-sysroot.ensures.lines.front
+    TakesLines-stopped (p.1 ∙ ap Err p.2) c.in_err-sysroot.ensures.lines.front
 
 pub returns-clause-project : goal.returns-clause-project
 returns-clause-project g c =

@@ -1,94 +1,109 @@
-use Rattle.std.proofs.Common.{◌≡◌, ◌∙◌, [], Some, ap, arith, length, map, slice_get, subst, sym}
-use Rattle.std.specs.List.{All}
+use Rattle.std.proofs.Common.{◌≡◌, ◌+◌, ◌<◌, ◌≤◌, ◌∙◌, [], Some, ap, arith, length, refl, slice_get, subst, sym}
 use Rattle.std.proofs.lemmas.Result.{err_from_is_err_and}
-use Rattle.pm_lower_crates.specs.Gathering.{AreNumbered, owners_by, edges_between}
-use Rattle.pm_lower_crates.specs.Keeping.{AreLowered}
-use Rattle.pm_lower_crates.specs.KeptEdges.{IsWithinRows}
-use Rattle.pm_lower_crates.specs.Lowering.{crate_of_row}
-use Rattle.pm_lower_crates.specs.Rows.{owners, owners_from, rows_of}
+use Rattle.crate_graph.specs.Graph.{Graph}
+use Rattle.pm_lower_crates.specs.Facts.{facts_of}
+use Rattle.pm_lower_crates.specs.Gathering.{AddsRows, edges_between, owners_by}
+use Rattle.pm_lower_crates.specs.Lowering.{cargo_rows}
+use Rattle.pm_lower_crates.specs.Rows.{rows_of}
 use Rattle.pm_lower_crates.specs.WantedEdges.{bad_names_of_owners}
+use Rattle.pm_lower_crates.proofs.CargoLemmas.{cargo_count, cargo_gathered, cargo_names, cargo_within}
 use Rattle.pm_lower_crates.proofs.EdgeLemmas.{bad_weaker}
-use Rattle.pm_lower_crates.proofs.LoweringLemmas.{bare_made, has_crates, lacks_alone, refuses_name, refuses_past, rows_within}
-use Rattle.pm_lower_crates.proofs.RowLemmas.{count_added, limit_weaker, owners_are_live}
-use Rattle.pm_lower_crates.proofs.WithinLemmas.{are_numbered_by, wanted_within}
+use Rattle.pm_lower_crates.proofs.GatheredLemmas.{gathered_fits, gathered_has, gathered_lacks}
+use Rattle.pm_lower_crates.proofs.LoweringLemmas.{refuses_name, refuses_past}
+use Rattle.pm_lower_crates.proofs.RowLemmas.{limit_weaker}
 use Rattle.pm_lower_crates.proofs.lowering.graph_of.Goals as goal
 
+pub add_rows-requires-clause-room : goal.add_rows-requires-clause-room
+add_rows-requires-clause-room g c = subst (λ (old : Graph). length old.crates ≤ old.limit) (sym c.into_parts-graph.ensures.graph) c.into_parts-graph.ensures.well_made.within
+
 pub returns-in_err-owners-clause-lowers : goal.returns-in_err-owners-clause-lowers
-returns-in_err-owners-clause-lowers c live are =
+returns-in_err-owners-clause-lowers g c live are =
     let w = c.args.workspace.now in
     let files = c.args.files.now in
+    let facts = facts_of g.O.BuildOutputs.output_at g.O.BuildOutputs.is_failed c.args.facts.now in
+    let front = c.args.front in
+    let n = length front.graph.crates in
+    let e = c.in_err-owners.field-0.0 in
     let p = err_from_is_err_and c.from_residual.result c.from_residual.ensures.1 in
-    let same : owners_by w (length c.new-graph.result.crates) w.packages files ≡ owners live w =
-    ap (λ cs. owners_by w (length cs) w.packages files) c.new-graph.ensures.crates ∙ ap (owners_by w 0 w.packages) are ∙ owners_are_live live w 0 w.packages in
-    rw (p.1, p.2) (refuses_past live w c.args.shared.now.value c.args.limits.now.crates c.in_err-owners.field-0.0
-    (limit_weaker c.in_err-owners.field-0.0 _ _
-    (λ full. omega (arith, full, ap (λ os. length (rows_of os)) same, c.new-graph.ensures.limit, ap length c.new-graph.ensures.crates))
+    let count = cargo_count live facts front.public n w files are in
+    rw (p.1, p.2) (refuses_past front.graph.limit n (cargo_rows live facts front.public n w) e
+    (limit_weaker e _ _
+    (λ full. let past = subst (λ (old : Graph). old.limit < length old.crates + length (rows_of (owners_by w 0 (length old.crates) w.packages files))) c.into_parts-graph.ensures.graph full in
+    omega (arith, past, count))
     c.in_err-owners.ensures.full))
 
 pub returns-in_err-edges-clause-lowers : goal.returns-in_err-edges-clause-lowers
-returns-in_err-edges-clause-lowers c live are =
+returns-in_err-edges-clause-lowers g c live are =
     let w = c.args.workspace.now in
-    let shared = c.args.shared.now.value in
-    let limit = c.args.limits.now.crates in
-    let start = c.new-graph.result in
+    let files = c.args.files.now in
+    let facts = facts_of g.O.BuildOutputs.output_at g.O.BuildOutputs.is_failed c.args.facts.now in
+    let front = c.args.front in
+    let n = length front.graph.crates in
+    let part = cargo_rows live facts front.public n w in
+    let made = c.in_ok-owners.owners.items in
+    let mid = c.add_rows.new.graph in
     let e = c.in_err-edges.field-0.0 in
     let p = err_from_is_err_and c.from_residual-in_err-edges.result c.from_residual-in_err-edges.ensures.1 in
-    let made_are : c.in_ok-owners.owners.items ≡ owners_from live w (length start.crates) w.packages =
-    c.in_ok-owners.ensures.owners ∙ ap (owners_by w (length start.crates) w.packages) are ∙ owners_are_live live w (length start.crates) w.packages in
-    let given : c.as_slice.result.now ≡ owners live w = c.as_slice.ensures.value ∙ made_are ∙ ap (λ cs. owners_from live w (length cs) w.packages) c.new-graph.ensures.crates in
-    let within = rows_within live w shared limit start c.add_rows.new.graph c.in_ok-owners.owners.items c.new-graph.ensures.limit c.new-graph.ensures.crates made_are c.in_ok-owners.ensures.added in
-    rw (p.1, p.2) (refuses_name live w shared limit e within
+    let same = c.into_parts-graph.ensures.graph in
+    let made_are : made ≡ owners_by w 0 n w.packages files = c.in_ok-owners.ensures.owners ∙ ap (λ (old : Graph). owners_by w 0 (length old.crates) w.packages files) same in
+    let adds = subst (λ (old : Graph). AddsRows facts w old mid (rows_of made)) same c.in_ok-owners.ensures.added in
+    let gathered = cargo_gathered live facts front.public n w files are front.graph mid made (edges_between front.public made) refl c.into_parts-graph.ensures.well_made c.into_parts-graph.ensures.within made_are adds refl in
+    let names : bad_names_of_owners c.as_slice.result.now ≡ part.bad_names =
+    ap bad_names_of_owners (c.as_slice.ensures.value ∙ made_are) ∙ cargo_names live facts front.public n w files are in
+    rw (p.1, p.2) (refuses_name front.graph.limit n part e (gathered_fits front.graph mid part (edges_between front.public made) gathered)
     (bad_weaker e (λ name. slice_get (bad_names_of_owners c.as_slice.result.now) 0 ≡ Some name) _
-    (λ name first. sym (ap (λ os. slice_get (bad_names_of_owners os) 0) given) ∙ first) c.in_err-edges.ensures.bad))
+    (λ name first. ap (λ ns. slice_get ns 0) (sym names) ∙ first) c.in_err-edges.ensures.bad))
 
 pub keep_edges-requires : goal.keep_edges-requires
-keep_edges-requires c =
+keep_edges-requires g c =
     let w = c.args.workspace.now in
+    let files = c.args.files.now in
+    let facts = facts_of g.O.BuildOutputs.output_at g.O.BuildOutputs.is_failed c.args.facts.now in
+    let front = c.args.front in
     let made = c.in_ok-owners.owners.items in
-    let same : made ≡ owners_by w 0 w.packages c.args.files.now =
-    c.in_ok-owners.ensures.owners ∙ ap (λ cs. owners_by w (length cs) w.packages c.args.files.now) c.new-graph.ensures.crates in
-    let numbers : AreNumbered (rows_of made) = subst (λ os. AreNumbered (rows_of os)) (sym same) (are_numbered_by w w.packages c.args.files.now) in
-    let count : length (rows_of made) ≡ length c.add_rows.new.graph.crates =
-    omega (arith, count_added w c.args.shared.now.value c.new-graph.result c.add_rows.new.graph (rows_of made) c.in_ok-owners.ensures.added, ap length c.new-graph.ensures.crates) in
-    let edges : c.in_ok-edges.edges.items ≡ edges_between made = c.in_ok-edges.ensures.edges ∙ ap edges_between c.as_slice.ensures.value in
-    subst (λ n. All (IsWithinRows n) c.in_ok-edges.edges.items) count (subst (λ es. All (IsWithinRows (length (rows_of made))) es) (sym edges) (wanted_within made numbers))
+    let mid = c.add_rows.new.graph in
+    let same = c.into_parts-graph.ensures.graph in
+    let made_are : made ≡ owners_by w 0 (length front.graph.crates) w.packages files =
+    c.in_ok-owners.ensures.owners ∙ ap (λ (old : Graph). owners_by w 0 (length old.crates) w.packages files) same in
+    let adds = subst (λ (old : Graph). AddsRows facts w old mid (rows_of made)) same c.in_ok-owners.ensures.added in
+    let wants : c.in_ok-edges.edges.items ≡ edges_between front.public made =
+    c.in_ok-edges.ensures.edges ∙ (λ i. edges_between (c.into_parts-graph.ensures.public i) (c.as_slice.ensures.value i)) in
+    cargo_within facts front.public w files front.graph mid made c.in_ok-edges.edges.items c.into_parts-graph.ensures.within made_are adds wants
 
 pub returns-clause-lowers : goal.returns-clause-lowers
-returns-clause-lowers c live are =
+returns-clause-lowers g c live are =
     let w = c.args.workspace.now in
-    let shared = c.args.shared.now.value in
-    let limit = c.args.limits.now.crates in
-    let start = c.new-graph.result in
+    let files = c.args.files.now in
+    let facts = facts_of g.O.BuildOutputs.output_at g.O.BuildOutputs.is_failed c.args.facts.now in
+    let front = c.args.front in
+    let n = length front.graph.crates in
+    let part = cargo_rows live facts front.public n w in
     let made = c.in_ok-owners.owners.items in
-    let adds = c.in_ok-owners.ensures.added in
-    let made_are : made ≡ owners_from live w (length start.crates) w.packages =
-    c.in_ok-owners.ensures.owners ∙ ap (owners_by w (length start.crates) w.packages) are ∙ owners_are_live live w (length start.crates) w.packages in
-    let given : c.as_slice.result.now ≡ owners live w = c.as_slice.ensures.value ∙ made_are ∙ ap (λ cs. owners_from live w (length cs) w.packages) c.new-graph.ensures.crates in
-    let within = rows_within live w shared limit start c.add_rows.new.graph made c.new-graph.ensures.limit c.new-graph.ensures.crates made_are adds in
-    let bare = bare_made live w shared limit start c.add_rows.new.graph made c.new-graph.ensures.limit c.new-graph.ensures.crates made_are adds in
-    let good = ap bad_names_of_owners (sym given) ∙ c.in_ok-edges.ensures.good in
-    let limit_is = c.in_ok-keep_edges.ensures.limit ∙ adds.limit ∙ c.new-graph.ensures.limit in
-    let edges : c.in_ok-edges.edges.items ≡ edges_between (owners live w) = c.in_ok-edges.ensures.edges ∙ ap edges_between given in
-    let crates = map (crate_of_row w shared []) (rows_of (owners live w)) in
-    let low = subst (λ es. AreLowered crates es c.keep_edges.new.graph.crates) edges (c.in_ok-keep_edges.ensures.keeps crates bare) in
-    has_crates live w shared limit c.keep_edges.new.graph within good limit_is low
+    let mid = c.add_rows.new.graph in
+    let same = c.into_parts-graph.ensures.graph in
+    let made_are : made ≡ owners_by w 0 n w.packages files = c.in_ok-owners.ensures.owners ∙ ap (λ (old : Graph). owners_by w 0 (length old.crates) w.packages files) same in
+    let adds = subst (λ (old : Graph). AddsRows facts w old mid (rows_of made)) same c.in_ok-owners.ensures.added in
+    let wants : c.in_ok-edges.edges.items ≡ edges_between front.public made =
+    c.in_ok-edges.ensures.edges ∙ (λ i. edges_between (c.into_parts-graph.ensures.public i) (c.as_slice.ensures.value i)) in
+    let gathered = cargo_gathered live facts front.public n w files are front.graph mid made c.in_ok-edges.edges.items refl c.into_parts-graph.ensures.well_made c.into_parts-graph.ensures.within made_are adds wants in
+    let good : part.bad_names ≡ [] =
+    sym (ap bad_names_of_owners (c.as_slice.ensures.value ∙ made_are) ∙ cargo_names live facts front.public n w files are) ∙ c.in_ok-edges.ensures.good in
+    gathered_has front.graph mid part c.in_ok-edges.edges.items gathered c.keep_edges.new.graph good c.in_ok-keep_edges.ensures.limit c.in_ok-keep_edges.ensures.behind
 
 pub returns-clause-missing : goal.returns-clause-missing
-returns-clause-missing c live are =
+returns-clause-missing g c live are =
     let w = c.args.workspace.now in
-    let shared = c.args.shared.now.value in
-    let limit = c.args.limits.now.crates in
-    let start = c.new-graph.result in
+    let files = c.args.files.now in
+    let facts = facts_of g.O.BuildOutputs.output_at g.O.BuildOutputs.is_failed c.args.facts.now in
+    let front = c.args.front in
+    let n = length front.graph.crates in
+    let part = cargo_rows live facts front.public n w in
     let made = c.in_ok-owners.owners.items in
-    let adds = c.in_ok-owners.ensures.added in
-    let made_are : made ≡ owners_from live w (length start.crates) w.packages =
-    c.in_ok-owners.ensures.owners ∙ ap (owners_by w (length start.crates) w.packages) are ∙ owners_are_live live w (length start.crates) w.packages in
-    let given : c.as_slice.result.now ≡ owners live w = c.as_slice.ensures.value ∙ made_are ∙ ap (λ cs. owners_from live w (length cs) w.packages) c.new-graph.ensures.crates in
-    let within = rows_within live w shared limit start c.add_rows.new.graph made c.new-graph.ensures.limit c.new-graph.ensures.crates made_are adds in
-    let bare = bare_made live w shared limit start c.add_rows.new.graph made c.new-graph.ensures.limit c.new-graph.ensures.crates made_are adds in
-    let good = ap bad_names_of_owners (sym given) ∙ c.in_ok-edges.ensures.good in
-    let limit_is = c.in_ok-keep_edges.ensures.limit ∙ adds.limit ∙ c.new-graph.ensures.limit in
-    let edges : c.in_ok-edges.edges.items ≡ edges_between (owners live w) = c.in_ok-edges.ensures.edges ∙ ap edges_between given in
-    let crates = map (crate_of_row w shared []) (rows_of (owners live w)) in
-    let low = subst (λ es. AreLowered crates es c.keep_edges.new.graph.crates) edges (c.in_ok-keep_edges.ensures.keeps crates bare) in
-    lacks_alone live w shared limit c.keep_edges.new.graph within good limit_is low
+    let mid = c.add_rows.new.graph in
+    let same = c.into_parts-graph.ensures.graph in
+    let made_are : made ≡ owners_by w 0 n w.packages files = c.in_ok-owners.ensures.owners ∙ ap (λ (old : Graph). owners_by w 0 (length old.crates) w.packages files) same in
+    let adds = subst (λ (old : Graph). AddsRows facts w old mid (rows_of made)) same c.in_ok-owners.ensures.added in
+    let wants : c.in_ok-edges.edges.items ≡ edges_between front.public made =
+    c.in_ok-edges.ensures.edges ∙ (λ i. edges_between (c.into_parts-graph.ensures.public i) (c.as_slice.ensures.value i)) in
+    let gathered = cargo_gathered live facts front.public n w files are front.graph mid made c.in_ok-edges.edges.items refl c.into_parts-graph.ensures.well_made c.into_parts-graph.ensures.within made_are adds wants in
+    gathered_lacks front.graph mid part c.in_ok-edges.edges.items gathered c.keep_edges.new.graph c.in_ok-keep_edges.ensures.keeps

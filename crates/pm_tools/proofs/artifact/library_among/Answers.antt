@@ -3,8 +3,8 @@ use Rattle.std.proofs.lemmas.Result.{err_from_is_err_and}
 use Rattle.std.specs.Option.{option_copied}
 use Rattle.pm_tools.specs.Artifact.{absolute_output_path, dylib_at}
 use Rattle.pm_tools.specs.Library.{is_library}
-use Rattle.pm_tools.specs.Reading.{◌>>=◌}
-use Rattle.pm_tools.specs.declared.output.ProcMacroDylibPath.TheVariants.{Path}
+use Rattle.base_values.specs.Outcome.{◌>>=◌}
+use Rattle.pm_cargo.specs.declared.output.ProcMacroDylibPath.TheVariants.{Path}
 use Rattle.pm_tools.proofs.ReadingLemmas.{refuses_bind, refuses_same}
 use Rattle.pm_tools.proofs.artifact.library_among.Goals as goal
 

@@ -1,4 +1,4 @@
-use Rattle.pm_tools.specs.contracts.output.BuildScriptOutputPartialEq.TheImpl as output
+use Rattle.pm_cargo.specs.contracts.output.BuildScriptOutputPartialEq.TheImpl as output
 use Rattle.pm_tools.proofs.Equalities.{scripts_are_equal}
 use Rattle.pm_tools.proofs.laws.equality_of_build_scripts_is_content.Goals as goal
 

@@ -7,7 +7,7 @@ use Rattle.std.specs.FinMap.{empty, insert}
 use Rattle.std.specs.List.{enumerate_from}
 use Rattle.base_text_paths.specs.Arena.{number_of}
 use Rattle.pm_cargo_packages.specs.declared.package.PackageData.{PackageData}
-use Rattle.pm_tools.specs.Output.{default_output}
+use Rattle.pm_cargo.specs.Output.{default_output}
 use Rattle.pm_tools.specs.Outputs.{Outputs, default_outputs}
 use Rattle.pm_tools.proofs.SharedLemmas.{numbers-enumerate_from}
 use Rattle.pm_tools.proofs.outputs.default_outputs.Goals as goal

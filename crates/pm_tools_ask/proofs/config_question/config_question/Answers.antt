@@ -19,8 +19,8 @@ returns g c =
     let manifest = c.args.manifest.now in
     let dir_is : c.as_str.result.now ≡ directory_of manifest =
     c.as_str.ensures.text ∙ ap (λ (o : Option (List ℕ)). unwrap_or o (codes "/")) c.parent.ensures in
-    let line_is : c.in_ok-line.line ≡ question sysroot Cargo (directory_of manifest) (config_words manifest path) means =
+    let line_is : c.in_ok-line.line ≡ question sysroot.root Cargo (directory_of manifest) (config_words manifest path) means =
     c.in_ok-line.ensures
-    ∙ ap (λ (dir : List ℕ). question sysroot Cargo dir c.in_ok-words.words.items means) dir_is
-    ∙ ap (λ (words : List (List ℕ)). question sysroot Cargo (directory_of manifest) words means) c.in_ok-words.ensures in
+    ∙ ap (λ (dir : List ℕ). question sysroot.root Cargo dir c.in_ok-words.words.items means) dir_is
+    ∙ ap (λ (words : List (List ℕ)). question sysroot.root Cargo (directory_of manifest) words means) c.in_ok-words.ensures in
     subst (λ (x : CommandLine). IfOk c.set_variable.result (λ line. line ≡ with_last_variable (codes "RUSTC_BOOTSTRAP") (codes "1") x)) line_is c.set_variable.ensures

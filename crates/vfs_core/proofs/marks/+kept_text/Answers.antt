@@ -8,7 +8,7 @@ returns-then-eq t c =
     let split = kept_text_split c.args.marks.now c.args.path.now c.mark-item.result
     c.in-len1-up.len_at_least c.mark-item.is in
     let own : vfs_path_eq c.args.path.now c.mark-item.result.path ≡ true = sym c.eq.ensures ∙ c.if-eq.true in
-    rw (c.kept_text_after.ensures, c.kept_text-before.ensures, split, own)
+    rw (c.text_after_mark.ensures, c.kept_text-before.ensures, split, own)
 
 pub returns-else-eq : goal.returns-else-eq
 returns-else-eq t c =

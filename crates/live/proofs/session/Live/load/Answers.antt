@@ -7,13 +7,10 @@ use Rattle.live.proofs.session.Live.load.Goals as goal
 pub returns-clause-ok : goal.returns-clause-ok
 returns-clause-ok c =
     let loads = c.in_ok-project.ensures.loads in
-    loads_live c.args.self.now c.sources.new.self _ c.args.path c.in_ok-sources.sources c.in_ok-project.project c.in_ok-sources.ensures.kept loads.0 loads.1 c.sources.ensures.same
+    loads_live c.args.self.now _ c.args.path c.in_ok-sources.sources c.in_ok-project.project c.in_ok-sources.ensures.kept loads.0 loads.1
     (record {
       project_is = ap Some (c.new-2.ensures ∙ c.in_ok-project-2.ensures.ok);
-      config = refl;
-      files = refl;
-      texts = refl;
-      answers = refl;
+      recorded = c.sources.ensures.same;
       flushed = refl;
       db = refl;
       probes = refl;

@@ -1,6 +1,6 @@
 use Rattle.std.proofs.Common.{◌≡◌, ◌++◌, Ok, length}
 use Rattle.pm_cargo_reading.specs.Packages.{take_target}
-use Rattle.pm_cargo_reading.specs.Reading.{take_each}
+use Rattle.base_values.specs.Outcome.{take_each}
 use Rattle.pm_cargo_reading.proofs.contents.ContentsBuilder.push_targets.Given as goal
 
 abbrev pub invariant-loop-target : goal.invariant-loop-target

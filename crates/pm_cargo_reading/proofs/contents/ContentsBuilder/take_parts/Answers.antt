@@ -2,7 +2,7 @@ use Rattle.std.proofs.Common.{◌≡◌, length, ap, arith, sym, ◌∙◌}
 use Rattle.std.proofs.lemmas.Result.{err_from_is_err_and}
 use Rattle.pm_cargo_reading.specs.declared.contents.Contents.{Contents}
 use Rattle.pm_cargo_reading.specs.Packages.{ids_between, absolute_manifest, take_target}
-use Rattle.pm_cargo_reading.specs.Reading.{take_each}
+use Rattle.base_values.specs.Outcome.{take_each}
 use Rattle.pm_cargo_reading.proofs.TakingLemmas.{package-no_manifest, package-no_targets, package-too_many}
 use Rattle.pm_cargo_reading.proofs.contents.ContentsBuilder.take_parts.Goals as goal
 

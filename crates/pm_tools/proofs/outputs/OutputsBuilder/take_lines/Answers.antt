@@ -9,7 +9,7 @@ use Rattle.pm_cargo_fetch.proofs.Lines.{TakesLines-whole}
 use Rattle.pm_tools.specs.Lines.{lines_from}
 use Rattle.pm_tools.specs.Outputs.{BuildState, take_output_line, take_message}
 use Rattle.pm_tools.specs.Packages.{lent_packages}
-use Rattle.pm_tools.specs.Reading.{take_each}
+use Rattle.base_values.specs.Outcome.{take_each}
 use Rattle.pm_tools.proofs.LineLemmas.{lines_begun, lines_came, lines_cut, lines_stopped}
 use Rattle.pm_tools.proofs.ReadingLemmas.{refuses_same, split_at, take_each-more, take_each-none, take_each-stopped}
 use Rattle.pm_tools.proofs.outputs.OutputsBuilder.take_lines.Goals as goal

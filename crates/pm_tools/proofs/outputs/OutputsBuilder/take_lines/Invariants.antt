@@ -3,7 +3,7 @@ use Rattle.base_text.specs.Progress.{with_lines}
 use Rattle.pm_tools.specs.Lines.{lines_from}
 use Rattle.pm_tools.specs.Outputs.{take_output_line}
 use Rattle.pm_tools.specs.Packages.{lent_packages}
-use Rattle.pm_tools.specs.Reading.{take_each}
+use Rattle.base_values.specs.Outcome.{take_each}
 use Rattle.pm_tools.proofs.outputs.OutputsBuilder.take_lines.Given as goal
 
 -- the messages so far were taken, and their lines came

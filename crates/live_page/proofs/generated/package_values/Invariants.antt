@@ -1,0 +1,9 @@
+-- The values are those of the packages so far.
+use Rattle.std.proofs.Common.{◌≡◌, map}
+use Rattle.std.specs.List.{range_with_len}
+use Rattle.serde_json.specs.View.{view}
+use Rattle.live_page.specs.Generated.{package_data, package_of}
+use Rattle.live_page.proofs.generated.package_values.Given as goal
+
+abbrev pub invariant-loop-number : goal.invariant-loop-number
+invariant-loop-number l = map view l.values.items ≡ map (λ n. package_data (package_of n)) (range_with_len 0 l.number)

@@ -1,0 +1,7 @@
+-- What is written so far is that of the packages so far.
+use Rattle.std.proofs.Common.{◌≡◌, ◌++◌, string_bytes}
+use Rattle.live_page.specs.GeneratedScript.{deletions_text}
+use Rattle.live_page.proofs.generated_lines.push_deletions.Given as goal
+
+abbrev pub invariant-loop-number : goal.invariant-loop-number
+invariant-loop-number l = string_bytes l.script ≡ string_bytes l.initial.script ++ deletions_text l.number

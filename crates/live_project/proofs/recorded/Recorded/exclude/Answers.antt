@@ -1,0 +1,6 @@
+use Rattle.std.proofs.Common.{refl}
+use Rattle.std.proofs.lemmas.Result.{on_ok_weaker}
+use Rattle.live_project.proofs.recorded.Recorded.exclude.Goals as goal
+
+pub returns-clause-ok : goal.returns-clause-ok
+returns-clause-ok c = on_ok_weaker c.exclude.result (λ adds. record { adds = adds; config = refl; answers = refl }) c.exclude.ensures.ok
